@@ -1,0 +1,5 @@
+pub mod Lists
+pub mod Event
+pub mod Calls
+pub mod Form
+pub mod Linearization

@@ -1,0 +1,113 @@
+-- The consumer's phases 1 to 7 (document 01, "Calls"). Each rule stands under the sentence that it renders.
+use mathlib.Core.Bool.{Bool, true, false, _&&_, cond}
+use mathlib.Core.List.{List, [], _∷_, _++_}
+use Prim.Native.Nat.{ℕ, zero, suc, _+_, _*_}
+use lib.Dec.{leb, ltb, eqb}
+use lib.ListN.{getD}
+use Rattle.rules.specs.Sizes.{Sizes}
+use Rattle.rules.specs.Cell.{Reader, Write, _:=_, clear, tail, tailRecord, headRecord, headPosition, phase, cursorRecord, cursorPosition, foundRecord, foundPosition, itemNumber, itemValue, place, next, used, state, entryNumber, entryValue}
+use Rattle.rules.specs.Rule.{Answer, Reply, refuse, reply, empty, item, goes, need, upTo, atEnd, inside, cross}
+
+-- an entry's state by cases: empty, set, handled
+abbrev pub byState : ℕ → Answer → Answer → Answer → Answer
+byState zero blank set handled = blank
+byState (suc zero) blank set handled = set
+byState (suc (suc s)) blank set handled = handled
+
+-- The dequeue ends and answers empty.
+abbrev pub endsEmpty : Answer
+endsEmpty = reply empty (clear 0 ∷ [])
+
+module _ (z : Sizes) (σ : Reader) where
+  -- 1. Front. At the end of the head record: empty if it is also the tail record; otherwise next becomes head record, head
+  -- position its first, the old one is retired; stay. Else read the entry: handled advances the head; set goes to 6 with found
+  -- the head; empty goes to 2.
+  unfoldable pub front : Answer
+  front =
+      need (σ headRecord)
+      λ h. cond (atEnd z σ h (σ headPosition))
+      (cond (eqb (σ tailRecord) (suc h)) endsEmpty
+      (cross z σ h λ n p. goes (headRecord := suc n ∷ headPosition := p ∷ used h := 3 ∷ [])))
+      (inside z σ h (σ headPosition)
+      λ i. byState (σ (state h i))
+      (goes (phase 0 := 2 ∷ []))
+      (goes (foundRecord := suc h ∷ foundPosition := σ headPosition ∷ phase 0 := 6 ∷ []))
+      (upTo (z .M) (suc (σ headPosition)) (goes (headPosition := suc (σ headPosition) ∷ []))))
+
+  -- 2. Read tail: equal to the head position is empty; otherwise the cursor is the next position; to 3.
+  unfoldable pub readTail : Answer
+  readTail =
+      cond (eqb (σ tail) (σ headPosition)) endsEmpty
+      (upTo (z .M) (suc (σ headPosition))
+      (goes (cursorRecord := σ headRecord ∷ cursorPosition := suc (σ headPosition) ∷ phase 0 := 3 ∷ [])))
+
+  -- 3. If the cursor stands at its record's end: empty if that is the tail record, otherwise cross to next, the cursor at its
+  -- first position (so in every crossing); stay. Else read tail: cursor at tail is empty; otherwise to 4.
+  unfoldable pub scan : Answer
+  scan =
+      need (σ cursorRecord)
+      λ r. cond (atEnd z σ r (σ cursorPosition))
+      (cond (eqb (σ tailRecord) (suc r)) endsEmpty
+      (cross z σ r λ n p. goes (cursorRecord := suc n ∷ cursorPosition := p ∷ [])))
+      (cond (eqb (σ cursorPosition) (σ tail)) endsEmpty (goes (phase 0 := 4 ∷ [])))
+
+  -- 4. Read the entry: set makes it found, and the cursor returns to the head; to 5. Otherwise advance; to 3.
+  unfoldable pub readEntry : Answer
+  readEntry =
+      need (σ cursorRecord)
+      λ r. inside z σ r (σ cursorPosition)
+      λ i. cond (eqb (σ (state r i)) 1)
+      (goes
+      (foundRecord := suc r
+      ∷ foundPosition := σ cursorPosition
+      ∷ cursorRecord := σ headRecord
+      ∷ cursorPosition := σ headPosition
+      ∷ phase 0 := 5
+      ∷ []))
+      (upTo (z .M) (suc (σ cursorPosition)) (goes (cursorPosition := suc (σ cursorPosition) ∷ phase 0 := 3 ∷ [])))
+
+  -- When the cursor's position then equals that of found, the same step goes to 6; otherwise stay. (What moved is written
+  -- first; in 6 the cursor is not in use.)
+  abbrev pub rescanned : (cursor found : ℕ) → List Write → List Write → Answer
+  rescanned cursor found stays moved =
+      cond (eqb cursor found) (goes (moved ++ (cursorRecord := 0 ∷ cursorPosition := 0 ∷ phase 0 := 6 ∷ []))) (goes (moved ++ stays))
+
+  -- 5. Rescan from the head, head included, to the position before found, that one included. One step either crosses, when the
+  -- cursor stands at a record's end, or reads one entry. A set entry becomes found and the cursor returns to the head; any
+  -- other is passed by one position.
+  unfoldable pub rescan : Answer
+  rescan =
+      need (σ cursorRecord)
+      λ r. cond (atEnd z σ r (σ cursorPosition))
+      (cross z σ r λ n p. rescanned p (σ foundPosition) (cursorRecord := suc n ∷ cursorPosition := p ∷ []) [])
+      (inside z σ r (σ cursorPosition)
+      λ i. cond (eqb (σ (state r i)) 1)
+      (rescanned (σ headPosition) (σ cursorPosition)
+      (cursorRecord := σ headRecord ∷ cursorPosition := σ headPosition ∷ [])
+      (foundRecord := suc r ∷ foundPosition := σ cursorPosition ∷ []))
+      (upTo (z .M) (suc (σ cursorPosition))
+      (rescanned (suc (σ cursorPosition)) (σ foundPosition) (cursorPosition := suc (σ cursorPosition) ∷ []) [])))
+
+  -- 6. Read call number and value; to 7.
+  unfoldable pub readItem : Answer
+  readItem =
+      need (σ foundRecord)
+      λ r. inside z σ r (σ foundPosition)
+      λ i. goes (itemNumber := σ (entryNumber r i) ∷ itemValue := σ (entryValue r i) ∷ phase 0 := 7 ∷ [])
+
+  -- 7. Mark handled; if found is the head position, it advances. Reply item.
+  unfoldable pub markHandled : Answer
+  markHandled =
+      need (σ foundRecord)
+      λ r. inside z σ r (σ foundPosition)
+      λ i. cond (eqb (σ foundPosition) (σ headPosition))
+      (upTo (z .M) (suc (σ headPosition))
+      (reply (item (σ itemNumber) (σ itemValue)) (state r i := 2 ∷ headPosition := suc (σ headPosition) ∷ clear 0 ∷ [])))
+      (reply (item (σ itemNumber) (σ itemValue)) (state r i := 2 ∷ clear 0 ∷ []))
+
+-- The consumer's rule in each phase; refusal 7 while it is idle.
+abbrev pub consumerRules : List (Sizes → Reader → Answer)
+consumerRules = (λ z σ. refuse 7) ∷ front ∷ readTail ∷ scan ∷ readEntry ∷ rescan ∷ readItem ∷ markHandled ∷ []
+
+unfoldable pub consumerStep : Sizes → Reader → Answer
+consumerStep z σ = getD consumerRules (σ (phase 0)) (λ z σ. refuse 7) z σ

@@ -1,0 +1,10 @@
+pub mod Sizes
+pub mod Cell
+pub mod Range
+pub mod Free
+pub mod Rule
+pub mod Producer
+pub mod Consumer
+pub mod Request
+pub mod Play
+pub mod Runs

@@ -1,0 +1,105 @@
+-- Lists of calls from an open store: their replies, their history, and the items left (document 01, "What demand 3 speaks of").
+use mathlib.Core.Bool.{Bool, true, false, cond}
+use mathlib.Core.List.{List, [], _∷_, _++_}
+use Prim.Native.Nat.{ℕ, zero, suc, _+_, _*_}
+use lib.Dec.{leb, eqb}
+use lib.ListN.{length}
+use Rattle.history.specs.Event.{Event, History, enqueueStarted, enqueueEnded, dequeueStarted, gaveItem, gaveEmpty}
+use Rattle.history.specs.Linearization.{Item, Queue}
+use Rattle.rules.specs.Sizes.{Sizes}
+use Rattle.rules.specs.Cell.{Reader, reader, place, state, entryNumber, entryValue}
+use Rattle.rules.specs.Free.{Picker}
+use Rattle.rules.specs.Rule.{Reply, refused, ok, started, going, ended, empty, item}
+use Rattle.rules.specs.Request.{Result, Request, startEnqueue, startDequeue, step, result}
+
+-- The event that repeats the words of thread t's last start.
+abbrev pub endOfEnqueue : ℕ → History → History
+endOfEnqueue t [] = []
+endOfEnqueue t (enqueueStarted u n v ∷ h) =
+    elim (eqb u t) [ true ↦ enqueueEnded u n v ∷ [] | false ↦ endOfEnqueue t h ]
+endOfEnqueue t (enqueueEnded u n v ∷ h) = endOfEnqueue t h
+endOfEnqueue t (dequeueStarted ∷ h) = endOfEnqueue t h
+endOfEnqueue t (gaveItem n v ∷ h) = endOfEnqueue t h
+endOfEnqueue t (gaveEmpty ∷ h) = endOfEnqueue t h
+
+-- An accepted start enqueue adds kind 1 with its thread, the call number given and its value.
+abbrev pub enqueueEvents : (t v : ℕ) → Reply → History
+enqueueEvents t v (refused n) = []
+enqueueEvents t v ok = []
+enqueueEvents t v (started n) = enqueueStarted t n v ∷ []
+enqueueEvents t v going = []
+enqueueEvents t v ended = []
+enqueueEvents t v empty = []
+enqueueEvents t v (item n w) = []
+
+-- An accepted start dequeue adds 3.
+abbrev pub dequeueEvents : Reply → History
+dequeueEvents (refused n) = []
+dequeueEvents ok = dequeueStarted ∷ []
+dequeueEvents (started n) = []
+dequeueEvents going = []
+dequeueEvents ended = []
+dequeueEvents empty = []
+dequeueEvents (item n v) = []
+
+-- A step that replies end adds 2, repeating its start's words; item adds 4, empty 5. Going and refusals add nothing.
+abbrev pub stepEvents : (t : ℕ) → History → Reply → History
+stepEvents t h (refused n) = []
+stepEvents t h ok = []
+stepEvents t h (started n) = []
+stepEvents t h going = []
+stepEvents t h ended = endOfEnqueue t h
+stepEvents t h empty = gaveEmpty ∷ []
+stepEvents t h (item n v) = gaveItem n v ∷ []
+
+abbrev pub events : Request → History → Reply → History
+events (startEnqueue t v) h r = enqueueEvents t v r
+events startDequeue h r = dequeueEvents r
+events (step t) h r = stepEvents t h r
+
+-- What stands after some calls: the lent words, the replies and the history, the newest first.
+pub record Played : Type 0 where
+  pub words : List ℕ
+  pub replies : List Reply
+  pub history : History
+
+-- Each call gets the store as the one before left it. The picker of a call may be another one each time.
+abbrev pub playOne : Picker → Request → Played → Played
+playOne pick q p =
+    let r : Result = result pick q (p .words) in
+    record { words = r .words; replies = r .reply ∷ p .replies; history = events q (p .history) (r .reply) ++ p .history }
+
+unfoldable pub play : (ℕ → Picker) → List Request → Played → Played
+play picks [] p = p
+play picks (q ∷ qs) p = play picks qs (playOne (picks (length (p .replies))) q p)
+
+-- an item with its position
+pub record Placed : Type 0 where
+  pub at : ℕ
+  pub what : Item
+
+abbrev pub insert : Placed → List Placed → List Placed
+insert p [] = p ∷ []
+insert p (q ∷ ps) = elim (leb (p .at) (q .at)) [ true ↦ p ∷ q ∷ ps | false ↦ q ∷ insert p ps ]
+
+-- *Items left*: call number and value of every entry in state 1, in any record, by rising position, which is
+-- B × (place − 1) + index. (B × place + index orders them alike.)
+abbrev pub placedItem : Sizes → Reader → (r i : ℕ) → Placed
+placedItem z σ r i =
+    record { at = z .B * σ (place r) + i; what = record { number = σ (entryNumber r i); value = σ (entryValue r i) } }
+
+abbrev pub insertEntries : Sizes → Reader → (r n : ℕ) → List Placed → List Placed
+insertEntries z σ r zero ps = ps
+insertEntries z σ r (suc i) ps =
+    elim (eqb (σ (state r i)) 1) [ true ↦ insert (placedItem z σ r i) (insertEntries z σ r i ps) | false ↦ insertEntries z σ r i ps ]
+
+abbrev pub insertRecords : Sizes → Reader → (n : ℕ) → List Placed
+insertRecords z σ zero = []
+insertRecords z σ (suc r) = insertEntries z σ r (z .B) (insertRecords z σ r)
+
+abbrev pub itemsOf : List Placed → Queue
+itemsOf [] = []
+itemsOf (p ∷ ps) = p .what ∷ itemsOf ps
+
+unfoldable pub itemsLeft : Sizes → Reader → Queue
+itemsLeft z σ = itemsOf (insertRecords z σ (z .N))

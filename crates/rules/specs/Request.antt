@@ -1,0 +1,98 @@
+-- The calls *open*, *start enqueue*, *start dequeue* and *step*: from the lent words and the arguments to the reply and the words
+-- after, every refusal in the table's order (document 01, "Calls" and "Where a call is turned down").
+use mathlib.Core.Bool.{Bool, true, false, _&&_, _||_, not, cond}
+use mathlib.Core.List.{List, [], _∷_, _++_}
+use Prim.Native.Nat.{ℕ, zero, suc}
+use lib.Dec.{leb, ltb, eqb}
+use lib.ListN.{length, getD, drop, replicate}
+use Rattle.rules.specs.Sizes.{Sizes, sizesInRange, firstRecord, storeWords}
+use Rattle.rules.specs.Cell.{Reader, Write, reader, writes, _:=_, content, tailRecord, headRecord, starts, phase, call, value, place, used}
+use Rattle.rules.specs.Range.{inRange}
+use Rattle.rules.specs.Free.{Picker}
+use Rattle.rules.specs.Rule.{Answer, Reply, refused, ok, started, refuse, reply}
+use Rattle.rules.specs.Producer.{producerStep}
+use Rattle.rules.specs.Consumer.{consumerStep}
+
+-- What a call leaves: its reply, and every lent word.
+pub record Result : Type 0 where
+  pub reply : Reply
+  pub words : List ℕ
+
+-- A refused call changes no word; an accepted one makes its writes.
+unfoldable pub applied : Sizes → List ℕ → Answer → Result
+applied z m (refuse n) = record { reply = refused n; words = m }
+applied z m (reply r ws) = record { reply = r; words = writes z m ws }
+
+-- *Open* zeroes the store, writes the contents, and links record 0 with place 1 as head and tail record. Words past the store
+-- are never written.
+abbrev pub openWrites : Sizes → List Write
+openWrites z =
+    content 0 := z .B
+    ∷ content 1 := z .N
+    ∷ content 2 := z .P
+    ∷ content 3 := z .M
+    ∷ content 4 := 16
+    ∷ content 5 := firstRecord z
+    ∷ tailRecord := 1
+    ∷ headRecord := 1
+    ∷ place 0 := 1
+    ∷ used 0 := 2
+    ∷ []
+
+unfoldable pub opened : Sizes → List ℕ → List ℕ
+opened z m = writes z (replicate (storeWords z) 0 ++ drop (storeWords z) m) (openWrites z)
+
+-- 1: B, N, P or M outside its limits. 2: store shorter than 16 words, or than its sizes need.
+unfoldable pub open-store : Sizes → List ℕ → Result
+open-store z m =
+    cond (not (sizesInRange z)) (record { reply = refused 1; words = m })
+    (cond (ltb (length m) 16 || ltb (length m) (storeWords z)) (record { reply = refused 2; words = m })
+    (record { reply = ok; words = opened z m }))
+
+-- A start or a step.
+pub data Request : Type 0 where
+  startEnqueue : (producer value : ℕ) → Request
+  startDequeue : Request
+  step : (thread : ℕ) → Request
+
+-- *Start enqueue* gives call number starts + 1, phase 1. 4: no such producer. 5: that thread has a call under way. 6: starts
+-- equal M.
+unfoldable pub startingEnqueue : (t v : ℕ) → Sizes → Reader → Answer
+startingEnqueue t v z σ =
+    cond (eqb t 0 || ltb (z .P) t) (refuse 4)
+    (cond (not (eqb (σ (phase t)) 0)) (refuse 5)
+    (cond (eqb (σ starts) (z .M)) (refuse 6)
+    (reply (started (suc (σ starts)))
+    (starts := suc (σ starts) ∷ phase t := 1 ∷ call t := suc (σ starts) ∷ value t := v ∷ []))))
+
+-- *Start dequeue* puts the consumer in phase 1. 5: that thread has a call under way.
+unfoldable pub startingDequeue : Sizes → Reader → Answer
+startingDequeue z σ = cond (not (eqb (σ (phase 0)) 0)) (refuse 5) (reply ok (phase 0 := 1 ∷ []))
+
+-- *Step* (thread) does one phase. 4: a thread above P. 7: thread idle. 8 and 9 are the phases' own.
+unfoldable pub stepping : Picker → ℕ → Sizes → Reader → Answer
+stepping pick t z σ =
+    cond (ltb (z .P) t) (refuse 4)
+    (cond (eqb (σ (phase t)) 0) (refuse 7)
+    (cond (eqb t 0) (consumerStep z σ) (producerStep (pick z σ) z σ t)))
+
+unfoldable pub answer : Picker → Request → Sizes → Reader → Answer
+answer pick (startEnqueue t v) z σ = startingEnqueue t v z σ
+answer pick startDequeue z σ = startingDequeue z σ
+answer pick (step t) z σ = stepping pick t z σ
+
+-- the sizes that words 0 to 3 give
+abbrev pub sizesOf : List ℕ → Sizes
+sizesOf m = record { B = getD m 0 0; N = getD m 1 0; P = getD m 2 0; M = getD m 3 0 }
+
+-- 2: store shorter than 16 words. 3: words 0 to 3 out of range. 2: shorter than its sizes need. 3: another word out of range.
+-- Then the call's own.
+unfoldable pub admitted : List ℕ → (Sizes → Reader → Answer) → Answer
+admitted m f =
+    cond (ltb (length m) 16) (refuse 2)
+    (cond (not (sizesInRange (sizesOf m))) (refuse 3)
+    (cond (ltb (length m) (storeWords (sizesOf m))) (refuse 2)
+    (cond (not (inRange (sizesOf m) (reader (sizesOf m) m))) (refuse 3) (f (sizesOf m) (reader (sizesOf m) m)))))
+
+unfoldable pub result : Picker → Request → List ℕ → Result
+result pick q m = applied (sizesOf m) m (admitted m (answer pick q))

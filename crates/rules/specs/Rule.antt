@@ -1,0 +1,56 @@
+-- What a rule answers, and the words that rules are written in. A refusal has no writes, so a refused call changes nothing.
+use mathlib.Core.Bool.{Bool, _&&_, cond}
+use mathlib.Core.List.{List, [], _∷_}
+use Prim.Native.Nat.{ℕ, zero, suc, _+_, _-_, _*_}
+use lib.Dec.{leb, ltb, eqb}
+use Rattle.rules.specs.Sizes.{Sizes}
+use Rattle.rules.specs.Cell.{Reader, Write, place, next}
+
+-- The replies of the calls: a refusal with its number; accepted, with the call number where an enqueue was started; and those of
+-- a step.
+pub data Reply : Type 0 where
+  refused : ℕ → Reply
+  ok : Reply
+  started : (number : ℕ) → Reply
+  going : Reply
+  ended : Reply
+  empty : Reply
+  item : (number value : ℕ) → Reply
+
+-- A rule's answer: a refusal, or a reply with the writes that go with it.
+pub data Answer : Type 0 where
+  refuse : ℕ → Answer
+  reply : Reply → List Write → Answer
+
+abbrev pub goes : List Write → Answer
+goes ws = reply going ws
+
+-- Refusal 9: a needed link is none. A record number is stored plus one; zero is none.
+abbrev pub need : ℕ → (ℕ → Answer) → Answer
+need zero f = refuse 9
+need (suc r) f = f r
+
+-- Refusal 9: a number would leave its range.
+abbrev pub upTo : (most x : ℕ) → Answer → Answer
+upTo most x a = cond (leb x most) a (refuse 9)
+
+module _ (z : Sizes) (σ : Reader) where
+  -- Position p stands at record r's end.
+  abbrev pub atEnd : (r p : ℕ) → Bool
+  atEnd r p = eqb p (z .B * σ (place r))
+
+  -- Position p is in record r: B × (place − 1) ≤ p < B × place.
+  abbrev pub within : (r p : ℕ) → Bool
+  within r p = ltb p (z .B * σ (place r)) && leb (z .B * σ (place r)) (p + z .B)
+
+  -- its index there, p − B × (place − 1)
+  abbrev pub index : (r p : ℕ) → ℕ
+  index r p = p + z .B - z .B * σ (place r)
+
+  -- Refusal 9: an index leaves the record.
+  abbrev pub inside : (r p : ℕ) → (ℕ → Answer) → Answer
+  inside r p f = cond (within r p) (f (index r p)) (refuse 9)
+
+  -- From record r to its next, at that one's first position, B × (place − 1).
+  abbrev pub cross : (r : ℕ) → (ℕ → ℕ → Answer) → Answer
+  cross r f = need (σ (next r)) λ n. need (σ (place n)) λ q. upTo (z .M) (z .B * q) (f n (z .B * q))

@@ -1,0 +1,49 @@
+-- The sizes of a store, their limits, and how many words they need (document 01, "Store").
+use mathlib.Core.Bool.{Bool, _&&_}
+use Prim.Native.Nat.{ℕ, _+_, _*_, suc}
+use lib.Dec.{leb}
+
+-- B entries in a record, N records, P producers, M enqueue starts allowed.
+pub record Sizes : Type 0 where
+  pub B : ℕ
+  pub N : ℕ
+  pub P : ℕ
+  pub M : ℕ
+
+abbrev pub between : (low high x : ℕ) → Bool
+between low high x = leb low x && leb x high
+
+-- B 2 to 64, N 2 to 64, P 1 to 16, M 1 to 1,000,000.
+abbrev pub sizesInRange : Sizes → Bool
+sizesInRange z = between 2 64 (z .B) && between 2 64 (z .N) && between 1 16 (z .P) && between 1 1000000 (z .M)
+
+-- The largest place that a record may have.
+abbrev pub mostPlace : ℕ
+mostPlace = 500002
+
+-- words of the contents, of a thread, and of a record before its entries; words of an entry
+abbrev pub contentWords : ℕ
+contentWords = 16
+
+abbrev pub threadWords : ℕ
+threadWords = 8
+
+abbrev pub partWords : ℕ
+partWords = 4
+
+abbrev pub entryWords : ℕ
+entryWords = 3
+
+abbrev pub recordWords : Sizes → ℕ
+recordWords z = 3 * z .B + 4
+
+-- the first word of the threads and the first word of the records
+abbrev pub firstThread : ℕ
+firstThread = 16
+
+abbrev pub firstRecord : Sizes → ℕ
+firstRecord z = 16 + 8 * suc (z .P)
+
+-- The store takes 16 + 8 × (P + 1) + N × (3 × B + 4) words.
+abbrev pub storeWords : Sizes → ℕ
+storeWords z = firstRecord z + z .N * recordWords z
