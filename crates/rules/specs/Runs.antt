@@ -43,51 +43,51 @@ replay t =
 abbrev pub table : List Trial
 table =
     -- the printed run; then `d` and three steps give going, going, item 1 7
-    record
-      { words = 12696
-      ; sizes = sized 2 2 1 9
-      ; requests = startDequeue ∷ times 2 (step 0) ++ (startEnqueue 1 7 ∷ times 4 (step 1)) ++ (startDequeue ∷ times 3 (step 0))
-      ; replies = ok ∷ ok ∷ going ∷ empty ∷ started 1 ∷ goings 3 ++ (ended ∷ ok ∷ going ∷ going ∷ item 1 7 ∷ [])
-      }
+    record {
+      words = 12696;
+      sizes = sized 2 2 1 9;
+      requests = startDequeue ∷ times 2 (step 0) ++ (startEnqueue 1 7 ∷ times 4 (step 1)) ++ (startDequeue ∷ times 3 (step 0));
+      replies = ok ∷ ok ∷ going ∷ empty ∷ started 1 ∷ goings 3 ++ (ended ∷ ok ∷ going ∷ going ∷ item 1 7 ∷ []);
+    }
     -- B = 2, N = 2: the enqueue at position 1 takes 6 steps, at position 2 takes 7, at 3 takes 5; the one at position 4, nothing
     -- dequeued, meets 8 on its fourth
-    ∷ record
-      { words = 52
-      ; sizes = sized 2 2 1 9
-      ; requests =
+    ∷ record {
+      words = 52;
+      sizes = sized 2 2 1 9;
+      requests =
           startEnqueue 1 10
           ∷ times 4 (step 1)
           ++ (startEnqueue 1 11 ∷ times 6 (step 1))
           ++ (startEnqueue 1 12 ∷ times 7 (step 1))
           ++ (startEnqueue 1 13 ∷ times 5 (step 1))
-          ++ (startEnqueue 1 14 ∷ times 4 (step 1))
-      ; replies =
+          ++ (startEnqueue 1 14 ∷ times 4 (step 1));
+      replies =
           ok
           ∷ (started 1 ∷ goings 3 ++ (ended ∷ []))
           ++ (started 2 ∷ goings 5 ++ (ended ∷ []))
           ++ (started 3 ∷ goings 6 ++ (ended ∷ []))
           ++ (started 4 ∷ goings 4 ++ (ended ∷ []))
-          ++ (started 5 ∷ goings 3 ++ (refused 8 ∷ []))
-      }
+          ++ (started 5 ∷ goings 3 ++ (refused 8 ∷ []));
+    }
     -- B = 4. Producer 1 takes 0 and stops before phase 9. The dequeue steps twice. Producer 1 ends; producer 2 enqueues and
     -- ends. Five more steps give item 1
-    ∷ record
-      { words = 72
-      ; sizes = sized 4 2 2 9
-      ; requests =
+    ∷ record {
+      words = 72;
+      sizes = sized 4 2 2 9;
+      requests =
           startEnqueue 1 10
           ∷ times 3 (step 1)
           ++ (startDequeue ∷ times 2 (step 0))
           ++ (step 1 ∷ startEnqueue 2 20 ∷ times 6 (step 2))
-          ++ times 5 (step 0)
-      ; replies =
+          ++ times 5 (step 0);
+      replies =
           ok
           ∷ (started 1 ∷ goings 3)
           ++ (ok ∷ goings 2)
           ++ (ended ∷ started 2 ∷ goings 5 ++ (ended ∷ []))
           ++ goings 4
-          ++ (item 1 10 ∷ [])
-      }
+          ++ (item 1 10 ∷ []);
+    }
     -- B = 1, N = 65, P = 0, P = 17, M = 0 give 1; B = 64, N = 64, P = 16 needs 12,696 words
     ∷ record { words = 52; sizes = sized 1 2 1 9; requests = []; replies = refused 1 ∷ [] }
     ∷ record { words = 52; sizes = sized 2 65 1 9; requests = []; replies = refused 1 ∷ [] }
@@ -97,12 +97,12 @@ table =
     ∷ record { words = 12696; sizes = sized 64 64 16 9; requests = []; replies = ok ∷ [] }
     ∷ record { words = 12695; sizes = sized 64 64 16 9; requests = []; replies = refused 2 ∷ [] }
     -- M = 1: once enqueue 1 has ended, a second enqueue start gives 6
-    ∷ record
-      { words = 52
-      ; sizes = sized 2 2 1 1
-      ; requests = startEnqueue 1 7 ∷ times 4 (step 1) ++ (startEnqueue 1 8 ∷ [])
-      ; replies = ok ∷ started 1 ∷ goings 3 ++ (ended ∷ refused 6 ∷ [])
-      }
+    ∷ record {
+      words = 52;
+      sizes = sized 2 2 1 1;
+      requests = startEnqueue 1 7 ∷ times 4 (step 1) ++ (startEnqueue 1 8 ∷ []);
+      replies = ok ∷ started 1 ∷ goings 3 ++ (ended ∷ refused 6 ∷ []);
+    }
     ∷ []
 
 -- Every run of the table goes as the table says.

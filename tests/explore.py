@@ -1,0 +1,234 @@
+"""Every reachable state of small intakes, and random runs of larger ones, with the invariants checked on each.
+
+Run as a program it prints what it explored: `python3 explore.py [B N P M]`.
+"""
+
+import random
+import sys
+import time
+from collections import deque
+from typing import NamedTuple
+
+import intake_model as im
+import invariants
+import judge_model as jm
+
+# B, N, P, M of the cases that the default run explores whole.
+SMALL_CASES = ((2, 2, 1, 4), (2, 3, 1, 6), (2, 2, 2, 2), (2, 2, 2, 3), (2, 3, 2, 3))
+HISTORY_CASES = ((2, 2, 2, 2, 16), (2, 3, 2, 3, 13))  # B, N, P, M and the number of calls
+EXPECTED_REFUSALS = (4, 5, 6, 7, 8)  # on a store that only the engine has written
+ALL_ORDERS_CALLS = 9  # histories of at most so many calls are tried in all orders
+
+
+class Result(NamedTuple):
+    states: int
+    transitions: int
+    whole: bool  # every reachable state was met
+    violation: tuple | None  # (calls from open on, what is wrong)
+
+
+def value_of(call):
+    """The value that an exploration gives to a call number."""
+    return 100 + call
+
+
+def open_words(B, N, P, M):
+    words = [0] * im.needed_words(B, N, P)
+    im.open_store(words, B, N, P, M)
+    return words
+
+
+def moves(words, engine):
+    """Every call that may be accepted, as (call, picked record): a start of each idle thread, and a step of each busy
+    one with every pick."""
+    for t in range(words[2] + 1):
+        phase = words[im.CONTENTS + im.THREAD_WORDS * t]
+        if phase:
+            picks = engine(words, None).free() if t and phase in (4, 10) else []
+            for record in picks or [None]:
+                yield ('s', t), record
+        elif t == 0:
+            yield ('d',), None
+        elif words[im.STARTS] < words[3]:
+            yield ('e', t, value_of(words[im.STARTS] + 1)), None
+
+
+def after(words, call, record, engine):
+    """The words and the reply of a call; the words before stay as they are."""
+    words = list(words)
+    reply = im.do(words, call, lambda free: record, engine)
+    return words, reply
+
+
+def wrong_reply(reply):
+    return reply[0] == 'refused' and reply[1] not in EXPECTED_REFUSALS
+
+
+def trace(came_from, state):
+    """The calls that lead from open to a state."""
+    calls = []
+    while came_from[state] is not None:
+        state, call = came_from[state]
+        calls.append(call)
+    return calls[::-1]
+
+
+def explore(B, N, P, M, engine=im.Intake, limit=None, clauses=None):
+    """Breadth first over words and ghost, all interleavings and all picks, until a clause fails. The words of a small
+    case are below 256, so a state keeps them as bytes."""
+    start = (bytes(open_words(B, N, P, M)), invariants.Ghost())
+    came_from, queue, transitions = {start: None}, deque([start]), 0
+    while queue:
+        state = queue.popleft()
+        packed, ghost = state
+        words = list(packed)
+        bad = invariants.broken(words, ghost, clauses)
+        if bad:
+            return Result(len(came_from), transitions, False, (trace(came_from, state), bad))
+        for call, record in moves(words, engine):
+            words_after, reply = after(words, call, record, engine)
+            transitions += 1
+            if wrong_reply(reply):
+                calls = trace(came_from, state) + [(call, record)]
+                return Result(len(came_from), transitions, False, (calls, [f'reply {reply}']))
+            following = (bytes(words_after), ghost.after(call, words, reply))
+            if following not in came_from:
+                if limit is not None and len(came_from) >= limit:
+                    return Result(len(came_from), transitions, False, None)
+                came_from[following] = (state, (call, record))
+                queue.append(following)
+    return Result(len(came_from), transitions, True, None)
+
+
+# Demand 3 itself.
+
+
+def demand_3_small(words, history):
+    """Demand 3 by all orders: the history is linearizable, and with no call under way the items left are a queue that
+    some linearization leaves."""
+    left = jm.linearizations_leaving(history)
+    idle = all(call.end for call in jm.calls_of(history))
+    return bool(left) and (not idle or tuple(im.items_left(words)) in left)
+
+
+def demand_3_long(words, history):
+    """The same by the polynomial checks."""
+    if any(call.end == 0 for call in jm.calls_of(history)):
+        return jm.explained_in_time(history) and jm.explained_by_mark(history)
+    return jm.explained_by_mark(history) and jm.leaves(history, im.items_left(words))
+
+
+def explore_histories(B, N, P, M, depth, engine=im.Intake):
+    """Every list of at most `depth` accepted calls, all picks, with demand 3 checked by all orders after each call.
+    States that agree in words and history are followed once."""
+    states = {(bytes(open_words(B, N, P, M)), ())}
+    met, transitions, verdicts = len(states), 0, {}
+    for _ in range(depth):
+        following = set()
+        for packed, history in states:
+            words = list(packed)
+            starts = {event[1]: event for event in history if event[0] in (1, 3)}
+            for call, record in moves(words, engine):
+                words_after, reply = after(words, call, record, engine)
+                transitions += 1
+                event = im.event(call, reply, starts.get(call[1] if len(call) > 1 else 0))
+                longer = history + (event,) if event else history
+                key = (longer, tuple(im.items_left(words_after)))
+                if key not in verdicts:
+                    verdicts[key] = demand_3_small(words_after, longer)
+                if not verdicts[key] or wrong_reply(reply):
+                    return Result(met, transitions, False, ([longer], ['demand 3']))
+                following.add((bytes(words_after), longer))
+        met += len(following)
+        states = following
+    return Result(met, transitions, False, None)
+
+
+# Random runs.
+
+
+def random_sizes(rng):
+    B = rng.choice((2, 2, 2, 3, 4, 5, 8))
+    return B, rng.randint(2, 6), rng.randint(1, 6), rng.randint(1, 60)
+
+
+def random_call(rng, words, threads):
+    """A call of one of some threads, accepted more often than not."""
+    t = rng.choice(threads)
+    if rng.random() < 0.02:
+        t = rng.choice((0, words[2] + 1, im.U32, *threads))
+    if t <= words[2] and words[im.CONTENTS + im.THREAD_WORDS * t]:
+        return ('s', t)
+    if rng.random() < 0.05:
+        return ('s', t)
+    return ('d',) if t == 0 else ('e', t, rng.choice((0, 7, 7, im.U32, rng.randrange(2**32))))
+
+
+def random_run(seed, calls=250, engine=im.Intake):
+    """One random run with every clause checked after each accepted call and demand 3 at each dequeue's end and at the
+    end. In bursts only some threads move, so that others stop anywhere. Gives (accepted calls, violation)."""
+    rng = random.Random(seed)
+    B, N, P, M = random_sizes(rng)
+    recorder = im.Recorder(B, N, P, M, pick=rng.choice, engine=engine)
+    ghost, accepted = invariants.Ghost(), 0
+    threads = list(range(P + 1))
+    for k in range(calls):
+        if k % 20 == 0:
+            threads = rng.sample(range(P + 1), rng.randint(1, P + 1))
+        before = list(recorder.words)
+        call = random_call(rng, before, threads)
+        reply = recorder.call(call)
+        if wrong_reply(reply):
+            return accepted, (seed, k, call, reply)
+        if reply[0] == 'refused':
+            if recorder.words != before:
+                return accepted, (seed, k, call, 'a refusal changed the words')
+            continue
+        accepted += 1
+        ghost = ghost.after(call, before, reply)
+        bad = invariants.broken(recorder.words, ghost)
+        if not bad and (reply[0] in ('item', 'empty') or k == calls - 1 or not recorder.starts):
+            bad = demand_3_broken(recorder)
+        if bad:
+            return accepted, (seed, k, call, bad)
+    return accepted, None
+
+
+def demand_3_broken(recorder):
+    if not demand_3_long(recorder.words, recorder.history):
+        return ['demand 3']
+    few = sum(event[0] in (1, 3) for event in recorder.history) <= ALL_ORDERS_CALLS
+    if few and not demand_3_small(recorder.words, recorder.history):
+        return ['demand 3 by all orders']
+    return []
+
+
+def random_runs(seeds, engine=im.Intake):
+    """Random runs for a range of seeds: (accepted calls in all, the first violation or None)."""
+    total = 0
+    for seed in seeds:
+        accepted, violation = random_run(seed, engine=engine)
+        total += accepted
+        if violation:
+            return total, violation
+    return total, None
+
+
+def main(arguments):
+    cases = [tuple(map(int, arguments))] if arguments else SMALL_CASES
+    for case in cases:
+        report('states', case, explore, *case)
+    if not arguments:
+        for case in HISTORY_CASES:
+            report('histories', case, explore_histories, *case)
+        report('random runs', 'seeds 0 to 399', random_runs, range(400))
+
+
+def report(what, case, run, *arguments):
+    began = time.perf_counter()
+    result = run(*arguments)
+    print(what, case, result, f'{time.perf_counter() - began:.1f} s', flush=True)
+
+
+if __name__ == '__main__':
+    main(sys.argv[1:])
