@@ -1,0 +1,472 @@
+"""The model against document 01: its runs, its refusals, damaged stores, and its four traps."""
+
+import random
+import unittest
+
+import intake_model as im
+from intake_model import Intake, Recorder, needed_words, open_store, start_dequeue, start_enqueue, step
+
+D = [('d',)]
+GOING, END, EMPTY, OK = ('going',), ('end',), ('empty',), ('ok',)
+
+
+def E(t, v):
+    return [('e', t, v)]
+
+
+def S(t, times=1):
+    return [('s', t)] * times
+
+
+def refused(number):
+    return ('refused', number)
+
+
+def opened(B, N, P, M):
+    """A store just opened."""
+    words = [0] * needed_words(B, N, P)
+    open_store(words, B, N, P, M)
+    return words
+
+
+def enqueue_whole(recorder, t, v, limit=50):
+    """Run an enqueue to its end; the number of steps it took, or the refusal it met and on which step."""
+    recorder.call(('e', t, v))
+    for steps in range(1, limit + 1):
+        reply = recorder.call(('s', t))
+        if reply == END:
+            return steps
+        if reply[0] == 'refused':
+            return (steps, reply[1])
+    return None
+
+
+def dequeue_whole(recorder, limit=50):
+    """Run a dequeue to its answer."""
+    recorder.call(('d',))
+    for _ in range(limit):
+        reply = recorder.call(('s', 0))
+        if reply != GOING:
+            return reply
+    return None
+
+
+class Runs(unittest.TestCase):
+    """The runs to hold it to."""
+
+    def test_printed_run(self):
+        """A wrong phase order, a wrong empty answer, or a lost item in the shortest run."""
+        recorder = Recorder(2, 2, 1, 9)
+        self.assertEqual(recorder.opened, OK)
+        replies = recorder.run(D + S(0, 2) + E(1, 7) + S(1, 4))
+        self.assertEqual(replies, [OK, GOING, EMPTY, ('ok', 1), GOING, GOING, GOING, END])
+        self.assertEqual(recorder.run(D + S(0, 3)), [OK, GOING, GOING, ('item', 1, 7)])
+        self.assertEqual(
+            recorder.history,
+            [(3, 0, 0, 0), (5, 0, 0, 0), (1, 1, 1, 7), (2, 1, 1, 7), (3, 0, 0, 0), (4, 0, 1, 7)],
+        )
+
+    def test_steps_of_enqueues(self):
+        """A record linked ahead too early, too late or with a move of the tail record; a claim that overcommits."""
+        recorder = Recorder(2, 2, 1, 9)
+        enqueue_whole(recorder, 1, 0)
+        steps = [enqueue_whole(recorder, 1, v) for v in range(1, 5)]
+        self.assertEqual(steps, [6, 7, 5, (4, 8)])
+
+    def test_late_set_behind_the_cursor(self):
+        """A rescan that does not see the entry set at the head meanwhile."""
+        self.assertEqual(late_set_run(Intake), [GOING] * 4 + [('item', 1, 70)])
+
+    def test_sizes(self):
+        """A limit that is off by one, or a wrong size of the store."""
+        for sizes in ((1, 2, 1, 1), (2, 65, 1, 1), (2, 2, 0, 1), (2, 2, 17, 1), (2, 2, 1, 0)):
+            self.assertEqual(open_store([0] * 12_696, *sizes), refused(1), sizes)
+        for sizes in ((65, 2, 1, 1), (2, 1, 1, 1), (2, 2, 1, 1_000_001)):
+            self.assertEqual(open_store([0] * 20_000, *sizes), refused(1), sizes)
+        self.assertEqual(needed_words(64, 64, 16), 12_696)
+        self.assertEqual(open_store([0] * 12_696, 64, 64, 16, 1_000_000), OK)
+        self.assertEqual(open_store([0] * 12_695, 64, 64, 16, 1_000_000), refused(2))
+
+    def test_starts_are_counted(self):
+        """A limit M on starts that is not kept once the first call has ended."""
+        recorder = Recorder(2, 2, 1, 1)
+        self.assertEqual(enqueue_whole(recorder, 1, 5), 4)
+        self.assertEqual(recorder.call(('e', 1, 6)), refused(6))
+
+    def test_open_writes_the_contents(self):
+        """Dirt left by open, a wrong first word of the records, or a write past the store."""
+        words = [9] * (needed_words(2, 2, 1) + 3)
+        self.assertEqual(open_store(words, 2, 2, 1, 5), OK)
+        record_0 = [1, 0, 0, 2] + [0] * 6
+        contents = [2, 2, 1, 5, 16, 32, 0, 1, 1, 0, 0, 0, 0, 0, 0, 0]
+        self.assertEqual(words, contents + [0] * 16 + record_0 + [0] * 10 + [9] * 3)
+
+    def test_head_record_is_retired_by_the_next_dequeue(self):
+        """A head record retired too early, or not given back to the free ones."""
+        recorder = Recorder(2, 2, 1, 9)
+        for v in range(3):
+            enqueue_whole(recorder, 1, v)
+        self.assertEqual([dequeue_whole(recorder) for _ in range(2)], [('item', 1, 0), ('item', 2, 1)])
+        self.assertEqual(im.free_records(recorder.words), [])
+        self.assertEqual(dequeue_whole(recorder), ('item', 3, 2))
+        self.assertEqual(im.free_records(recorder.words), [0])
+
+    def test_items_left_by_position(self):
+        """Items left in record order instead of queue order: here record 0 comes after record 1."""
+        recorder = Recorder(2, 2, 1, 9)
+        for v in range(3):
+            enqueue_whole(recorder, 1, v)
+        for _ in range(3):
+            dequeue_whole(recorder)
+        for v in range(3, 6):
+            enqueue_whole(recorder, 1, v)
+        self.assertEqual(im.items_left(recorder.words), [(4, 3), (5, 4), (6, 5)])
+
+    def test_no_reply_depends_on_the_pick(self):
+        """A claim whose choice among the free records can be told from the replies."""
+        for seed in range(60):
+            picks = (im.lowest, lambda free: free[-1], random.Random(seed).choice)
+            replies = [random_calls(Recorder(2, 5, 3, 40, pick=pick), seed, 300) for pick in picks]
+            self.assertEqual(replies[0], replies[1])
+            self.assertEqual(replies[0], replies[2])
+
+
+def random_calls(recorder, seed, count):
+    """Random steps and starts that do not look at the words; the replies."""
+    rng = random.Random(seed)
+    for _ in range(count):
+        t = rng.randrange(recorder.words[2] + 1)
+        start = ('d',) if t == 0 else ('e', t, rng.randrange(100))
+        recorder.call(start if rng.random() < 0.2 else ('s', t))
+    return recorder.replies
+
+
+def late_set_run(engine):
+    """B = 4. Producer 1 takes 0 and stops before phase 9. The dequeue steps twice. Producer 1 ends; producer 2
+    enqueues and ends. The replies of five more steps."""
+    recorder = Recorder(4, 2, 2, 9, engine=engine)
+    recorder.run(E(1, 70) + S(1, 3) + D + S(0, 2) + S(1))
+    enqueue_whole(recorder, 2, 80)
+    return recorder.run(S(0, 5))
+
+
+# Traps on the way: wrong engines.
+
+
+class RescansPastTheHead(Intake):
+    """The rescan begins after the head."""
+
+    def cursor_to_head(self):
+        self.cursor_at(self.w[im.HEAD_RECORD] - 1, self.w[im.HEAD_POSITION] + 1)
+
+
+class StopsTwoShort(Intake):
+    """The rescan leaves out the position before found."""
+
+    def rescan(self):
+        if self.mine(im.CURSOR_POSITION) + 1 >= self.mine(im.FOUND_POSITION):
+            return self.to(6)
+        return super().rescan()
+
+
+class ShiftsOnlyAfterOwnLink(Intake):
+    """The tail record moves only after one's own link."""
+
+    def look(self):
+        return self.to(2 if self.part(self.mine(im.HELD) - 1, im.NEXT) else 4)
+
+
+class ReadsTheHeadFirst(Intake):
+    """The head entry is read before the end of the record is seen."""
+
+    def front(self):
+        self.entry(self.w[im.HEAD_RECORD] - 1, self.w[im.HEAD_POSITION])
+        return super().front()
+
+
+class ReusesHeldRecords(Intake):
+    """A retired record is free even while a producer holds it."""
+
+    def free(self):
+        return [r for r in range(self.N) if self.part(r, im.USE) in (im.USE_FREE, im.USE_RETIRED)]
+
+
+TRAPS = (RescansPastTheHead, StopsTwoShort, ShiftsOnlyAfterOwnLink, ReadsTheHeadFirst, ReusesHeldRecords)
+
+
+class Traps(unittest.TestCase):
+    """Each trap of document 01 as a wrong engine: the run that tells it from the right one."""
+
+    def test_rescan_past_the_head(self):
+        """A run too weak to see a rescan that leaves out the head."""
+        self.assertEqual(late_set_run(RescansPastTheHead)[-1], ('item', 2, 80))
+
+    def test_rescan_two_short(self):
+        """A run too weak to see a rescan that stops two short of found."""
+        self.assertEqual(late_set_run(StopsTwoShort)[-1], ('item', 2, 80))
+
+    def test_stopped_linker_stalls_nobody(self):
+        """A tail record that only its linker moves: here the linker is stopped between phases 5 and 6."""
+        self.assertEqual(stopped_linker_run(Intake), 7)
+        self.assertIsNone(stopped_linker_run(ShiftsOnlyAfterOwnLink))
+
+    def test_head_at_its_records_end(self):
+        """A front that reads an entry past the head record."""
+        self.assertEqual(drained_record_run(Intake), [('item', 1, 0), ('item', 2, 1), EMPTY])
+        self.assertEqual(drained_record_run(ReadsTheHeadFirst)[-1], refused(9))
+
+    def test_held_record_is_not_reused(self):
+        """A record claimed anew under a stopped producer that goes on to shift from it."""
+        self.assertEqual(stopped_holder_run(Intake), ((4, 8), GOING))
+        self.assertEqual(stopped_holder_run(ReusesHeldRecords), (8, refused(9)))
+
+
+def stopped_linker_run(engine):
+    """Producer 1 stops at position 1, so that nobody links ahead. Producer 2 links for position 2 and stops before
+    phase 6. The steps of producer 3 at position 3."""
+    recorder = Recorder(2, 2, 3, 9, engine=engine)
+    enqueue_whole(recorder, 3, 0)
+    recorder.run(E(1, 1) + S(1, 3) + E(2, 2) + S(2, 5))
+    recorder.run(E(3, 3))
+    for steps in range(1, 100):
+        if recorder.call(('s', 3)) == GOING and recorder.words[im.CONTENTS + 8 * 3] == 10:
+            return steps + 1
+    return None
+
+
+def drained_record_run(engine):
+    """Two enqueues and three dequeues with B = 2."""
+    recorder = Recorder(2, 2, 1, 9, engine=engine)
+    for v in range(2):
+        enqueue_whole(recorder, 1, v)
+    return [dequeue_whole(recorder) for _ in range(3)]
+
+
+def stopped_holder_run(engine):
+    """Producer 1 takes 2 and stops before phase 6 with record 0 held. Producer 2 goes on; three dequeues retire
+    record 0. Producer 2 wants a third place; then producer 1 steps."""
+    recorder = Recorder(2, 2, 2, 9, engine=engine)
+    for v in range(2):
+        enqueue_whole(recorder, 2, v)
+    recorder.run(E(1, 2) + S(1, 3))
+    enqueue_whole(recorder, 2, 3)
+    for _ in range(3):
+        dequeue_whole(recorder)
+    return enqueue_whole(recorder, 2, 4), recorder.call(('s', 1))
+
+
+class Refusals(unittest.TestCase):
+    """Each refusal where the table has it, in the table's order, with the words unchanged."""
+
+    def assert_refused(self, number, words, call, *arguments):
+        before = list(words)
+        self.assertEqual(call(words, *arguments), refused(number))
+        self.assertEqual(words, before)
+
+    def test_1_comes_before_2(self):
+        """An open that looks at the length before the sizes."""
+        self.assert_refused(1, [], open_store, 1, 2, 1, 1)
+        self.assert_refused(2, [], open_store, 2, 2, 1, 1)
+
+    def test_2_short_stores(self):
+        """A store read past its end."""
+        words = opened(2, 3, 2, 4)
+        for length in (0, 1, 15, 16, 40, len(words) - 1):
+            for call, arguments in ((start_enqueue, (1, 5)), (start_dequeue, ()), (step, (0,))):
+                self.assert_refused(2, words[:length], call, *arguments)
+
+    def test_3_sizes_come_between_the_halves_of_2(self):
+        """A store whose sizes are out of limits taken for one that is short."""
+        for k in range(4):
+            words = opened(2, 3, 2, 4)[:16]
+            words[k] = 0
+            self.assert_refused(3, words, step, 0)
+            self.assert_refused(2, words[:15], step, 0)
+
+    def test_3_limits_of_each_word_of_an_idle_store(self):
+        """A range that is off by one, or a word that is not looked at."""
+        words = opened(2, 3, 1, 4)
+        limits = {4: (16, 16), 5: (32, 32), 6: (0, 4), 7: (1, 3), 8: (1, 3), 9: (0, 4), 10: (0, 4)}
+        limits |= {k: (0, 0) for k in range(11, 16)}
+        limits |= {16: (0, 2), 24: (0, 0)} | {k: (0, 0) for k in (*range(17, 24), *range(25, 32))}
+        for r in (32, 42, 52):
+            limits |= {r: (0, 500_002), r + 1: (0, 3), r + 2: (0, 3), r + 3: (0, 3)}
+            for entry in (r + 4, r + 7):
+                limits |= {entry: (0, 2), entry + 1: (0, 4), entry + 2: (0, 2**32 - 1)}
+        self.assert_limits(words, limits)
+
+    def test_3_limits_of_thread_words_by_phase(self):
+        """A thread word not in use that is let through, or one in use that is not."""
+        top = 2**32 - 1
+        self.assert_thread_limits(1, 1, [4, top, 0, 0, 0, 0, 0])
+        for phase in (2, 3, 4, 6, 7, 8, 9):
+            self.assert_thread_limits(1, phase, [4, top, 4, 3, 0, 1, 0])
+        self.assert_thread_limits(1, 5, [4, top, 4, 3, 3, 1, 0])
+        self.assert_thread_limits(1, 10, [4, top, 4, 3, 0, 0, 0])
+        self.assert_thread_limits(1, 11, [4, top, 4, 3, 3, 0, 0])
+        for phase in (1, 2):
+            self.assert_thread_limits(0, phase, [0, 0, 0, 0, 0, 0, 0])
+        for phase in (3, 4):
+            self.assert_thread_limits(0, phase, [3, 4, 0, 0, 0, 0, 0])
+        self.assert_thread_limits(0, 5, [3, 4, 3, 4, 0, 0, 0])
+        self.assert_thread_limits(0, 6, [0, 0, 3, 4, 0, 0, 0])
+        self.assert_thread_limits(0, 7, [0, 0, 3, 4, 4, top, 0])
+
+    def test_3_no_such_phase(self):
+        """A phase past the last that is run."""
+        for own, phase in ((16, 8), (24, 12)):
+            words = opened(2, 3, 1, 4)
+            words[own] = phase
+            self.assert_refused(3, words, step, 0)
+
+    def assert_thread_limits(self, t, phase, tops):
+        words = opened(2, 3, 1, 4)
+        own = 16 + 8 * t
+        words[own] = phase
+        self.assert_limits(words, {own + 1 + k: (0, top) for k, top in enumerate(tops)})
+
+    def assert_limits(self, words, limits):
+        for k, (low, high) in limits.items():
+            for word in {low - 1, low, high, high + 1} & set(range(2**32)):
+                damaged = words[:k] + [word] + words[k + 1 :]
+                self.assertEqual(im.in_range(damaged), low <= word <= high, (k, word))
+                if not low <= word <= high:
+                    self.assert_refused(3, damaged, step, 0)
+
+    def test_4_no_such_thread(self):
+        """A thread past the producers, or the consumer taken for one of them."""
+        words = opened(2, 2, 2, 4)
+        for t in (0, 3, 17, 2**32 - 1):
+            self.assert_refused(4, words, start_enqueue, t, 5)
+        for t in (3, 17, 2**32 - 1):
+            self.assert_refused(4, words, step, t)
+
+    def test_5_comes_before_6(self):
+        """A second start of a busy thread, and the order of the two checks."""
+        words = opened(2, 2, 2, 1)
+        self.assertEqual(start_enqueue(words, 1, 5), ('ok', 1))
+        self.assert_refused(5, words, start_enqueue, 1, 5)
+        self.assert_refused(6, words, start_enqueue, 2, 5)
+        self.assertEqual(start_dequeue(words), OK)
+        self.assert_refused(5, words, start_dequeue)
+
+    def test_7_idle_thread(self):
+        """A step of a thread that has no call."""
+        words = opened(2, 2, 2, 1)
+        for t in range(3):
+            self.assert_refused(7, words, step, t)
+
+    def test_8_then_going_once_a_record_is_free(self):
+        """A claim that stays refused after a record has been retired."""
+        recorder = Recorder(2, 2, 1, 9)
+        for v in range(4):
+            enqueue_whole(recorder, 1, v)
+        self.assertEqual(enqueue_whole(recorder, 1, 4), (4, 8))
+        self.assertEqual([dequeue_whole(recorder)[1] for _ in range(2)], [1, 2])
+        self.assertEqual(recorder.call(('s', 1)), refused(8))
+        self.assertEqual(dequeue_whole(recorder)[1], 3)
+        self.assertEqual(recorder.run(S(1, 6)), [GOING] * 5 + [END])
+
+    def test_9_needed_link_is_none(self):
+        """A link followed though it is none."""
+        words = opened(2, 2, 1, 4)
+        words[24:32] = [3, 1, 5, 2, 0, 0, 0, 0]
+        self.assert_refused(9, words, step, 1)
+
+    def test_9_index_leaves_the_record(self):
+        """An entry written outside the held record."""
+        for position in (2, 3, 4):
+            words = opened(2, 2, 1, 4)
+            words[24:32] = [8, 1, 5, position, 1, 0, 0, 0]
+            self.assert_refused(9, words, step, 1)
+
+    def test_9_number_leaves_its_range(self):
+        """A tail or a place that grows past its range."""
+        words = opened(2, 2, 1, 4)
+        words[6], words[24] = 4, 1
+        self.assert_refused(9, words, step, 1)
+        words = opened(2, 2, 1, 4)
+        words[24:32] = [5, 1, 5, 2, 1, 2, 0, 0]
+        words[32] = 500_002
+        self.assert_refused(9, words, step, 1)
+        words[32] = 500_001
+        self.assertEqual(step(words, 1), GOING)
+
+
+class Damage(unittest.TestCase):
+    """Stores that the engine did not write."""
+
+    CAN_MEET_9 = {('producer', k) for k in (1, 3, 5, 6, 7, 8, 9, 11)} | {('consumer', k) for k in range(1, 8)}
+
+    def check(self, words, call):
+        """No call raises; a refusal changes nothing; an accepted call leaves words in range. The reply."""
+        before = list(words)
+        reply = im.do(words, call)
+        if reply[0] == 'refused':
+            self.assertIn(reply[1], range(2, 10))
+            self.assertEqual(words, before)
+        else:
+            self.assertTrue(im.in_range(words), (before, call))
+        return reply
+
+    def check_all(self, words):
+        P = min(words[2], 4) if len(words) > 2 else 1
+        calls = [('d',)] + [('e', t, 3) for t in range(P + 2)] + [('s', t) for t in range(P + 2)]
+        return {call: self.check(list(words), call) for call in calls}
+
+    def test_random_single_words(self):
+        """A word that the engine trusts without looking: one wrong word in a reachable store."""
+        rng = random.Random(1)
+        for seed in range(100):
+            recorder = Recorder(2, 3, 2, 12)
+            random_calls(recorder, seed, rng.randrange(120))
+            for _ in range(25):
+                words = list(recorder.words)
+                words[rng.randrange(len(words))] = rng.choice((0, 1, 2, 3, 4, 5, 7, 11, 12, 13, 500_002, 2**32 - 1))
+                self.check_all(words)
+
+    def test_random_stores_in_range(self):
+        """A link or an index followed outside the store; a 9 in a phase that has none, or none where one is due."""
+        rng = random.Random(2)
+        met = set()
+        for _ in range(6000):
+            words = random_store(rng)
+            self.assertTrue(im.in_range(words))
+            for call, reply in self.check_all(words).items():
+                if reply == refused(9):
+                    role = 'producer' if call[1] else 'consumer'
+                    met.add((role, words[16 + 8 * call[1]]))
+        self.assertEqual(met, self.CAN_MEET_9)
+
+    def test_random_words_and_lengths(self):
+        """A store of any words and any length that is not turned down with 2 or 3, or that raises."""
+        rng = random.Random(3)
+        for _ in range(2000):
+            length = rng.choice((0, 3, 15, 16, 17, 70, 200))
+            words = [rng.choice((0, 1, 2, 3, 16, 32, rng.randrange(2**32))) for _ in range(length)]
+            for reply in self.check_all(words).values():
+                self.assertIn(reply, (refused(2), refused(3)))
+
+    def test_words_past_the_store_are_never_written(self):
+        """A write past the words that the sizes need."""
+        size = needed_words(2, 3, 2)
+        recorder = Recorder(2, 3, 2, 30, words=[77] * (size + 5))
+        random_calls(recorder, 4, 600)
+        self.assertEqual(recorder.words[size:], [77] * 5)
+        self.assertGreater(recorder.words[im.TAIL], 10)
+
+
+def random_store(rng):
+    """A store of random words, each within its range."""
+    B, N, P, M = rng.randint(2, 3), rng.randint(2, 4), rng.randint(1, 2), rng.randint(1, 9)
+    words = [B, N, P, M, 16, 16 + 8 * (P + 1), rng.randint(0, M), rng.randint(1, N), rng.randint(1, N)]
+    words += [rng.randint(0, M), rng.randint(0, M)] + [0] * 5
+    for t in range(P + 1):
+        limits = rng.choice(im.thread_limits(N, M)[1 if t else 0])
+        words += [rng.randint(0, min(limit, 12)) for limit in limits]
+        words[-8] = limits_phase(limits, N, M, t)
+    for _ in range(N):
+        words += [rng.choice((0, 1, 1, 2, 2, 3, 4, 500_002)), rng.randint(0, N), rng.randint(0, N), rng.randint(0, 3)]
+        for _ in range(B):
+            words += [rng.randint(0, 2), rng.randint(0, M), rng.randrange(2**32)]
+    return words
