@@ -175,6 +175,11 @@ class ShiftsOnlyAfterOwnLink(Intake):
     def look(self):
         return self.to(2 if self.part(self.mine(im.HELD) - 1, im.NEXT) else 4)
 
+    def link(self):
+        linked_by_another = self.part(self.mine(im.HELD) - 1, im.NEXT)
+        super().link()
+        return self.to(2 if linked_by_another else 6)
+
 
 class ReadsTheHeadFirst(Intake):
     """The head entry is read before the end of the record is seen."""
@@ -207,7 +212,7 @@ class Traps(unittest.TestCase):
 
     def test_stopped_linker_stalls_nobody(self):
         """A tail record that only its linker moves: here the linker is stopped between phases 5 and 6."""
-        self.assertEqual(stopped_linker_run(Intake), 7)
+        self.assertEqual(stopped_linker_run(Intake), 8)
         self.assertIsNone(stopped_linker_run(ShiftsOnlyAfterOwnLink))
 
     def test_head_at_its_records_end(self):
@@ -218,7 +223,7 @@ class Traps(unittest.TestCase):
     def test_held_record_is_not_reused(self):
         """A record claimed anew under a stopped producer that goes on to shift from it."""
         self.assertEqual(stopped_holder_run(Intake), ((4, 8), GOING))
-        self.assertEqual(stopped_holder_run(ReusesHeldRecords), (8, refused(9)))
+        self.assertEqual(stopped_holder_run(ReusesHeldRecords), (9, refused(9)))
 
 
 def stopped_linker_run(engine):
@@ -227,11 +232,7 @@ def stopped_linker_run(engine):
     recorder = Recorder(2, 2, 3, 9, engine=engine)
     enqueue_whole(recorder, 3, 0)
     recorder.run(E(1, 1) + S(1, 3) + E(2, 2) + S(2, 5))
-    recorder.run(E(3, 3))
-    for steps in range(1, 100):
-        if recorder.call(('s', 3)) == GOING and recorder.words[im.CONTENTS + 8 * 3] == 10:
-            return steps + 1
-    return None
+    return enqueue_whole(recorder, 3, 3)
 
 
 def drained_record_run(engine):
@@ -288,7 +289,7 @@ class Refusals(unittest.TestCase):
         words = opened(2, 3, 1, 4)
         limits = {4: (16, 16), 5: (32, 32), 6: (0, 4), 7: (1, 3), 8: (1, 3), 9: (0, 4), 10: (0, 4)}
         limits |= {k: (0, 0) for k in range(11, 16)}
-        limits |= {16: (0, 2), 24: (0, 0)} | {k: (0, 0) for k in (*range(17, 24), *range(25, 32))}
+        limits |= {16: (0, 7), 24: (0, 11)} | {k: (0, 0) for k in (*range(17, 24), *range(25, 32))}
         for r in (32, 42, 52):
             limits |= {r: (0, 500_002), r + 1: (0, 3), r + 2: (0, 3), r + 3: (0, 3)}
             for entry in (r + 4, r + 7):
@@ -312,13 +313,6 @@ class Refusals(unittest.TestCase):
         self.assert_thread_limits(0, 6, [0, 0, 3, 4, 0, 0, 0])
         self.assert_thread_limits(0, 7, [0, 0, 3, 4, 4, top, 0])
 
-    def test_3_no_such_phase(self):
-        """A phase past the last that is run."""
-        for own, phase in ((16, 8), (24, 12)):
-            words = opened(2, 3, 1, 4)
-            words[own] = phase
-            self.assert_refused(3, words, step, 0)
-
     def assert_thread_limits(self, t, phase, tops):
         words = opened(2, 3, 1, 4)
         own = 16 + 8 * t
@@ -327,7 +321,7 @@ class Refusals(unittest.TestCase):
 
     def assert_limits(self, words, limits):
         for k, (low, high) in limits.items():
-            for word in {low - 1, low, high, high + 1} & set(range(2**32)):
+            for word in (w for w in {low - 1, low, high, high + 1} if 0 <= w < 2**32):
                 damaged = words[:k] + [word] + words[k + 1 :]
                 self.assertEqual(im.in_range(damaged), low <= word <= high, (k, word))
                 if not low <= word <= high:
@@ -462,11 +456,15 @@ def random_store(rng):
     words = [B, N, P, M, 16, 16 + 8 * (P + 1), rng.randint(0, M), rng.randint(1, N), rng.randint(1, N)]
     words += [rng.randint(0, M), rng.randint(0, M)] + [0] * 5
     for t in range(P + 1):
-        limits = rng.choice(im.thread_limits(N, M)[1 if t else 0])
-        words += [rng.randint(0, min(limit, 12)) for limit in limits]
-        words[-8] = limits_phase(limits, N, M, t)
+        by_phase = im.thread_limits(N, M)[1 if t else 0]
+        phase = rng.randrange(len(by_phase))
+        words += [phase] + [rng.randint(0, min(limit, 12)) for limit in by_phase[phase][1:]]
     for _ in range(N):
         words += [rng.choice((0, 1, 1, 2, 2, 3, 4, 500_002)), rng.randint(0, N), rng.randint(0, N), rng.randint(0, 3)]
         for _ in range(B):
             words += [rng.randint(0, 2), rng.randint(0, M), rng.randrange(2**32)]
     return words
+
+
+if __name__ == '__main__':
+    unittest.main()

@@ -9,7 +9,7 @@ use Rattle.history.specs.Linearization.{Item, Queue}
 use Rattle.rules.specs.Sizes.{Sizes}
 use Rattle.rules.specs.Cell.{Reader, reader, place, state, entryNumber, entryValue}
 use Rattle.rules.specs.Free.{Picker}
-use Rattle.rules.specs.Rule.{Reply, refused, ok, started, going, ended, empty, item}
+use Rattle.rules.specs.Rule.{Reply, Response, refused, accepted, ok, started, going, ended, empty, item}
 use Rattle.rules.specs.Request.{Result, Request, startEnqueue, startDequeue, step, result}
 
 -- The event that repeats the words of thread t's last start.
@@ -24,7 +24,6 @@ endOfEnqueue t (gaveEmpty ∷ h) = endOfEnqueue t h
 
 -- An accepted start enqueue adds kind 1 with its thread, the call number given and its value.
 abbrev pub enqueueEvents : (t v : ℕ) → Reply → History
-enqueueEvents t v (refused n) = []
 enqueueEvents t v ok = []
 enqueueEvents t v (started n) = enqueueStarted t n v ∷ []
 enqueueEvents t v going = []
@@ -34,7 +33,6 @@ enqueueEvents t v (item n w) = []
 
 -- An accepted start dequeue adds 3.
 abbrev pub dequeueEvents : Reply → History
-dequeueEvents (refused n) = []
 dequeueEvents ok = dequeueStarted ∷ []
 dequeueEvents (started n) = []
 dequeueEvents going = []
@@ -42,9 +40,8 @@ dequeueEvents ended = []
 dequeueEvents empty = []
 dequeueEvents (item n v) = []
 
--- A step that replies end adds 2, repeating its start's words; item adds 4, empty 5. Going and refusals add nothing.
+-- A step that replies end adds 2, repeating its start's words; item adds 4, empty 5. Going adds nothing, and no refusal does.
 abbrev pub stepEvents : (t : ℕ) → History → Reply → History
-stepEvents t h (refused n) = []
 stepEvents t h ok = []
 stepEvents t h (started n) = []
 stepEvents t h going = []
@@ -52,15 +49,19 @@ stepEvents t h ended = endOfEnqueue t h
 stepEvents t h empty = gaveEmpty ∷ []
 stepEvents t h (item n v) = gaveItem n v ∷ []
 
-abbrev pub events : Request → History → Reply → History
-events (startEnqueue t v) h r = enqueueEvents t v r
-events startDequeue h r = dequeueEvents r
-events (step t) h r = stepEvents t h r
+abbrev pub replyEvents : Request → History → Reply → History
+replyEvents (startEnqueue t v) h r = enqueueEvents t v r
+replyEvents startDequeue h r = dequeueEvents r
+replyEvents (step t) h r = stepEvents t h r
+
+abbrev pub events : Request → History → Response → History
+events q h (refused n) = []
+events q h (accepted r) = replyEvents q h r
 
 -- What stands after some calls: the lent words, the replies and the history, the newest first.
 pub record Played : Type 0 where
   pub words : List ℕ
-  pub replies : List Reply
+  pub replies : List Response
   pub history : History
 
 -- Each call gets the store as the one before left it. The picker of a call may be another one each time.

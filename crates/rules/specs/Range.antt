@@ -1,52 +1,64 @@
 -- The range of every word of a store: refusal 3 (document 01, "Where a call is turned down", Ranges).
-use mathlib.Core.Bool.{Bool, true, false, _&&_, cond}
+use mathlib.Core.Bool.{Bool, true, false, _&&_}
 use mathlib.Core.List.{List, [], _∷_}
 use Prim.Native.Nat.{ℕ, zero, suc}
 use lib.Dec.{leb, eqb}
 use lib.ListN.{getD}
 use Rattle.rules.specs.Sizes.{Sizes, between, mostPlace, firstRecord}
-use Rattle.rules.specs.Cell.{Reader, content, own, tail, tailRecord, headRecord, headPosition, starts, phase, place, next, prev, used, state, entryNumber}
+use Rattle.rules.specs.Cell.{Cell, Reader, content, own, part, entry, phase}
 
--- the test passes at 0 to n - 1
-abbrev pub every : ℕ → (ℕ → Bool) → Bool
-every zero p = true
-every (suc n) p = every n p && p n
-
--- Contents as *open* writes them (words 0 to 3 are the sizes themselves, whose limits are looked at before); tail and head
--- record 1 to N; positions and counts 0 to M; spare words zero.
-abbrev pub contentsInRange : Sizes → Reader → Bool
-contentsInRange z σ =
-    eqb (σ (content 4)) 16
-    && eqb (σ (content 5)) (firstRecord z)
-    && leb (σ tail) (z .M)
-    && between 1 (z .N) (σ tailRecord)
-    && between 1 (z .N) (σ headRecord)
-    && leb (σ headPosition) (z .M)
-    && leb (σ starts) (z .M)
-    && eqb (σ (content 11)) 0
-    && eqb (σ (content 12)) 0
-    && eqb (σ (content 13)) 0
-    && eqb (σ (content 14)) 0
-    && eqb (σ (content 15)) 0
-
--- What a thread's word is in a phase: not in use (zero), a number 0 to M (a position or a call number), a record number 0 to N,
--- a flag 0 to 1, or a value (any).
+-- What a word may hold: zero alone (a spare word, or one not in use); one number; a position, call number or count, 0 to M; a
+-- record number, 0 to N; the same with none left out, 1 to N; a number up to another; anything.
 pub data Sort : Type 0 where
   unused : Sort
+  exactly : ℕ → Sort
   number : Sort
   link : Sort
-  flag : Sort
+  record-number : Sort
+  most : ℕ → Sort
   any : Sort
 
 abbrev pub ofSort : Sizes → Sort → ℕ → Bool
 ofSort z unused x = eqb x 0
+ofSort z (exactly n) x = eqb x n
 ofSort z number x = leb x (z .M)
 ofSort z link x = leb x (z .N)
-ofSort z flag x = leb x 1
+ofSort z record-number x = between 1 (z .N) x
+ofSort z (most n) x = leb x n
 ofSort z any x = true
 
--- Words 1 to 7 of a thread in each phase. A producer's are call number, value, position, held, claimed, whether phase 7 was
--- taken, spare.
+-- Contents as *open* writes them (of words 0 to 3, the sizes, the limits are looked at before): sizes, first words; tail, tail
+-- record, head record, head position, starts; spare words.
+abbrev pub contentSorts : Sizes → List Sort
+contentSorts z =
+    exactly (z .B)
+    ∷ exactly (z .N)
+    ∷ exactly (z .P)
+    ∷ exactly (z .M)
+    ∷ exactly 16
+    ∷ exactly (firstRecord z)
+    ∷ number
+    ∷ record-number
+    ∷ record-number
+    ∷ number
+    ∷ number
+    ∷ unused
+    ∷ unused
+    ∷ unused
+    ∷ unused
+    ∷ unused
+    ∷ []
+
+-- Place, next, prev, use.
+abbrev pub partSorts : List Sort
+partSorts = most mostPlace ∷ link ∷ link ∷ most 3 ∷ []
+
+-- State, call number, value.
+abbrev pub entrySorts : List Sort
+entrySorts = most 2 ∷ number ∷ any ∷ []
+
+-- Words 1 to 7 of a thread in each phase. A producer's: call number, value, position, held, claimed, whether phase 7 was taken,
+-- spare.
 abbrev pub idleSorts : List Sort
 idleSorts = unused ∷ unused ∷ unused ∷ unused ∷ unused ∷ unused ∷ unused ∷ []
 
@@ -54,10 +66,10 @@ abbrev pub startedSorts : List Sort
 startedSorts = number ∷ any ∷ unused ∷ unused ∷ unused ∷ unused ∷ unused ∷ []
 
 abbrev pub placedSorts : List Sort
-placedSorts = number ∷ any ∷ number ∷ link ∷ unused ∷ flag ∷ unused ∷ []
+placedSorts = number ∷ any ∷ number ∷ link ∷ unused ∷ most 1 ∷ unused ∷ []
 
 abbrev pub linkingSorts : List Sort
-linkingSorts = number ∷ any ∷ number ∷ link ∷ link ∷ flag ∷ unused ∷ []
+linkingSorts = number ∷ any ∷ number ∷ link ∷ link ∷ most 1 ∷ unused ∷ []
 
 abbrev pub aheadSorts : List Sort
 aheadSorts = number ∷ any ∷ number ∷ link ∷ unused ∷ unused ∷ unused ∷ []
@@ -65,6 +77,7 @@ aheadSorts = number ∷ any ∷ number ∷ link ∷ unused ∷ unused ∷ unused
 abbrev pub linkingAheadSorts : List Sort
 linkingAheadSorts = number ∷ any ∷ number ∷ link ∷ link ∷ unused ∷ unused ∷ []
 
+-- phases 0 to 11
 abbrev pub producerSorts : List (List Sort)
 producerSorts =
     idleSorts
@@ -81,7 +94,7 @@ producerSorts =
     ∷ linkingAheadSorts
     ∷ []
 
--- The consumer's are cursor record and position, found record and position, the item's call number and value, spare.
+-- The consumer's: cursor record and position, found record and position, the item's call number and value, spare.
 abbrev pub cursorSorts : List Sort
 cursorSorts = link ∷ number ∷ unused ∷ unused ∷ unused ∷ unused ∷ unused ∷ []
 
@@ -94,33 +107,41 @@ foundSorts = unused ∷ unused ∷ link ∷ number ∷ unused ∷ unused ∷ unu
 abbrev pub itemSorts : List Sort
 itemSorts = unused ∷ unused ∷ link ∷ number ∷ number ∷ any ∷ unused ∷ []
 
+-- phases 0 to 7
 abbrev pub consumerSorts : List (List Sort)
 consumerSorts =
     idleSorts ∷ idleSorts ∷ idleSorts ∷ cursorSorts ∷ cursorSorts ∷ rescanSorts ∷ foundSorts ∷ itemSorts ∷ []
 
--- words k, k + 1, .. of thread t are of these sorts
-abbrev pub ofSorts : Sizes → Reader → (t k : ℕ) → List Sort → Bool
-ofSorts z σ t k [] = true
-ofSorts z σ t k (s ∷ ss) = ofSort z s (σ (own t k)) && ofSorts z σ t (suc k) ss
+-- words k, k + 1, .. of a row are of these sorts
+abbrev pub ofSorts : Sizes → (ℕ → ℕ) → ℕ → List Sort → Bool
+ofSorts z row k [] = true
+ofSorts z row k (s ∷ ss) = ofSort z s (row k) && ofSorts z row (suc k) ss
+
+-- the test passes at 0 to n - 1
+abbrev pub every : ℕ → (ℕ → Bool) → Bool
+every zero p = true
+every (suc n) p = every n p && p n
 
 -- Phase 0 to 11 for a producer, 0 to 7 for the consumer, and the words that the phase uses.
+abbrev pub mostPhase : ℕ → ℕ
+mostPhase zero = 7
+mostPhase (suc t) = 11
+
+abbrev pub threadSorts : ℕ → List (List Sort)
+threadSorts zero = consumerSorts
+threadSorts (suc t) = producerSorts
+
 abbrev pub threadInRange : Sizes → Reader → ℕ → Bool
-threadInRange z σ zero = leb (σ (phase 0)) 7 && ofSorts z σ 0 1 (getD consumerSorts (σ (phase 0)) [])
-threadInRange z σ (suc t) = leb (σ (phase (suc t))) 11 && ofSorts z σ (suc t) 1 (getD producerSorts (σ (phase (suc t))) [])
+threadInRange z σ t =
+    leb (σ (phase t)) (mostPhase t) && ofSorts z (λ k. σ (own t k)) 1 (getD (threadSorts t) (σ (phase t)) [])
 
--- State 0 to 2, call number 0 to M, value any.
-abbrev pub entryInRange : Sizes → Reader → (r i : ℕ) → Bool
-entryInRange z σ r i = leb (σ (state r i)) 2 && leb (σ (entryNumber r i)) (z .M)
-
--- Place 0 to 500,002, record numbers 0 to N, use 0 to 3.
 abbrev pub recordInRange : Sizes → Reader → ℕ → Bool
 recordInRange z σ r =
-    leb (σ (place r)) mostPlace
-    && leb (σ (next r)) (z .N)
-    && leb (σ (prev r)) (z .N)
-    && leb (σ (used r)) 3
-    && every (z .B) (entryInRange z σ r)
+    ofSorts z (λ k. σ (part r k)) 0 partSorts && every (z .B) (λ i. ofSorts z (λ k. σ (entry r i k)) 0 entrySorts)
 
--- Every word but words 0 to 3 is in its range.
+-- Every word is in its range.
 unfoldable pub inRange : Sizes → Reader → Bool
-inRange z σ = contentsInRange z σ && every (suc (z .P)) (threadInRange z σ) && every (z .N) (recordInRange z σ)
+inRange z σ =
+    ofSorts z (λ k. σ (content k)) 0 (contentSorts z)
+    && every (suc (z .P)) (threadInRange z σ)
+    && every (z .N) (recordInRange z σ)

@@ -9,19 +9,19 @@ use Rattle.rules.specs.Sizes.{Sizes, sizesInRange, firstRecord, storeWor
 use Rattle.rules.specs.Cell.{Reader, Write, reader, writes, _:=_, content, tailRecord, headRecord, starts, phase, call, value, place, used}
 use Rattle.rules.specs.Range.{inRange}
 use Rattle.rules.specs.Free.{Picker}
-use Rattle.rules.specs.Rule.{Answer, Reply, refused, ok, started, refuse, reply}
+use Rattle.rules.specs.Rule.{Answer, Response, refused, accepted, ok, started, refuse, reply}
 use Rattle.rules.specs.Producer.{producerStep}
 use Rattle.rules.specs.Consumer.{consumerStep}
 
 -- What a call leaves: its reply, and every lent word.
 pub record Result : Type 0 where
-  pub reply : Reply
+  pub reply : Response
   pub words : List ℕ
 
 -- A refused call changes no word; an accepted one makes its writes.
 unfoldable pub applied : Sizes → List ℕ → Answer → Result
 applied z m (refuse n) = record { reply = refused n; words = m }
-applied z m (reply r ws) = record { reply = r; words = writes z m ws }
+applied z m (reply r ws) = record { reply = accepted r; words = writes z m ws }
 
 -- *Open* zeroes the store, writes the contents, and links record 0 with place 1 as head and tail record. Words past the store
 -- are never written.
@@ -47,7 +47,7 @@ unfoldable pub open-store : Sizes → List ℕ → Result
 open-store z m =
     cond (not (sizesInRange z)) (record { reply = refused 1; words = m })
     (cond (ltb (length m) 16 || ltb (length m) (storeWords z)) (record { reply = refused 2; words = m })
-    (record { reply = ok; words = opened z m }))
+    (record { reply = accepted ok; words = opened z m }))
 
 -- A start or a step.
 pub data Request : Type 0 where

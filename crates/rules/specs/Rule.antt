@@ -6,16 +6,19 @@ use lib.Dec.{leb, ltb, eqb}
 use Rattle.rules.specs.Sizes.{Sizes}
 use Rattle.rules.specs.Cell.{Reader, Write, place, next}
 
--- The replies of the calls: a refusal with its number; accepted, with the call number where an enqueue was started; and those of
--- a step.
+-- What an accepted call replies: *open* and *start dequeue* ok, *start enqueue* its call number, *step* the others.
 pub data Reply : Type 0 where
-  refused : ℕ → Reply
   ok : Reply
   started : (number : ℕ) → Reply
   going : Reply
   ended : Reply
   empty : Reply
   item : (number value : ℕ) → Reply
+
+-- What any call replies: a refusal with its number, or a reply.
+pub data Response : Type 0 where
+  refused : ℕ → Response
+  accepted : Reply → Response
 
 -- A rule's answer: a refusal, or a reply with the writes that go with it.
 pub data Answer : Type 0 where

@@ -8,7 +8,7 @@ use Rattle.rules.specs.Sizes.{Sizes, sizesInRange, storeWords}
 use Rattle.rules.specs.Cell.{Reader, reader, writes}
 use Rattle.rules.specs.Range.{inRange}
 use Rattle.rules.specs.Free.{free, lowestFree}
-use Rattle.rules.specs.Rule.{Reply, refused, ok, started, going, ended, empty, item}
+use Rattle.rules.specs.Rule.{Reply, Response, refused, accepted, ok, started, going, ended, empty, item}
 use Rattle.rules.specs.Producer.{takePosition, loadTail, lookNext, claimRecord, linkClaimed, shiftTail, goBack, writeEntry, setEntry, claimAhead, linkAhead, producerStep}
 use Rattle.rules.specs.Consumer.{front, readTail, scan, readEntry, rescan, readItem, markHandled, consumerStep}
 use Rattle.rules.specs.Request.{Request, startEnqueue, startDequeue, step, applied, opened, open-store, startingEnqueue, startingDequeue, stepping, answer, admitted, result}
@@ -19,7 +19,7 @@ pub record Trial : Type 0 where
   pub words : ℕ
   pub sizes : Sizes
   pub requests : List Request
-  pub replies : List Reply
+  pub replies : List Response
 
 abbrev pub sized : (B N P M : ℕ) → Sizes
 sized B N P M = record { B = B; N = N; P = P; M = M }
@@ -29,12 +29,16 @@ abbrev pub times : ℕ → Request → List Request
 times zero q = []
 times (suc n) q = q ∷ times n q
 
+-- the replies of accepted calls
+abbrev pub all : List Reply → List Response
+all rs = map accepted rs
+
 abbrev pub goings : ℕ → List Reply
 goings zero = []
 goings (suc n) = going ∷ goings n
 
 -- The replies that the rules give.
-unfoldable pub replay : Trial → List Reply
+unfoldable pub replay : Trial → List Response
 replay t =
     let o = open-store (t .sizes) (replicate (t .words) 0) in
     reverse
@@ -47,7 +51,7 @@ table =
       words = 12696;
       sizes = sized 2 2 1 9;
       requests = startDequeue ∷ times 2 (step 0) ++ (startEnqueue 1 7 ∷ times 4 (step 1)) ++ (startDequeue ∷ times 3 (step 0));
-      replies = ok ∷ ok ∷ going ∷ empty ∷ started 1 ∷ goings 3 ++ (ended ∷ ok ∷ going ∷ going ∷ item 1 7 ∷ []);
+      replies = all (ok ∷ ok ∷ going ∷ empty ∷ started 1 ∷ goings 3 ++ (ended ∷ ok ∷ going ∷ going ∷ item 1 7 ∷ []));
     }
     -- B = 2, N = 2: the enqueue at position 1 takes 6 steps, at position 2 takes 7, at 3 takes 5; the one at position 4, nothing
     -- dequeued, meets 8 on its fourth
@@ -62,12 +66,13 @@ table =
           ++ (startEnqueue 1 13 ∷ times 5 (step 1))
           ++ (startEnqueue 1 14 ∷ times 4 (step 1));
       replies =
-          ok
-          ∷ (started 1 ∷ goings 3 ++ (ended ∷ []))
+          all
+          (ok ∷ (started 1 ∷ goings 3 ++ (ended ∷ []))
           ++ (started 2 ∷ goings 5 ++ (ended ∷ []))
           ++ (started 3 ∷ goings 6 ++ (ended ∷ []))
           ++ (started 4 ∷ goings 4 ++ (ended ∷ []))
-          ++ (started 5 ∷ goings 3 ++ (refused 8 ∷ []));
+          ++ (started 5 ∷ goings 3))
+          ++ (refused 8 ∷ []);
     }
     -- B = 4. Producer 1 takes 0 and stops before phase 9. The dequeue steps twice. Producer 1 ends; producer 2 enqueues and
     -- ends. Five more steps give item 1
@@ -81,12 +86,12 @@ table =
           ++ (step 1 ∷ startEnqueue 2 20 ∷ times 6 (step 2))
           ++ times 5 (step 0);
       replies =
-          ok
-          ∷ (started 1 ∷ goings 3)
+          all
+          (ok ∷ (started 1 ∷ goings 3)
           ++ (ok ∷ goings 2)
           ++ (ended ∷ started 2 ∷ goings 5 ++ (ended ∷ []))
           ++ goings 4
-          ++ (item 1 10 ∷ []);
+          ++ (item 1 10 ∷ []));
     }
     -- B = 1, N = 65, P = 0, P = 17, M = 0 give 1; B = 64, N = 64, P = 16 needs 12,696 words
     ∷ record { words = 52; sizes = sized 1 2 1 9; requests = []; replies = refused 1 ∷ [] }
@@ -94,14 +99,14 @@ table =
     ∷ record { words = 52; sizes = sized 2 2 0 9; requests = []; replies = refused 1 ∷ [] }
     ∷ record { words = 52; sizes = sized 2 2 17 9; requests = []; replies = refused 1 ∷ [] }
     ∷ record { words = 52; sizes = sized 2 2 1 0; requests = []; replies = refused 1 ∷ [] }
-    ∷ record { words = 12696; sizes = sized 64 64 16 9; requests = []; replies = ok ∷ [] }
+    ∷ record { words = 12696; sizes = sized 64 64 16 9; requests = []; replies = all (ok ∷ []) }
     ∷ record { words = 12695; sizes = sized 64 64 16 9; requests = []; replies = refused 2 ∷ [] }
     -- M = 1: once enqueue 1 has ended, a second enqueue start gives 6
     ∷ record {
       words = 52;
       sizes = sized 2 2 1 1;
       requests = startEnqueue 1 7 ∷ times 4 (step 1) ++ (startEnqueue 1 8 ∷ []);
-      replies = ok ∷ started 1 ∷ goings 3 ++ (ended ∷ refused 6 ∷ []);
+      replies = all (ok ∷ started 1 ∷ goings 3 ++ (ended ∷ [])) ++ (refused 6 ∷ []);
     }
     ∷ []
 
