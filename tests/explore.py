@@ -15,9 +15,10 @@ import judge_model as jm
 
 # B, N, P, M of the cases that the default run explores whole.
 SMALL_CASES = ((2, 2, 1, 4), (2, 3, 1, 6), (2, 2, 2, 2), (2, 2, 2, 3), (2, 3, 2, 3))
-HISTORY_CASES = ((2, 2, 2, 2, 16), (2, 3, 2, 3, 13))  # B, N, P, M and the number of calls
+HISTORY_CASES = ((2, 2, 2, 2, 18), (2, 3, 2, 3, 16))  # B, N, P, M and the number of calls
 EXPECTED_REFUSALS = (4, 5, 6, 7, 8)  # on a store that only the engine has written
 ALL_ORDERS_CALLS = 9  # histories of at most so many calls are tried in all orders
+RANDOM_RUNS = 500
 
 
 class Result(NamedTuple):
@@ -221,7 +222,7 @@ def main(arguments):
     if not arguments:
         for case in HISTORY_CASES:
             report('histories', case, explore_histories, *case)
-        report('random runs', 'seeds 0 to 399', random_runs, range(400))
+        report('random runs', RANDOM_RUNS, random_runs, range(RANDOM_RUNS))
 
 
 def report(what, case, run, *arguments):

@@ -421,7 +421,7 @@ def _(v):
     return all(v.is_taken(p.call) or v.state_at(p.L) == SET for p in v.in_phases(10, 11))
 
 
-@clause('producer 2-9: its call is not taken')
+@clause('producer 1-9: its call is not taken')
 def _(v):
     return not any(v.is_taken(p.call) for p in v.in_phases(1, 9))
 

@@ -8,3 +8,8 @@ pub mod Consumer
 pub mod Request
 pub mod Play
 pub mod Runs
+pub mod Address
+pub mod Readback
+pub mod Refusal
+pub mod InRange
+pub mod Pick

@@ -1,0 +1,176 @@
+"""The invariants and demand 3 on reachable states, and that the checks themselves can fail."""
+
+import random
+import unittest
+
+import explore
+import intake_model as im
+import invariants
+from intake_model import EMPTY, SET, USE_RETIRED
+from test_model import TRAPS
+
+PARTLY = (2, 2, 2, 4)  # explored up to a number of states, beside the small cases that are explored whole
+PARTLY_STATES = 130_000
+
+
+def held_in(v, phase):
+    return [p.held for p in v.producers if p.phase == phase]
+
+
+# What an exploration has to meet, or it shows little.
+SITUATIONS = {
+    'a producer goes back': lambda v: v.in_phases(7, 7),
+    'a producer that went back sets index 1': lambda v: any(p.back and p.L % v.B == 1 for p in v.in_phases(9, 9)),
+    'a producer in 3 to 6 holds a retired record': lambda v: any(v.use[p.held] == USE_RETIRED for p in v.in_phases(3, 6)),
+    'a producer in 11 holds a retired record': lambda v: any(v.use[r] == USE_RETIRED for r in held_in(v, 11)),
+    'a link is lost in 5': lambda v: any(v.next[r] is not None for r in held_in(v, 5)),
+    'a link is lost in 11': lambda v: any(v.next[r] is not None for r in held_in(v, 11)),
+    'no record is free in 4': lambda v: v.in_phases(4, 4) and not im.free_records(v.words),
+    'no record is free in 10': lambda v: v.in_phases(10, 10) and not im.free_records(v.words),
+    'a record is linked for the second time': lambda v: v.hi > v.N,
+    'the tail record lags by two': lambda v: v.hi >= v.tp + 2,
+    'the head record has its end to be left': lambda v: v.hp == v.B * v.lo and v.lo < v.tp,
+    'the scan stands at a record\'s end': lambda v: v.consumer.phase == 3 and cursor_at_end(v),
+    'the rescan stands at a record\'s end': lambda v: v.consumer.phase == 5 and cursor_at_end(v),
+    'an entry is set behind the scan': lambda v: v.consumer.phase == 4 and v.set_positions(v.consumer.cursor_position),
+    'an entry is set behind the rescan': lambda v: v.consumer.phase == 5 and v.set_positions(v.consumer.cursor_position),
+    'an item is found past an empty entry': lambda v: v.consumer.phase == 7 and v.state_at(v.hp) == EMPTY,
+    'an item is found past a set entry': lambda v: v.consumer.phase == 7 and v.consumer.found_position > v.hp
+    and v.state_at(v.hp) == SET,
+}
+
+
+def cursor_at_end(v):
+    return v.consumer.cursor_position == v.B * v.place[v.consumer.cursor]
+
+
+class Reachable(unittest.TestCase):
+    """The intake as it is."""
+
+    def test_every_state_of_small_cases(self):
+        """A clause that fails on a reachable state, a reply 3 or 9, or an exploration that meets too little."""
+        met = set()
+
+        def note(v):
+            met.update(name for name in SITUATIONS.keys() - met if SITUATIONS[name](v))
+            return True
+
+        clauses = invariants.CLAUSES | {'situations': note}
+        for case in explore.SMALL_CASES:
+            result = explore.explore(*case, clauses=clauses)
+            self.assertIsNone(result.violation, case)
+            self.assertTrue(result.whole)
+        result = explore.explore(*PARTLY, limit=PARTLY_STATES, clauses=clauses)
+        self.assertIsNone(result.violation)
+        self.assertEqual(set(SITUATIONS) - met, set())
+
+    def test_every_short_list_of_calls(self):
+        """A history that is not linearizable, or items left that no linearization leaves, by all orders."""
+        for case in explore.HISTORY_CASES:
+            self.assertIsNone(explore.explore_histories(*case).violation, case)
+
+    def test_random_runs(self):
+        """A clause or demand 3 that fails with larger records, more of them, more producers, or a stopped one."""
+        accepted, violation = explore.random_runs(range(explore.RANDOM_RUNS))
+        self.assertIsNone(violation)
+        self.assertGreater(accepted, 50_000)
+
+
+class OneCallLate(im.Intake):
+    """A wrong engine that gives the item's call number as one less."""
+
+    def read_item(self):
+        reply = super().read_item()
+        self.put(im.ITEM_CALL, max(1, self.mine(im.ITEM_CALL) - 1))
+        return reply
+
+
+class AnswersEmptyUnread(im.Intake):
+    """A wrong engine whose dequeue replies empty before it reads."""
+
+    def front(self):
+        return self.idle(im.NOTHING)
+
+
+class Sensitivity(unittest.TestCase):
+    """The checks fail where they should."""
+
+    def test_wrong_engines_are_caught(self):
+        """An exploration blind to a trap of document 01. The tail record of one is right but late, so it goes uncaught
+        here; its own run shows that it stalls."""
+        caught = [trap.__name__ for trap in TRAPS if wrong_engine_is_caught(trap)]
+        self.assertEqual(caught, ['RescansPastTheHead', 'StopsTwoShort', 'ReadsTheHeadFirst', 'ReusesHeldRecords'])
+
+    def test_wrong_answers_break_demand_3(self):
+        """A check of demand 3 by all orders, or by the polynomial checks, that passes wrong answers."""
+        for engine in (OneCallLate, AnswersEmptyUnread):
+            self.assertIsNotNone(explore.explore_histories(2, 2, 1, 2, 20, engine).violation)
+            recorder = im.Recorder(2, 2, 1, 9, engine=engine)
+            for v in range(2):
+                recorder.run([('e', 1, v)] + [('s', 1)] * 6)
+            recorder.run(([('d',)] + [('s', 0)] * 3) * 2)
+            self.assertFalse(explore.demand_3_long(recorder.words, recorder.history))
+
+    def test_each_clause_can_fail(self):
+        """A clause that holds of every store: each fails on some damaged copy of a reachable state."""
+        rng = random.Random(8)
+        failed = {'ranges'} if invariants.CLAUSES['ranges'](out_of_range_view()) is False else set()
+        states = list(reachable_states(rng, 40))
+        for _ in range(20_000):
+            words, ghost = rng.choice(states)
+            damaged = damaged_words(rng, words), damaged_ghost(rng, ghost)
+            if im.in_range(damaged[0]):
+                failed.update(invariants.broken(*damaged))
+            if len(failed) == len(invariants.CLAUSES):
+                break
+        self.assertEqual(set(invariants.CLAUSES) - failed, set())
+
+
+def wrong_engine_is_caught(engine):
+    if explore.explore(2, 2, 2, 4, engine, limit=20_000).violation:
+        return True
+    return explore.random_runs(range(40), engine)[1] is not None
+
+
+def out_of_range_view():
+    words = explore.open_words(2, 2, 1, 3)
+    words[im.TAIL] = 4
+    return invariants.View(words, invariants.Ghost())
+
+
+def reachable_states(rng, runs):
+    """States of random runs, words and ghost."""
+    for _ in range(runs):
+        words, ghost = explore.open_words(2, 3, 3, 12), invariants.Ghost()
+        for _ in range(120):
+            call, record = rng.choice(list(explore.moves(words, im.Intake)))
+            after, reply = explore.after(words, call, record, im.Intake)
+            ghost, words = ghost.after(call, words, reply), after
+            yield words, ghost
+
+
+def damaged_words(rng, words):
+    words = list(words)
+    for _ in range(rng.randint(0, 2)):
+        last = rng.choice((words[5], len(words)))  # the threads' words are few, so hit them more often
+        words[rng.randrange(im.TAIL, last)] = rng.randint(0, rng.choice((3, 12)))
+    return words
+
+
+def damaged_ghost(rng, ghost):
+    changes = {
+        'own': tuple(rng.sample(ghost.own, len(ghost.own)))[rng.randint(0, 1) :] + (rng.randint(0, 13),),
+        'ended': ghost.ended ^ 2 << rng.randrange(12),
+        'taken': ghost.taken ^ 2 << rng.randrange(12),
+        'values': ghost.values[1:],
+        'before_dequeue': rng.randrange(2**13),
+        'ended_before': tuple(rng.randrange(2**13) & ~1 for _ in ghost.ended_before),
+        'good': False,
+        'running': (),
+    }
+    field = rng.choice([None, *changes])
+    return ghost if field is None else ghost._replace(**{field: changes[field]})
+
+
+if __name__ == '__main__':
+    unittest.main()
