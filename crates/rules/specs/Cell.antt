@@ -2,15 +2,17 @@
 use mathlib.Core.Bool.{Bool, true, false, _&&_, cond}
 use mathlib.Core.List.{List, [], _∷_}
 use Prim.Native.Nat.{ℕ, suc, _+_, _*_}
-use lib.Dec.{ltb, eqb}
+use lib.Dec.{leb, ltb, eqb}
 use lib.ListN.{getD, set, replicate}
 use lib.Seq.{sets}
 use Rattle.rules.specs.Sizes.{Sizes, recordWords, firstRecord}
 
--- A cell is a word with a name: a word of the contents, of a thread, of a record before its entries, of an entry.
+-- A cell is a word with a name: a word of the contents, of the consumer (thread 0), of a producer (threads 1 to P), of a record
+-- before its entries, of an entry.
 pub data Cell : Type 0 where
   content : (k : ℕ) → Cell
-  own : (t k : ℕ) → Cell
+  consumer : (k : ℕ) → Cell
+  producer : (t k : ℕ) → Cell
   part : (r k : ℕ) → Cell
   entry : (r i k : ℕ) → Cell
 
@@ -30,47 +32,49 @@ headPosition = content 9
 abbrev pub starts : Cell
 starts = content 10
 
--- A thread's phase, 0 while it is idle.
+-- A producer's phase, 0 while it is idle, call number, value, position L, held record, claimed record, and whether phase 7 was taken. Word 7 is spare.
 abbrev pub phase : ℕ → Cell
-phase t = own t 0
+phase t = producer t 0
 
--- A producer's call number, value, position L, held record, claimed record, and whether phase 7 was taken. Word 7 is spare.
 abbrev pub call : ℕ → Cell
-call t = own t 1
+call t = producer t 1
 
 abbrev pub value : ℕ → Cell
-value t = own t 2
+value t = producer t 2
 
 abbrev pub position : ℕ → Cell
-position t = own t 3
+position t = producer t 3
 
 abbrev pub held : ℕ → Cell
-held t = own t 4
+held t = producer t 4
 
 abbrev pub claimed : ℕ → Cell
-claimed t = own t 5
+claimed t = producer t 5
 
 abbrev pub backed : ℕ → Cell
-backed t = own t 6
+backed t = producer t 6
 
--- The consumer's cursor, found entry, and the item read from it. Word 7 is spare.
+-- The consumer's phase, cursor, found entry, and the item read from it. Word 7 is spare.
+abbrev pub consumerPhase : Cell
+consumerPhase = consumer 0
+
 abbrev pub cursorRecord : Cell
-cursorRecord = own 0 1
+cursorRecord = consumer 1
 
 abbrev pub cursorPosition : Cell
-cursorPosition = own 0 2
+cursorPosition = consumer 2
 
 abbrev pub foundRecord : Cell
-foundRecord = own 0 3
+foundRecord = consumer 3
 
 abbrev pub foundPosition : Cell
-foundPosition = own 0 4
+foundPosition = consumer 4
 
 abbrev pub itemNumber : Cell
-itemNumber = own 0 5
+itemNumber = consumer 5
 
 abbrev pub itemValue : Cell
-itemValue = own 0 6
+itemValue = consumer 6
 
 -- Record: place (1 for the first in the queue), next, prev, use (0 free, 1 claimed, 2 linked, 3 retired).
 abbrev pub place : ℕ → Cell
@@ -98,14 +102,16 @@ entryValue r i = entry r i 2
 -- Where a cell is.
 abbrev pub address : Sizes → Cell → ℕ
 address z (content k) = k
-address z (own t k) = 16 + 8 * t + k
+address z (consumer k) = 16 + k
+address z (producer t k) = 16 + 8 * t + k
 address z (part r k) = firstRecord z + r * recordWords z + k
 address z (entry r i k) = firstRecord z + r * recordWords z + (4 + 3 * i + k)
 
 -- Whether a store of these sizes has the cell.
 abbrev pub there : Sizes → Cell → Bool
 there z (content k) = ltb k 16
-there z (own t k) = ltb t (suc (z .P)) && ltb k 8
+there z (consumer k) = ltb k 8
+there z (producer t k) = leb 1 t && leb t (z .P) && ltb k 8
 there z (part r k) = ltb r (z .N) && ltb k 4
 there z (entry r i k) = ltb r (z .N) && ltb i (z .B) && ltb k 3
 
@@ -117,17 +123,20 @@ Reader = Cell → ℕ
 unfoldable pub reader : Sizes → List ℕ → Reader
 reader z m c = cond (there z c) (getD m (address z c) 0) 0
 
--- A write: a value into a cell, zero into the eight words of a thread, zero into every word of a record.
+-- A write: a value into a cell, zero into the eight words of a thread, zero into every word of
+-- a record.
 infix 68 _:=_
 pub data Write : Type 0 where
   _:=_ : Cell → ℕ → Write
-  clear : (t : ℕ) → Write
+  clearConsumer : Write
+  clearProducer : (t : ℕ) → Write
   wipe : (r : ℕ) → Write
 
 -- A write, and a list of them in order, on the lent words.
 abbrev pub write : Sizes → List ℕ → Write → List ℕ
 write z m (c := v) = set m (address z c) v
-write z m (clear t) = sets m (16 + 8 * t) (replicate 8 0)
+write z m clearConsumer = sets m 16 (replicate 8 0)
+write z m (clearProducer t) = sets m (16 + 8 * t) (replicate 8 0)
 write z m (wipe r) = sets m (firstRecord z + r * recordWords z) (replicate (recordWords z) 0)
 
 unfoldable pub writes : Sizes → List ℕ → List Write → List ℕ
@@ -137,38 +146,57 @@ writes z m (w ∷ ws) = writes z (write z m w) ws
 -- Whether two cells are the same; fields are compared first.
 abbrev pub same : Cell → Cell → Bool
 same (content k) (content l) = eqb k l
-same (content k) (own t l) = false
-same (content k) (part r l) = false
-same (content k) (entry r i l) = false
-same (own t k) (content l) = false
-same (own t k) (own u l) = eqb k l && eqb t u
-same (own t k) (part r l) = false
-same (own t k) (entry r i l) = false
+same (content k) (consumer l) = false
+same (content k) (producer u l) = false
+same (content k) (part s l) = false
+same (content k) (entry s j l) = false
+same (consumer k) (content l) = false
+same (consumer k) (consumer l) = eqb k l
+same (consumer k) (producer u l) = false
+same (consumer k) (part s l) = false
+same (consumer k) (entry s j l) = false
+same (producer t k) (content l) = false
+same (producer t k) (consumer l) = false
+same (producer t k) (producer u l) = eqb k l && eqb t u
+same (producer t k) (part s l) = false
+same (producer t k) (entry s j l) = false
 same (part r k) (content l) = false
-same (part r k) (own t l) = false
+same (part r k) (consumer l) = false
+same (part r k) (producer u l) = false
 same (part r k) (part s l) = eqb k l && eqb r s
-same (part r k) (entry s i l) = false
+same (part r k) (entry s j l) = false
 same (entry r i k) (content l) = false
-same (entry r i k) (own t l) = false
+same (entry r i k) (consumer l) = false
+same (entry r i k) (producer u l) = false
 same (entry r i k) (part s l) = false
 same (entry r i k) (entry s j l) = eqb k l && (eqb r s && eqb i j)
 
-abbrev pub ofThread : ℕ → Cell → Bool
-ofThread t (content k) = false
-ofThread t (own u k) = eqb t u
-ofThread t (part r k) = false
-ofThread t (entry r i k) = false
+abbrev pub ofConsumer : Cell → Bool
+ofConsumer (content k) = false
+ofConsumer (consumer k) = true
+ofConsumer (producer t k) = false
+ofConsumer (part r k) = false
+ofConsumer (entry r i k) = false
+
+abbrev pub ofProducer : ℕ → Cell → Bool
+ofProducer t (content k) = false
+ofProducer t (consumer k) = false
+ofProducer t (producer u k) = eqb t u
+ofProducer t (part r k) = false
+ofProducer t (entry r i k) = false
 
 abbrev pub ofRecord : ℕ → Cell → Bool
 ofRecord r (content k) = false
-ofRecord r (own t k) = false
+ofRecord r (consumer k) = false
+ofRecord r (producer t k) = false
 ofRecord r (part s k) = eqb r s
 ofRecord r (entry s i k) = eqb r s
 
 -- The same on a reader.
 abbrev pub update : Reader → Write → Reader
 update σ (c := v) d = cond (same c d) v (σ d)
-update σ (clear t) d = cond (ofThread t d) 0 (σ d)
+update σ clearConsumer d = cond (ofConsumer d) 0 (σ d)
+update σ (clearProducer t) d = cond (ofProducer t d) 0 (σ d)
 update σ (wipe r) d = cond (ofRecord r d) 0 (σ d)
 
 abbrev pub after : Reader → List Write → Reader

@@ -5,7 +5,7 @@ use Prim.Native.Nat.{ℕ, zero, suc, _+_, _*_}
 use lib.Dec.{leb, ltb, eqb}
 use lib.ListN.{getD}
 use Rattle.rules.specs.Sizes.{Sizes}
-use Rattle.rules.specs.Cell.{Reader, Write, _:=_, clear, tail, tailRecord, headRecord, headPosition, phase, cursorRecord, cursorPosition, foundRecord, foundPosition, itemNumber, itemValue, place, next, used, state, entryNumber, entryValue}
+use Rattle.rules.specs.Cell.{Reader, Write, _:=_, clearConsumer, tail, tailRecord, headRecord, headPosition, consumerPhase, cursorRecord, cursorPosition, foundRecord, foundPosition, itemNumber, itemValue, place, next, used, state, entryNumber, entryValue}
 use Rattle.rules.specs.Rule.{Answer, Reply, refuse, reply, empty, item, goes, need, upTo, atEnd, inside, cross}
 
 -- an entry's state by cases: empty, set, handled
@@ -16,7 +16,7 @@ byState (suc (suc s)) blank set handled = handled
 
 -- The dequeue ends and answers empty.
 abbrev pub endsEmpty : Answer
-endsEmpty = reply empty (clear 0 ∷ [])
+endsEmpty = reply empty (clearConsumer ∷ [])
 
 module _ (z : Sizes) (σ : Reader) where
   -- 1. Front. At the end of the head record: empty if it is also the tail record; otherwise next becomes head record, head
@@ -30,8 +30,8 @@ module _ (z : Sizes) (σ : Reader) where
       (cross z σ h λ n p. goes (headRecord := suc n ∷ headPosition := p ∷ used h := 3 ∷ [])))
       (inside z σ h (σ headPosition)
       λ i. byState (σ (state h i))
-      (goes (phase 0 := 2 ∷ []))
-      (goes (foundRecord := suc h ∷ foundPosition := σ headPosition ∷ phase 0 := 6 ∷ []))
+      (goes (consumerPhase := 2 ∷ []))
+      (goes (foundRecord := suc h ∷ foundPosition := σ headPosition ∷ consumerPhase := 6 ∷ []))
       (upTo (z .M) (suc (σ headPosition)) (goes (headPosition := suc (σ headPosition) ∷ []))))
 
   -- 2. Read tail: equal to the head position is empty; otherwise the cursor is the next position; to 3.
@@ -39,7 +39,7 @@ module _ (z : Sizes) (σ : Reader) where
   readTail =
       cond (eqb (σ tail) (σ headPosition)) endsEmpty
       (upTo (z .M) (suc (σ headPosition))
-      (goes (cursorRecord := σ headRecord ∷ cursorPosition := suc (σ headPosition) ∷ phase 0 := 3 ∷ [])))
+      (goes (cursorRecord := σ headRecord ∷ cursorPosition := suc (σ headPosition) ∷ consumerPhase := 3 ∷ [])))
 
   -- 3. If the cursor stands at its record's end: empty if that is the tail record, otherwise cross to next, the cursor at its
   -- first position (so in every crossing); stay. Else read tail: cursor at tail is empty; otherwise to 4.
@@ -49,7 +49,7 @@ module _ (z : Sizes) (σ : Reader) where
       λ r. cond (atEnd z σ r (σ cursorPosition))
       (cond (eqb (σ tailRecord) (suc r)) endsEmpty
       (cross z σ r λ n p. goes (cursorRecord := suc n ∷ cursorPosition := p ∷ [])))
-      (cond (eqb (σ cursorPosition) (σ tail)) endsEmpty (goes (phase 0 := 4 ∷ [])))
+      (cond (eqb (σ cursorPosition) (σ tail)) endsEmpty (goes (consumerPhase := 4 ∷ [])))
 
   -- 4. Read the entry: set makes it found, and the cursor returns to the head; to 5. Otherwise advance; to 3.
   unfoldable pub readEntry : Answer
@@ -62,15 +62,15 @@ module _ (z : Sizes) (σ : Reader) where
       ∷ foundPosition := σ cursorPosition
       ∷ cursorRecord := σ headRecord
       ∷ cursorPosition := σ headPosition
-      ∷ phase 0 := 5
+      ∷ consumerPhase := 5
       ∷ []))
-      (upTo (z .M) (suc (σ cursorPosition)) (goes (cursorPosition := suc (σ cursorPosition) ∷ phase 0 := 3 ∷ [])))
+      (upTo (z .M) (suc (σ cursorPosition)) (goes (cursorPosition := suc (σ cursorPosition) ∷ consumerPhase := 3 ∷ [])))
 
   -- When the cursor's position then equals that of found, the same step goes to 6; otherwise stay. (What moved is written
   -- first; in 6 the cursor is not in use.)
   abbrev pub rescanned : (cursor found : ℕ) → List Write → List Write → Answer
   rescanned cursor found stays moved =
-      cond (eqb cursor found) (goes (moved ++ (cursorRecord := 0 ∷ cursorPosition := 0 ∷ phase 0 := 6 ∷ []))) (goes (moved ++ stays))
+      cond (eqb cursor found) (goes (moved ++ (cursorRecord := 0 ∷ cursorPosition := 0 ∷ consumerPhase := 6 ∷ []))) (goes (moved ++ stays))
 
   -- 5. Rescan from the head, head included, to the position before found, that one included. One step either crosses, when the
   -- cursor stands at a record's end, or reads one entry. A set entry becomes found and the cursor returns to the head; any
@@ -93,7 +93,7 @@ module _ (z : Sizes) (σ : Reader) where
   readItem =
       need (σ foundRecord)
       λ r. inside z σ r (σ foundPosition)
-      λ i. goes (itemNumber := σ (entryNumber r i) ∷ itemValue := σ (entryValue r i) ∷ phase 0 := 7 ∷ [])
+      λ i. goes (itemNumber := σ (entryNumber r i) ∷ itemValue := σ (entryValue r i) ∷ consumerPhase := 7 ∷ [])
 
   -- 7. Mark handled; if found is the head position, it advances. Reply item.
   unfoldable pub markHandled : Answer
@@ -102,12 +102,12 @@ module _ (z : Sizes) (σ : Reader) where
       λ r. inside z σ r (σ foundPosition)
       λ i. cond (eqb (σ foundPosition) (σ headPosition))
       (upTo (z .M) (suc (σ headPosition))
-      (reply (item (σ itemNumber) (σ itemValue)) (state r i := 2 ∷ headPosition := suc (σ headPosition) ∷ clear 0 ∷ [])))
-      (reply (item (σ itemNumber) (σ itemValue)) (state r i := 2 ∷ clear 0 ∷ []))
+      (reply (item (σ itemNumber) (σ itemValue)) (state r i := 2 ∷ headPosition := suc (σ headPosition) ∷ clearConsumer ∷ [])))
+      (reply (item (σ itemNumber) (σ itemValue)) (state r i := 2 ∷ clearConsumer ∷ []))
 
 -- The consumer's rule in each phase; refusal 7 while it is idle.
 abbrev pub consumerRules : List (Sizes → Reader → Answer)
 consumerRules = (λ z σ. refuse 7) ∷ front ∷ readTail ∷ scan ∷ readEntry ∷ rescan ∷ readItem ∷ markHandled ∷ []
 
 unfoldable pub consumerStep : Sizes → Reader → Answer
-consumerStep z σ = getD consumerRules (σ (phase 0)) (λ z σ. refuse 7) z σ
+consumerStep z σ = getD consumerRules (σ (consumerPhase)) (λ z σ. refuse 7) z σ

@@ -6,13 +6,13 @@ use Prim.Native.Nat.{ℕ, zero, suc, _+_, _≤_, _<_}
 use native.Mathlib.Nat.{zero-add}
 use native.Mathlib.Decide.{decLt, ℕ-discrete}
 use native.Mathlib.Omega.{arith}
-use lib.Dec.{leb, eqb}
+use lib.Dec.{eqb}
 use lib.ListN.{length, getD}
 use borrow.Author.Tests.{le-leb, ne-eqb}
 use Rattle.history.specs.Lists.{All}
 use Rattle.rules.specs.Sizes.{Sizes}
-use Rattle.rules.specs.Cell.{Cell, content, own, part, entry, Reader, phase, Write, _:=_, clear, wipe, same, ofThread, ofRecord, update, after}
-use Rattle.rules.specs.Range.{Sort, any, ofSort, contentSorts, partSorts, entrySorts, threadSorts, mostPhase, ofSorts, every, threadInRange, recordInRange, inRange}
+use Rattle.rules.specs.Cell.{Cell, content, consumer, producer, part, entry, Reader, Write, _:=_, clearConsumer, clearProducer, wipe, same, update, after}
+use Rattle.rules.specs.Range.{Sort, any, ofSort, contentSorts, partSorts, entrySorts, consumerSorts, producerSorts, ofSorts, every, threadInRange, consumerInRange, producerInRange, recordInRange, inRange}
 use Rattle.rules.specs.Address.{both, and-true, There}
 use Rattle.rules.specs.Readback.{true-false, same-eq}
 
@@ -58,14 +58,16 @@ row-of z row ss h =
 -- The sort of a word outside the threads; a thread's words go by its phase.
 abbrev pub sortOf : Sizes → Cell → Sort
 sortOf z (content k) = getD (contentSorts z) k any
-sortOf z (own t k) = any
+sortOf z (consumer k) = any
+sortOf z (producer t k) = any
 sortOf z (part r k) = getD partSorts k any
 sortOf z (entry r i k) = getD entrySorts k any
 
 -- Every word is in its range.
 pub record InRange (z : Sizes) (σ : Reader) : Type 0 where
   pub words : (c : Cell) → There z c → ofSort z (sortOf z c) (σ c) ≡ true
-  pub threads : (t : ℕ) → t < suc (z .P) → threadInRange z σ t ≡ true
+  pub consuming : consumerInRange z σ ≡ true
+  pub producing : (t : ℕ) → 1 ≤ t → t ≤ z .P → producerInRange z σ t ≡ true
 
 module _ (z : Sizes) (σ : Reader) where
   -- the three parts of the test
@@ -78,39 +80,54 @@ module _ (z : Sizes) (σ : Reader) where
   entryTest : ℕ → ℕ → Bool
   entryTest r i = ofSorts z (λ k. σ (entry r i k)) 0 entrySorts
 
+  producersTest : Bool
+  producersTest = every (z .P) (λ p. producerInRange z σ (suc p))
+
+  one-producer : producersTest ≡ true → (t : ℕ) → 1 ≤ t → t ≤ z .P → producerInRange z σ t ≡ true
+  unfolding producersTest
+  one-producer e zero h l = absurd (omega arith)
+  one-producer e (suc p) h l = every-at (z .P) (λ p. producerInRange z σ (suc p)) e p l
+
   pub range-has : inRange z σ ≡ true → InRange z σ
-  unfolding inRange contentsTest partsTest entryTest
+  unfolding inRange contentsTest partsTest entryTest producersTest
   range-has e =
-      let p = both (contentsTest && every (suc (z .P)) (threadInRange z σ)) (every (z .N) (recordInRange z σ)) e in
-      let q = both contentsTest (every (suc (z .P)) (threadInRange z σ)) (p .0) in
-      record { words = words (q .0) (every-at (z .N) (recordInRange z σ) (p .1)); threads = every-at (suc (z .P)) (threadInRange z σ) (q .1) }
+      let p = both (contentsTest && consumerInRange z σ && producersTest) (every (z .N) (recordInRange z σ)) e in
+      let q = both (contentsTest && consumerInRange z σ) producersTest (p .0) in
+      let c = both contentsTest (consumerInRange z σ) (q .0) in
+      record { words = words (c .0) (every-at (z .N) (recordInRange z σ) (p .1)); consuming = c .1; producing = one-producer (q .1) }
     where
-      words : contentsTest ≡ true → ((r : ℕ) → r < z .N → recordInRange z σ r ≡ true) → (c : Cell) → There z c → ofSort z (sortOf z c) (σ c) ≡ true
+      words : contentsTest ≡ true → ((r : ℕ) → r < z .N → recordInRange z σ r ≡ true) → (c : Cell) → There z c
+          → ofSort z (sortOf z c) (σ c) ≡ true
       words q p (content k) h = row-at z (λ j. σ (content j)) (contentSorts z) q k h
-      words q p (own t k) h = refl
-      words q p (part r k) h = row-at z (λ j. σ (part r j)) partSorts (both (partsTest r) (every (z .B) (entryTest r)) (p r (h .0)) .0) k (h .1)
+      words q p (consumer k) h = refl
+      words q p (producer t k) h = refl
+      words q p (part r k) h =
+          row-at z (λ j. σ (part r j)) partSorts (both (partsTest r) (every (z .B) (entryTest r)) (p r (h .0)) .0) k (h .1)
       words q p (entry r i k) h =
           row-at z (λ j. σ (entry r i j)) entrySorts
           (every-at (z .B) (entryTest r) (both (partsTest r) (every (z .B) (entryTest r)) (p r (h .0)) .1) i (h .1)) k (h .2)
 
   pub range-of : InRange z σ → inRange z σ ≡ true
-  unfolding inRange contentsTest partsTest entryTest
+  unfolding inRange contentsTest partsTest entryTest producersTest
   range-of i =
       and-true
-      (and-true (row-of z (λ k. σ (content k)) (contentSorts z) (λ k h. i .words (content k) h))
-      (every-of (suc (z .P)) (threadInRange z σ) (i .threads)))
+      (and-true
+      (and-true (row-of z (λ k. σ (content k)) (contentSorts z) (λ k h. i .words (content k) h)) (i .consuming))
+      (every-of (z .P) (λ p. producerInRange z σ (suc p)) (λ p l. i .producing (suc p) (omega arith) l)))
       (every-of (z .N) (recordInRange z σ)
       (λ r h.
       and-true (row-of z (λ k. σ (part r k)) partSorts (λ k g. i .words (part r k) (h, g)))
       (every-of (z .B) (entryTest r) (λ e l. row-of z (λ k. σ (entry r e k)) entrySorts (λ k g. i .words (entry r e k) (h, l, g))))))
 
--- A write in range of a call of thread t: its own words, which go by its phase, and any other word within its sort.
+-- A write in range of a call of thread t: that thread's words, which go by its phase, and any other word within its sort.
 abbrev pub InSort : Sizes → ℕ → Write → Type 0
 InSort z t (content k := v) = ofSort z (sortOf z (content k)) v ≡ true
-InSort z t (own u k := v) = u ≡ t
+InSort z t (consumer k := v) = t ≡ 0
+InSort z t (producer u k := v) = t ≡ u
 InSort z t (part r k := v) = ofSort z (sortOf z (part r k)) v ≡ true
 InSort z t (entry r i k := v) = ofSort z (sortOf z (entry r i k)) v ≡ true
-InSort z t (clear u) = u ≡ t
+InSort z t clearConsumer = t ≡ 0
+InSort z t (clearProducer u) = t ≡ u
 InSort z t (wipe r) = Unit
 
 -- zero is of every sort that a record's words have
@@ -143,25 +160,36 @@ module _ (z : Sizes) (t : ℕ) where
   cond-in-sort s true x p q = p
   cond-in-sort s false x p q = q
 
-  clear-in-sort : (σ : Reader) (u : ℕ) → Words σ → Words (update σ (clear u))
-  clear-in-sort σ u i (content k) g = i (content k) g
-  clear-in-sort σ u i (own v k) g = refl
-  clear-in-sort σ u i (part r k) g = i (part r k) g
-  clear-in-sort σ u i (entry r e k) g = i (entry r e k) g
+  clear-consumer-in-sort : (σ : Reader) → Words σ → Words (update σ clearConsumer)
+  clear-consumer-in-sort σ i (content k) g = i (content k) g
+  clear-consumer-in-sort σ i (consumer k) g = refl
+  clear-consumer-in-sort σ i (producer v k) g = refl
+  clear-consumer-in-sort σ i (part r k) g = i (part r k) g
+  clear-consumer-in-sort σ i (entry r e k) g = i (entry r e k) g
+
+  clear-producer-in-sort : (σ : Reader) (u : ℕ) → Words σ → Words (update σ (clearProducer u))
+  clear-producer-in-sort σ u i (content k) g = i (content k) g
+  clear-producer-in-sort σ u i (consumer k) g = refl
+  clear-producer-in-sort σ u i (producer v k) g = refl
+  clear-producer-in-sort σ u i (part r k) g = i (part r k) g
+  clear-producer-in-sort σ u i (entry r e k) g = i (entry r e k) g
 
   wipe-in-sort : (σ : Reader) (r : ℕ) → Words σ → Words (update σ (wipe r))
   wipe-in-sort σ r i (content k) g = i (content k) g
-  wipe-in-sort σ r i (own v k) g = refl
+  wipe-in-sort σ r i (consumer k) g = refl
+  wipe-in-sort σ r i (producer v k) g = refl
   wipe-in-sort σ r i (part s k) g = cond-in-sort (getD partSorts k any) (eqb r s) (σ (part s k)) (zero-part z k) (i (part s k) g)
   wipe-in-sort σ r i (entry s e k) g =
       cond-in-sort (getD entrySorts k any) (eqb r s) (σ (entry s e k)) (zero-entry z k) (i (entry s e k) g)
 
   write-in-sort : (σ : Reader) (w : Write) → InSort z t w → Words σ → Words (update σ w)
   write-in-sort σ (content k := v) h i = put-in-sort σ (content k) v h i
-  write-in-sort σ (own u k := v) h i = put-in-sort σ (own u k) v refl i
+  write-in-sort σ (consumer k := v) h i = put-in-sort σ (consumer k) v refl i
+  write-in-sort σ (producer u k := v) h i = put-in-sort σ (producer u k) v refl i
   write-in-sort σ (part r k := v) h i = put-in-sort σ (part r k) v h i
   write-in-sort σ (entry r e k := v) h i = put-in-sort σ (entry r e k) v h i
-  write-in-sort σ (clear u) h i = clear-in-sort σ u i
+  write-in-sort σ clearConsumer h i = clear-consumer-in-sort σ i
+  write-in-sort σ (clearProducer u) h i = clear-producer-in-sort σ u i
   write-in-sort σ (wipe r) h i = wipe-in-sort σ r i
 
   writes-in-sort : (σ : Reader) (ws : List Write) → All (InSort z t) ws → Words σ → Words (after σ ws)
@@ -169,28 +197,45 @@ module _ (z : Sizes) (t : ℕ) where
   writes-in-sort σ (w ∷ ws) h i = writes-in-sort (update σ w) ws (h .1) (write-in-sort σ w (h .0) i)
 
   -- no other thread's words are written
-  own-untouched : (σ : Reader) (w : Write) → InSort z t w → (u k : ℕ) → (u ≡ t → ⊥) → update σ w (own u k) ≡ σ (own u k)
-  own-untouched σ (content l := v) h u k n = refl
-  own-untouched σ (own x l := v) h u k n =
-      rw (ne-eqb x u (λ e. n (sym e ∙ h)), and-false (eqb l k)) refl
-  own-untouched σ (part r l := v) h u k n = refl
-  own-untouched σ (entry r e l := v) h u k n = refl
-  own-untouched σ (clear x) h u k n = rw (ne-eqb x u (λ e. n (sym e ∙ h))) refl
-  own-untouched σ (wipe r) h u k n = refl
+  consumer-kept : (σ : Reader) (w : Write) → InSort z t w → (t ≡ 0 → ⊥) → (k : ℕ) → update σ w (consumer k) ≡ σ (consumer k)
+  consumer-kept σ (content l := v) h n k = refl
+  consumer-kept σ (consumer l := v) h n k = absurd (n h)
+  consumer-kept σ (producer x l := v) h n k = refl
+  consumer-kept σ (part r l := v) h n k = refl
+  consumer-kept σ (entry r e l := v) h n k = refl
+  consumer-kept σ clearConsumer h n k = absurd (n h)
+  consumer-kept σ (clearProducer x) h n k = refl
+  consumer-kept σ (wipe r) h n k = refl
 
-  pub others-untouched : (σ : Reader) (ws : List Write) → All (InSort z t) ws → (u k : ℕ) → (u ≡ t → ⊥) → after σ ws (own u k) ≡ σ (own u k)
-  others-untouched σ [] h u k n = refl
-  others-untouched σ (w ∷ ws) h u k n = others-untouched (update σ w) ws (h .1) u k n ∙ own-untouched σ w (h .0) u k n
+  producer-kept : (σ : Reader) (w : Write) → InSort z t w → (u : ℕ) → (t ≡ u → ⊥) → (k : ℕ) → update σ w (producer u k) ≡ σ (producer u k)
+  producer-kept σ (content l := v) h u n k = refl
+  producer-kept σ (consumer l := v) h u n k = refl
+  producer-kept σ (producer x l := v) h u n k = rw (ne-eqb x u (λ e. n (h ∙ e)), and-false (eqb l k)) refl
+  producer-kept σ (part r l := v) h u n k = refl
+  producer-kept σ (entry r e l := v) h u n k = refl
+  producer-kept σ clearConsumer h u n k = refl
+  producer-kept σ (clearProducer x) h u n k = rw (ne-eqb x u (λ e. n (h ∙ e))) refl
+  producer-kept σ (wipe r) h u n k = refl
+
+  pub consumer-untouched : (σ : Reader) (ws : List Write) → All (InSort z t) ws → (t ≡ 0 → ⊥) → (k : ℕ) → after σ ws (consumer k) ≡ σ (consumer k)
+  consumer-untouched σ [] h n k = refl
+  consumer-untouched σ (w ∷ ws) h n k = consumer-untouched (update σ w) ws (h .1) n k ∙ consumer-kept σ w (h .0) n k
+
+  pub producer-untouched : (σ : Reader) (ws : List Write) → All (InSort z t) ws → (u : ℕ) → (t ≡ u → ⊥) → (k : ℕ) → after σ ws (producer u k) ≡ σ (producer u k)
+  producer-untouched σ [] h u n k = refl
+  producer-untouched σ (w ∷ ws) h u n k = producer-untouched (update σ w) ws (h .1) u n k ∙ producer-kept σ w (h .0) u n k
 
   -- Writes in range keep the store in range: those of a call of thread t, if its words are then in range for its phase.
   pub writes-keep-range : (σ : Reader) (ws : List Write) → All (InSort z t) ws → InRange z σ
-      → threadInRange z (after σ ws) t ≡ true → InRange z (after σ ws)
-  writes-keep-range σ ws h i own-row =
-      record { words = writes-in-sort σ ws h (i .words); threads = λ u l. go (ℕ-discrete u t) l }
+      → (t ≡ 0 → consumerInRange z (after σ ws) ≡ true) → (1 ≤ t → producerInRange z (after σ ws) t ≡ true) → InRange z (after σ ws)
+  writes-keep-range σ ws h i as-consumer as-producer =
+      record { words = writes-in-sort σ ws h (i .words); consuming = of-consumer (ℕ-discrete t 0); producing = λ u l g. of-producer (ℕ-discrete t u) l g }
     where
-      rowInRange : ℕ → (ℕ → ℕ) → Bool
-      rowInRange u row = leb (row 0) (mostPhase u) && ofSorts z row 1 (getD (threadSorts u) (row 0) [])
+      of-consumer : Dec (t ≡ 0) → consumerInRange z (after σ ws) ≡ true
+      of-consumer (yes e) = as-consumer e
+      of-consumer (no n) = ap (threadInRange z 7 consumerSorts) (fun-ext (consumer-untouched σ ws h n)) ∙ i .consuming
 
-      go : {u : ℕ} → Dec (u ≡ t) → u < suc (z .P) → threadInRange z (after σ ws) u ≡ true
-      go {u} (yes e) l = rw e own-row
-      go {u} (no n) l = ap (rowInRange u) (fun-ext (λ k. others-untouched σ ws h u k n)) ∙ i .threads u l
+      of-producer : {u : ℕ} → Dec (t ≡ u) → 1 ≤ u → u ≤ z .P → producerInRange z (after σ ws) u ≡ true
+      of-producer {u} (yes e) l g = subst (λ (x : ℕ). producerInRange z (after σ ws) x ≡ true) e (as-producer (omega arith))
+      of-producer {u} (no n) l g =
+          ap (threadInRange z 11 producerSorts) (fun-ext (λ k. producer-untouched σ ws h u n k)) ∙ i .producing u l g

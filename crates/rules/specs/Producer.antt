@@ -5,7 +5,7 @@ use Prim.Native.Nat.{ℕ, zero, suc, _+_, _*_}
 use lib.Dec.{leb, ltb, eqb}
 use lib.ListN.{getD}
 use Rattle.rules.specs.Sizes.{Sizes, mostPlace}
-use Rattle.rules.specs.Cell.{Reader, Write, _:=_, clear, wipe, tail, tailRecord, phase, call, value, position, held, claimed, backed, place, next, prev, used, state, entryNumber, entryValue}
+use Rattle.rules.specs.Cell.{Reader, Write, _:=_, clearProducer, wipe, tail, tailRecord, phase, call, value, position, held, claimed, backed, place, next, prev, used, state, entryNumber, entryValue}
 use Rattle.rules.specs.Rule.{Answer, Reply, refuse, reply, ended, goes, need, upTo, inside}
 
 module _ (z : Sizes) (σ : Reader) (t : ℕ) where
@@ -78,16 +78,16 @@ module _ (z : Sizes) (σ : Reader) (t : ℕ) where
       λ h. inside z σ h (σ (position t))
       λ i. cond (eqb i 1 && eqb (σ (backed t)) 0)
       (goes (state h i := 1 ∷ phase t := 10 ∷ []))
-      (reply ended (state h i := 1 ∷ clear t ∷ []))
+      (reply ended (state h i := 1 ∷ clearProducer t ∷ []))
 
   -- 10. If none is free, end; else claim; to 11.
   unfoldable pub claimAhead : (choice : ℕ) → Answer
-  claimAhead zero = reply ended (clear t ∷ [])
+  claimAhead zero = reply ended (clearProducer t ∷ [])
   claimAhead (suc r) = claim r 11
 
   -- 11. As 5, then end. The tail record does not move.
   unfoldable pub linkAhead : Answer
-  linkAhead = linked λ ws. reply ended (ws ++ (clear t ∷ []))
+  linkAhead = linked λ ws. reply ended (ws ++ (clearProducer t ∷ []))
 
 -- A producer's rule in each phase; refusal 7 while it is idle.
 abbrev pub producerRules : (choice : ℕ) → List (Sizes → Reader → ℕ → Answer)

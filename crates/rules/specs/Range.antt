@@ -5,7 +5,7 @@ use Prim.Native.Nat.{ℕ, zero, suc}
 use lib.Dec.{leb, eqb}
 use lib.ListN.{getD}
 use Rattle.rules.specs.Sizes.{Sizes, between, mostPlace, firstRecord}
-use Rattle.rules.specs.Cell.{Cell, Reader, content, own, part, entry, phase}
+use Rattle.rules.specs.Cell.{Cell, Reader, content, consumer, producer, part, entry}
 
 -- What a word may hold: zero alone (a spare word, or one not in use); one number; a position, call number or count, 0 to M; a
 -- record number, 0 to N; the same with none left out, 1 to N; a number up to another; anything.
@@ -122,18 +122,16 @@ abbrev pub every : ℕ → (ℕ → Bool) → Bool
 every zero p = true
 every (suc n) p = every n p && p n
 
--- Phase 0 to 11 for a producer, 0 to 7 for the consumer, and the words that the phase uses.
-abbrev pub mostPhase : ℕ → ℕ
-mostPhase zero = 7
-mostPhase (suc t) = 11
+-- A thread's eight words: its phase, up to the last one, and the words that the phase uses.
+abbrev pub threadInRange : Sizes → (last : ℕ) → List (List Sort) → (ℕ → ℕ) → Bool
+threadInRange z last sorts row = leb (row 0) last && ofSorts z row 1 (getD sorts (row 0) [])
 
-abbrev pub threadSorts : ℕ → List (List Sort)
-threadSorts zero = consumerSorts
-threadSorts (suc t) = producerSorts
+-- Phase 0 to 7 for the consumer, 0 to 11 for a producer.
+abbrev pub consumerInRange : Sizes → Reader → Bool
+consumerInRange z σ = threadInRange z 7 consumerSorts (λ k. σ (consumer k))
 
-abbrev pub threadInRange : Sizes → Reader → ℕ → Bool
-threadInRange z σ t =
-    leb (σ (phase t)) (mostPhase t) && ofSorts z (λ k. σ (own t k)) 1 (getD (threadSorts t) (σ (phase t)) [])
+abbrev pub producerInRange : Sizes → Reader → ℕ → Bool
+producerInRange z σ t = threadInRange z 11 producerSorts (λ k. σ (producer t k))
 
 abbrev pub recordInRange : Sizes → Reader → ℕ → Bool
 recordInRange z σ r =
@@ -143,5 +141,6 @@ recordInRange z σ r =
 unfoldable pub inRange : Sizes → Reader → Bool
 inRange z σ =
     ofSorts z (λ k. σ (content k)) 0 (contentSorts z)
-    && every (suc (z .P)) (threadInRange z σ)
+    && consumerInRange z σ
+    && every (z .P) (λ p. producerInRange z σ (suc p))
     && every (z .N) (recordInRange z σ)

@@ -13,7 +13,7 @@ use lib.Seq.{sets, length-sets, getD-set-same, getD-set-other, drop-set-lt}
 use borrow.Author.Tests.{eqb-true, eqb-false, eq-eqb, ne-eqb}
 use Rattle.history.specs.Lists.{All}
 use Rattle.rules.specs.Sizes.{Sizes, recordWords, firstRecord, storeWords}
-use Rattle.rules.specs.Cell.{Cell, content, own, part, entry, address, there, Reader, reader, Write, _:=_, clear, wipe, write, writes, same, ofThread, ofRecord, update, after}
+use Rattle.rules.specs.Cell.{Cell, content, consumer, producer, part, entry, address, there, Reader, reader, Write, _:=_, clearConsumer, clearProducer, wipe, write, writes, same, ofConsumer, ofProducer, ofRecord, update, after}
 use Rattle.rules.specs.Address.{both, There, there-is, there-has, address-below, address-apart, same-row}
 
 -- no test is both true and false
@@ -22,23 +22,32 @@ true-false p q = let z : _≡_ {A = ℕ} 0 1 = cc in omega arith
 
 pub same-eq : (c d : Cell) → same c d ≡ true → c ≡ d
 same-eq (content k) (content l) e = ap content (eqb-true k l e)
-same-eq (content k) (own t l) e = absurd (true-false refl (sym e))
-same-eq (content k) (part r l) e = absurd (true-false refl (sym e))
-same-eq (content k) (entry r i l) e = absurd (true-false refl (sym e))
-same-eq (own t k) (content l) e = absurd (true-false refl (sym e))
-same-eq (own t k) (own u l) e =
+same-eq (content k) (consumer l) e = absurd (true-false refl (sym e))
+same-eq (content k) (producer u l) e = absurd (true-false refl (sym e))
+same-eq (content k) (part s l) e = absurd (true-false refl (sym e))
+same-eq (content k) (entry s j l) e = absurd (true-false refl (sym e))
+same-eq (consumer k) (content l) e = absurd (true-false refl (sym e))
+same-eq (consumer k) (consumer l) e = ap consumer (eqb-true k l e)
+same-eq (consumer k) (producer u l) e = absurd (true-false refl (sym e))
+same-eq (consumer k) (part s l) e = absurd (true-false refl (sym e))
+same-eq (consumer k) (entry s j l) e = absurd (true-false refl (sym e))
+same-eq (producer t k) (content l) e = absurd (true-false refl (sym e))
+same-eq (producer t k) (consumer l) e = absurd (true-false refl (sym e))
+same-eq (producer t k) (producer u l) e =
     let p = both (eqb k l) (eqb t u) e in
-    ap₂ own (eqb-true t u (p .1)) (eqb-true k l (p .0))
-same-eq (own t k) (part r l) e = absurd (true-false refl (sym e))
-same-eq (own t k) (entry r i l) e = absurd (true-false refl (sym e))
+    ap₂ producer (eqb-true t u (p .1)) (eqb-true k l (p .0))
+same-eq (producer t k) (part s l) e = absurd (true-false refl (sym e))
+same-eq (producer t k) (entry s j l) e = absurd (true-false refl (sym e))
 same-eq (part r k) (content l) e = absurd (true-false refl (sym e))
-same-eq (part r k) (own t l) e = absurd (true-false refl (sym e))
+same-eq (part r k) (consumer l) e = absurd (true-false refl (sym e))
+same-eq (part r k) (producer u l) e = absurd (true-false refl (sym e))
 same-eq (part r k) (part s l) e =
     let p = both (eqb k l) (eqb r s) e in
     ap₂ part (eqb-true r s (p .1)) (eqb-true k l (p .0))
-same-eq (part r k) (entry s i l) e = absurd (true-false refl (sym e))
+same-eq (part r k) (entry s j l) e = absurd (true-false refl (sym e))
 same-eq (entry r i k) (content l) e = absurd (true-false refl (sym e))
-same-eq (entry r i k) (own t l) e = absurd (true-false refl (sym e))
+same-eq (entry r i k) (consumer l) e = absurd (true-false refl (sym e))
+same-eq (entry r i k) (producer u l) e = absurd (true-false refl (sym e))
 same-eq (entry r i k) (part s l) e = absurd (true-false refl (sym e))
 same-eq (entry r i k) (entry s j l) e =
     let p = both (eqb k l) (eqb r s && eqb i j) e in
@@ -74,7 +83,8 @@ zeros-inside (suc n) l i j a b c =
 -- A write of a cell that is there, or of a thread or record that is.
 abbrev pub WriteThere : Sizes → Write → Type 0
 WriteThere z (c := v) = There z c
-WriteThere z (clear t) = t < suc (z .P)
+WriteThere z clearConsumer = Unit
+WriteThere z (clearProducer t) = (1 ≤ t) × (t ≤ z .P)
 WriteThere z (wipe r) = r < z .N
 
 module _ (z : Sizes) (m : List ℕ) (fits : storeWords z ≤ length m) where
@@ -130,14 +140,29 @@ module _ (z : Sizes) (m : List ℕ) (fits : storeWords z ≤ length m) where
       outside true e = refl
       outside false e = refl
 
-  reader-clear : (t : ℕ) → t < suc (z .P) → (d : Cell) → reader z (sets m (16 + 8 * t) (replicate 8 0)) d ≡ cond (ofThread t d) 0 (reader z m d)
-  reader-clear t ht (content k) = reader-zeros (16 + 8 * t) 8 (content k) false (omega arith) (λ h e. absurd (true-false refl (sym e))) (λ h e r. omega arith)
-  reader-clear t ht (own u k) =
-      reader-zeros (16 + 8 * t) 8 (own u k) (eqb t u) (omega arith)
+  -- a row of zeros that the cell is not in
+  reader-outside : (a n : ℕ) (d : Cell) → a + n ≤ length m → (There z d → (a ≤ address z d) × (address z d < a + n) → ⊥)
+      → reader z (sets m a (replicate n 0)) d ≡ reader z m d
+  reader-outside a n d room out = reader-zeros a n d false room (λ h e. absurd (true-false e refl)) (λ h e r. out h r)
+
+  reader-clear-consumer : (d : Cell) → reader z (sets m 16 (replicate 8 0)) d ≡ cond (ofConsumer d) 0 (reader z m d)
+  reader-clear-consumer (content k) = reader-outside 16 8 (content k) (omega arith) (λ h r. omega arith)
+  reader-clear-consumer (consumer k) =
+      reader-zeros 16 8 (consumer k) true (omega arith) (λ h e. omega arith) (λ h e r. true-false refl e)
+  reader-clear-consumer (producer t k) = reader-outside 16 8 (producer t k) (omega arith) (λ h r. omega arith)
+  reader-clear-consumer (part r k) = reader-outside 16 8 (part r k) (omega arith) (λ h r. omega arith)
+  reader-clear-consumer (entry r i k) = reader-outside 16 8 (entry r i k) (omega arith) (λ h r. omega arith)
+
+  reader-clear-producer : (t : ℕ) → (1 ≤ t) × (t ≤ z .P) → (d : Cell)
+      → reader z (sets m (16 + 8 * t) (replicate 8 0)) d ≡ cond (ofProducer t d) 0 (reader z m d)
+  reader-clear-producer t ht (content k) = reader-outside (16 + 8 * t) 8 (content k) (omega arith) (λ h r. omega arith)
+  reader-clear-producer t ht (consumer k) = reader-outside (16 + 8 * t) 8 (consumer k) (omega arith) (λ h r. omega arith)
+  reader-clear-producer t ht (producer u k) =
+      reader-zeros (16 + 8 * t) 8 (producer u k) (eqb t u) (omega arith)
       (λ h e. omega (arith, eqb-true t u e))
       (λ h e r. eqb-false t u e (omega arith))
-  reader-clear t ht (part r k) = reader-zeros (16 + 8 * t) 8 (part r k) false (omega arith) (λ h e. absurd (true-false refl (sym e))) (λ h e r. omega arith)
-  reader-clear t ht (entry r i k) = reader-zeros (16 + 8 * t) 8 (entry r i k) false (omega arith) (λ h e. absurd (true-false refl (sym e))) (λ h e r. omega arith)
+  reader-clear-producer t ht (part r k) = reader-outside (16 + 8 * t) 8 (part r k) (omega arith) (λ h r. omega arith)
+  reader-clear-producer t ht (entry r i k) = reader-outside (16 + 8 * t) 8 (entry r i k) (omega arith) (λ h r. omega arith)
 
   reader-wipe : (r : ℕ) → r < z .N → (d : Cell)
       → reader z (sets m (firstRecord z + r * recordWords z) (replicate (recordWords z) 0)) d ≡ cond (ofRecord r d) 0 (reader z m d)
@@ -159,21 +184,24 @@ module _ (z : Sizes) (m : List ℕ) (fits : storeWords z ≤ length m) where
           eqb-false r s p (same-row (recordWords z) r s (s * recordWords z + a - r * recordWords z) a (omega arith) (ha h) (omega arith)))
 
       each : (d : Cell) → reader z (sets m base (replicate (recordWords z) 0)) d ≡ cond (ofRecord r d) 0 (reader z m d)
-      each (content k) = reader-zeros base (recordWords z) (content k) false room (λ h e. absurd (true-false refl (sym e))) (λ h e w. omega arith)
-      each (own t k) = reader-zeros base (recordWords z) (own t k) false room (λ h e. absurd (true-false refl (sym e))) (λ h e w. omega arith)
+      each (content k) = reader-outside base (recordWords z) (content k) room (λ h w. omega arith)
+      each (consumer k) = reader-outside base (recordWords z) (consumer k) room (λ h w. omega arith)
+      each (producer t k) = reader-outside base (recordWords z) (producer t k) room (λ h w. omega arith)
       each (part s k) = of-record (part s k) s k (λ h. omega arith) refl
       each (entry s i k) = of-record (entry s i k) s (4 + 3 * i + k) (λ h. omega arith) refl
 
   -- One write, read back.
   reader-write : (w : Write) → WriteThere z w → (d : Cell) → reader z (write z m w) d ≡ update (reader z m) w d
   reader-write (c := v) h d = reader-put c v h d
-  reader-write (clear t) h d = reader-clear t h d
+  reader-write clearConsumer h d = reader-clear-consumer d
+  reader-write (clearProducer t) h d = reader-clear-producer t h d
   reader-write (wipe r) h d = reader-wipe r h d
 
 -- a write leaves the length
 pub length-write : (z : Sizes) (m : List ℕ) (w : Write) → length (write z m w) ≡ length m
 length-write z m (c := v) = length-set m (address z c) v
-length-write z m (clear t) = length-sets m (16 + 8 * t) (replicate 8 0)
+length-write z m clearConsumer = length-sets m 16 (replicate 8 0)
+length-write z m (clearProducer t) = length-sets m (16 + 8 * t) (replicate 8 0)
 length-write z m (wipe r) = length-sets m (firstRecord z + r * recordWords z) (replicate (recordWords z) 0)
 
 pub length-writes : (z : Sizes) (m : List ℕ) (ws : List Write) → length (writes z m ws) ≡ length m
@@ -197,7 +225,8 @@ drop-sets n l i (v ∷ vs) h = drop-sets n (set l i v) (suc i) vs (omega arith) 
 
 drop-write : (z : Sizes) (m : List ℕ) (w : Write) → WriteThere z w → drop (storeWords z) (write z m w) ≡ drop (storeWords z) m
 drop-write z m (c := v) h = drop-set-lt (storeWords z) m (address z c) v (address-below z c h)
-drop-write z m (clear t) h = drop-sets (storeWords z) m (16 + 8 * t) (replicate 8 0) (omega arith)
+drop-write z m clearConsumer h = drop-sets (storeWords z) m 16 (replicate 8 0) (omega arith)
+drop-write z m (clearProducer t) h = drop-sets (storeWords z) m (16 + 8 * t) (replicate 8 0) (omega arith)
 drop-write z m (wipe r) h =
     drop-sets (storeWords z) m (firstRecord z + r * recordWords z) (replicate (recordWords z) 0)
     (simp length-replicate (omega (arith, mul-le-mul-right (recordWords z) h)))

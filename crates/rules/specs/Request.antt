@@ -6,7 +6,7 @@ use Prim.Native.Nat.{ℕ, zero, suc}
 use lib.Dec.{leb, ltb, eqb}
 use lib.ListN.{length, getD, drop, replicate}
 use Rattle.rules.specs.Sizes.{Sizes, sizesInRange, firstRecord, storeWords}
-use Rattle.rules.specs.Cell.{Reader, Write, reader, writes, _:=_, content, tailRecord, headRecord, starts, phase, call, value, place, used}
+use Rattle.rules.specs.Cell.{Reader, Write, reader, writes, _:=_, content, tailRecord, headRecord, starts, consumerPhase, phase, call, value, place, used}
 use Rattle.rules.specs.Range.{inRange}
 use Rattle.rules.specs.Free.{Picker}
 use Rattle.rules.specs.Rule.{Answer, Response, refused, accepted, ok, started, refuse, reply}
@@ -67,14 +67,15 @@ startingEnqueue t v z σ =
 
 -- *Start dequeue* puts the consumer in phase 1. 5: that thread has a call under way.
 unfoldable pub startingDequeue : Sizes → Reader → Answer
-startingDequeue z σ = cond (not (eqb (σ (phase 0)) 0)) (refuse 5) (reply ok (phase 0 := 1 ∷ []))
+startingDequeue z σ = cond (not (eqb (σ consumerPhase) 0)) (refuse 5) (reply ok (consumerPhase := 1 ∷ []))
 
 -- *Step* (thread) does one phase. 4: a thread above P. 7: thread idle. 8 and 9 are the phases' own.
 unfoldable pub stepping : Picker → ℕ → Sizes → Reader → Answer
 stepping pick t z σ =
     cond (ltb (z .P) t) (refuse 4)
-    (cond (eqb (σ (phase t)) 0) (refuse 7)
-    (cond (eqb t 0) (consumerStep z σ) (producerStep (pick z σ) z σ t)))
+    (cond (eqb t 0)
+    (cond (eqb (σ consumerPhase) 0) (refuse 7) (consumerStep z σ))
+    (cond (eqb (σ (phase t)) 0) (refuse 7) (producerStep (pick z σ) z σ t)))
 
 unfoldable pub answer : Picker → Request → Sizes → Reader → Answer
 answer pick (startEnqueue t v) z σ = startingEnqueue t v z σ
