@@ -15,6 +15,11 @@ import judge_model as jm
 
 # B, N, P, M of the cases that the default run explores whole.
 SMALL_CASES = ((2, 2, 1, 4), (2, 3, 1, 6), (2, 2, 2, 2), (2, 2, 2, 3), (2, 3, 2, 3))
+
+# Cases that are explored whole from a later state on: B, N, P, M, the calls that lead there.
+HEAD_LATE = [('e', 1, 101), ('s', 1)] + [('e', 2, 102)] + [('s', 2)] * 6 + [('e', 2, 103)] + [('s', 2)] * 7
+TWO_GONE = [('e', 1, 101)] + [('s', 1)] * 4 + [('e', 1, 102)] + [('s', 1)] * 6 + ([('d',)] + [('s', 0)] * 3) * 2
+LATER_CASES = ((2, 2, 2, 5, HEAD_LATE), (2, 2, 2, 5, TWO_GONE))
 HISTORY_CASES = ((2, 2, 2, 2, 18), (2, 3, 2, 3, 16))  # B, N, P, M and the number of calls
 EXPECTED_REFUSALS = (4, 5, 6, 7, 8)  # on a store that only the engine has written
 ALL_ORDERS_CALLS = 9  # histories of at most so many calls are tried in all orders
@@ -25,7 +30,7 @@ class Result(NamedTuple):
     states: int
     transitions: int
     whole: bool  # every reachable state was met
-    violation: tuple | None  # (calls from open on, what is wrong)
+    violation: tuple | None  # (calls with picks, after the first ones; what is wrong)
 
 
 def value_of(call):
@@ -66,7 +71,7 @@ def wrong_reply(reply):
 
 
 def trace(came_from, state):
-    """The calls that lead from open to a state."""
+    """The calls with picks that lead to a state."""
     calls = []
     while came_from[state] is not None:
         state, call = came_from[state]
@@ -74,10 +79,19 @@ def trace(came_from, state):
     return calls[::-1]
 
 
-def explore(B, N, P, M, engine=im.Intake, limit=None, clauses=None):
-    """Breadth first over words and ghost, all interleavings and all picks, until a clause fails. The words of a small
-    case are below 256, so a state keeps them as bytes."""
-    start = (bytes(open_words(B, N, P, M)), invariants.Ghost())
+def state_after(words, calls, engine):
+    """The state, words and ghost, that some calls lead to."""
+    ghost = invariants.Ghost()
+    for call in calls:
+        before, words = words, list(words)
+        ghost = ghost.after(call, before, im.do(words, call, engine=engine))
+    return bytes(words), ghost
+
+
+def explore(B, N, P, M, first=(), engine=im.Intake, limit=None, clauses=None):
+    """Breadth first over words and ghost, all interleavings and all picks, from the state after the calls `first` on,
+    until a clause fails. The words of a small case are below 256, so a state keeps them as bytes."""
+    start = state_after(open_words(B, N, P, M), first, engine)
     came_from, queue, transitions = {start: None}, deque([start]), 0
     while queue:
         state = queue.popleft()
@@ -216,9 +230,9 @@ def random_runs(seeds, engine=im.Intake):
 
 
 def main(arguments):
-    cases = [tuple(map(int, arguments))] if arguments else SMALL_CASES
+    cases = [tuple(map(int, arguments))] if arguments else SMALL_CASES + LATER_CASES
     for case in cases:
-        report('states', case, explore, *case)
+        report('states', case[:4], explore, *case)
     if not arguments:
         for case in HISTORY_CASES:
             report('histories', case, explore_histories, *case)

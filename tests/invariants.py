@@ -238,6 +238,11 @@ def _(v):
     return v.hp <= v.tail
 
 
+@clause('places: hi <= tp + 1')
+def _(v):
+    return v.hi <= v.tp + 1
+
+
 @clause('places: B*hi + 2 <= tail + 2*B')
 def _(v):
     return v.B * v.hi + 2 <= v.tail + 2 * v.B
@@ -283,6 +288,11 @@ def _(v):
         if state != EMPTY and (call, value) != (v.own[p], v.ghost.values[v.own[p] - 1]):
             return False
     return True
+
+
+@clause('entries: set only in a linked record')
+def _(v):
+    return not any(SET in v.states[r] for r in range(v.N) if v.use[r] != USE_LINKED)
 
 
 @clause('entries: all handled in a retired record')

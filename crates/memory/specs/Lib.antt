@@ -1,0 +1,7 @@
+pub mod Chain
+pub mod Memory
+pub mod Frames
+pub mod Claiming
+pub mod Linking
+pub mod Retiring
+pub mod Light

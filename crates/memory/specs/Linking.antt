@@ -1,0 +1,183 @@
+-- Linking a claimed record behind the last one, or giving it back, keeps the records' invariant.
+use mathlib.Core.Path.{_≡_, refl, ap, sym, _∙_, subst}
+use mathlib.Core.Logic.{_⊎_, inl, inr, ⊎-elim, _≢_}
+use Prim.Native.Nat.{ℕ, zero, suc, _≤_, _<_}
+use native.Mathlib.Decide.{ℕ-discrete}
+use native.Mathlib.Omega.{arith}
+use Rattle.rules.specs.Sizes.{Sizes}
+use Rattle.rules.specs.Cell.{Reader, producer, part, entry, tailRecord, headRecord, cursorRecord, foundRecord, place, next, prev, used, claimed, state, held}
+use Rattle.memory.specs.Chain.{Chain, at, at-same, at-other, last-is, chain-kept, chain-grows}
+use Rattle.memory.specs.Memory.{Shape, Holdable, Held, Blank, Claimed, ThreadOk, rowOf, Linked, Memory, claimed-is, held-is}
+use Rattle.memory.specs.Frames.{held-kept, thread-kept, Untouched, holdable-kept, blank-kept, OthersKept, every-row, outside-kept, apart-kept}
+
+-- What thread t's words are after it has let go of its claim: it holds what it held, or nothing and is idle.
+pub record LetGo (σ σ′ : Reader) (t : ℕ) : Type 0 where
+  pub claims-none : rowOf σ′ t 5 ≡ 0
+  pub in-phase : (rowOf σ′ t 0 ≡ 5) ⊎ (rowOf σ′ t 0 ≡ 11) → ⊥
+  pub holds-on : (rowOf σ′ t 4 ≡ rowOf σ t 4) ⊎ (rowOf σ′ t 4 ≡ 0) × (rowOf σ′ t 0 ≡ 0)
+
+module _ (z : Sizes) (σ σ′ : Reader) (g : Shape) (m : Memory z σ g) (t h c : ℕ)
+         (a-producer : (1 ≤ t) × (t ≤ z .P)) (holds : σ (held t) ≡ suc h) (claims : σ (claimed t) ≡ suc c)
+         (kept : OthersKept t σ σ′) (own : LetGo σ σ′ t)
+         (tail-kept : σ′ tailRecord ≡ σ tailRecord) (head-kept : σ′ headRecord ≡ σ headRecord)
+         (cursor-kept : σ′ cursorRecord ≡ σ cursorRecord) (found-kept : σ′ foundRecord ≡ σ foundRecord) where
+  c-blank : Blank (z .N) σ c
+  c-blank = claimed-is m t c claims
+
+  -- a record that is not of use 1 is another one
+  not-c : (x : ℕ) → (σ (used x) ≡ 1 → ⊥) → x ≡ c → ⊥
+  not-c x n e = n (rw e (c-blank .claimed-use))
+
+  -- a record that another producer has claimed is another one
+  other-claim : (u x : ℕ) → (t ≡ u → ⊥) → rowOf σ u 5 ≡ suc x → x ≡ c → ⊥
+  other-claim u x n e q = n (m .apart t u c claims (rw q at e))
+
+  -- a record that may be held is not the claimed one
+  held-not-c : (x : ℕ) → Holdable (g .lo) σ x → x ≡ c → ⊥
+  held-not-c x h = not-c x (λ e. ⊎-elim (λ (u : σ (used x) ≡ 2). omega arith) (λ u. omega arith) h)
+
+  linked-not-c : (x : ℕ) → σ (used x) ≡ 2 → x ≡ c → ⊥
+  linked-not-c x l = not-c x (λ e. omega arith)
+
+  -- t's own clause: what it holds may be held still
+  own-row : ((x : ℕ) → Holdable (g .lo) σ x → Holdable (g .lo) σ′ x) → ThreadOk (z .N) (g .lo) σ′ (rowOf σ′ t)
+  own-row still =
+      record
+        { holding = ⊎-elim (λ e. rw e (held-kept (z .N) (g .lo) (g .lo) σ σ′ (σ (held t)) (λ x q. still x) (m .threads t .holding))) (λ e. rw (e .0) tt) (own .holds-on)
+        ; claiming = rw (own .claims-none) tt
+        ; has-held = λ l e. ⊎-elim (λ q. omega arith) (λ q. omega arith) (own .holds-on)
+        ; has-claimed = λ p. absurd (own .in-phase p)
+        }
+
+  module _ (use-c : σ′ (used c) ≡ 0) (entries-c : (i k : ℕ) → σ′ (entry c i k) ≡ σ (entry c i k))
+           (others : (x : ℕ) → (x ≡ c → ⊥) → Untouched σ σ′ x) where
+    give-linked : (x : ℕ) → Linked σ x → Linked σ′ x
+    give-linked zero l = l
+    give-linked (suc x) l = others x (linked-not-c x l) .0 3 ∙ l
+
+    give-used : (x : ℕ) → σ′ (used x) ≡ 2 → σ (used x) ≡ 2
+    give-used x e = go (ℕ-discrete x c)
+      where
+        go : Dec (x ≡ c) → σ (used x) ≡ 2
+        go (yes q) = let w : σ′ (used x) ≡ σ′ (used c) = ap (λ (y : ℕ). σ′ (used y)) q in absurd (omega arith)
+        go (no n) = sym (others x n .0 3) ∙ e
+
+    give-unset : (x i : ℕ) → x < z .N → i < z .B → (σ′ (used x) ≡ 2 → ⊥) → σ′ (state x i) ≡ 1 → Dec (x ≡ c) → ⊥
+    give-unset x i a b n e (yes q) =
+        let w : σ′ (state x i) ≡ σ′ (state c i) = ap (λ (y : ℕ). σ′ (state y i)) q in
+        let v : σ′ (state c i) ≡ 0 = entries-c i 0 ∙ c-blank .no-entry i 0 in
+        omega arith
+    give-unset x i a b n e (no q) = let o = others x q in m .unset x i a b (λ l. n (o .0 3 ∙ l)) (sym (o .1 i 0) ∙ e)
+
+    pub give-back-keeps : Memory z σ′ g
+    give-back-keeps =
+        let still : (x : ℕ) → Holdable (g .lo) σ x → Holdable (g .lo) σ′ x =
+            λ x h. holdable-kept (g .lo) σ σ′ x (others x (held-not-c x h)) h in
+        record
+          { head-tail = m .head-tail
+          ; tail-last = m .tail-last
+          ; chain =
+              chain-kept (omega (arith, m .head-tail, m .tail-last)) (m .chain)
+              (λ x. σ′ (place x))
+              (λ x. σ′ (next x))
+              (λ x. σ′ (prev x))
+              (λ x. σ′ (used x))
+              (λ x l. let o = others x (linked-not-c x l) in (o .0 0, o .0 1, o .0 2, o .0 3 ∙ l))
+              give-used
+          ; tail-is = tail-kept ∙ m .tail-is
+          ; head-is = head-kept ∙ m .head-is
+          ; threads =
+              every-row t σ σ′ kept (λ u row. ThreadOk (z .N) (g .lo) σ′ row) (own-row still)
+              (λ u n.
+              thread-kept (z .N) (g .lo) (g .lo) σ σ′ (rowOf σ u)
+              (λ x e. still x)
+              (λ x e b. blank-kept (z .N) σ σ′ x (others x (other-claim u x n e)) b)
+              (m .threads u))
+          ; apart = apart-kept t σ σ′ kept (own .claims-none) (m .apart)
+          ; cursor = rw cursor-kept (give-linked (σ cursorRecord) (m .cursor))
+          ; found = rw found-kept (give-linked (σ foundRecord) (m .found))
+          ; unset = λ x i a b n e. give-unset x i a b n e (ℕ-discrete x c)
+          ; outside = outside-kept z t σ σ′ a-producer kept (m .outside)
+          }
+
+  -- the held record has no next, so it is the last one
+  pub held-last : σ (next h) ≡ 0 → (σ (used h) ≡ 2) × (σ (place h) ≡ g .hi) × (g .at (g .hi) ≡ h)
+  held-last none = go (held-is m t h holds)
+    where
+      go : Holdable (g .lo) σ h → (σ (used h) ≡ 2) × (σ (place h) ≡ g .hi) × (g .at (g .hi) ≡ h)
+      go (inl u) =
+          let e = last-is (omega (arith, m .head-tail, m .tail-last)) (m .chain) h u none in
+          (u, e, ap (g .at) (sym e) ∙ m .chain .only h u .2)
+      go (inr u) = absurd (u .1 none)
+
+  module _ (none : σ (next h) ≡ 0)
+           (place-c : σ′ (place c) ≡ suc (σ (place h))) (next-c : σ′ (next c) ≡ σ (next c))
+           (prev-c : σ′ (prev c) ≡ suc h) (used-c : σ′ (used c) ≡ 2) (next-h : σ′ (next h) ≡ suc c)
+           (others : (x : ℕ) → (x ≡ c → ⊥) → (σ′ (place x) ≡ σ (place x)) × (σ′ (prev x) ≡ σ (prev x)) × (σ′ (used x) ≡ σ (used x)))
+           (nexts : (x : ℕ) → (x ≡ c → ⊥) → (x ≡ h → ⊥) → σ′ (next x) ≡ σ (next x))
+           (entries : (x i k : ℕ) → σ′ (entry x i k) ≡ σ (entry x i k)) where
+    -- the chain with the claimed record behind the last one
+    abbrev pub grown : Shape
+    grown = record { lo = g .lo; tp = g .tp; hi = suc (g .hi); at = at (g .at) (suc (g .hi)) c }
+
+    link-linked : (x : ℕ) → Linked σ x → Linked σ′ x
+    link-linked zero l = l
+    link-linked (suc x) l = others x (linked-not-c x l) .2 ∙ l
+
+    link-holdable : (x : ℕ) → Holdable (g .lo) σ x → Holdable (g .lo) σ′ x
+    link-holdable x (inl u) = inl (others x (linked-not-c x u) .2 ∙ u)
+    link-holdable x (inr u) =
+        let n : x ≡ c → ⊥ = held-not-c x (inr u) in
+        let l : σ (used h) ≡ 2 = held-last none .0 in
+        let k : x ≡ h → ⊥ = λ e. let w : σ (used x) ≡ σ (used h) = ap (λ (y : ℕ). σ (used y)) e in omega arith in
+        inr (others x n .2 ∙ u .0, (λ e. u .1 (sym (nexts x n k) ∙ e)), rw (others x n .0) (u .2))
+
+    link-blank : (x : ℕ) → (x ≡ c → ⊥) → Blank (z .N) σ x → Blank (z .N) σ′ x
+    link-blank x n b =
+        let l : σ (used h) ≡ 2 = held-last none .0 in
+        let k : x ≡ h → ⊥ = λ e. let w : σ (used x) ≡ σ (used h) = ap (λ (y : ℕ). σ (used y)) e in omega (arith, b .claimed-use) in
+        record
+          { fits = b .fits
+          ; claimed-use = others x n .2 ∙ b .claimed-use
+          ; no-place = others x n .0 ∙ b .no-place
+          ; no-next = nexts x n k ∙ b .no-next
+          ; no-prev = others x n .1 ∙ b .no-prev
+          ; no-entry = λ i j. entries x i j ∙ b .no-entry i j
+          }
+
+    link-unset : (x i : ℕ) → x < z .N → i < z .B → (σ′ (used x) ≡ 2 → ⊥) → σ′ (state x i) ≡ 1 → Dec (x ≡ c) → ⊥
+    link-unset x i a b n e (yes q) = n (ap (λ (y : ℕ). σ′ (used y)) q ∙ used-c)
+    link-unset x i a b n e (no q) = m .unset x i a b (λ l. n (others x q .2 ∙ l)) (sym (entries x i 0) ∙ e)
+
+    pub link-keeps : Memory z σ′ grown
+    link-keeps =
+        let l = held-last none in
+        let span : g .lo ≤ g .hi = omega (arith, m .head-tail, m .tail-last) in
+        record
+          { head-tail = m .head-tail
+          ; tail-last = omega (arith, m .tail-last)
+          ; chain =
+              chain-grows span (m .chain) (λ x. σ′ (place x)) (λ x. σ′ (next x)) (λ x. σ′ (prev x)) (λ x. σ′ (used x)) c (c-blank .fits)
+              (λ e. linked-not-c c e refl)
+              (place-c ∙ ap suc (l .1))
+              (next-c ∙ c-blank .no-next)
+              (rw (l .2) prev-c)
+              used-c
+              (rw (l .2) next-h)
+              others
+              (λ x n k. nexts x n (λ e. k (e ∙ sym (l .2))))
+          ; tail-is = tail-kept ∙ m .tail-is ∙ ap suc (sym (at-other (g .at) (suc (g .hi)) c (g .tp) (λ e. omega (arith, m .tail-last))))
+          ; head-is = head-kept ∙ m .head-is ∙ ap suc (sym (at-other (g .at) (suc (g .hi)) c (g .lo) (λ e. omega arith)))
+          ; threads =
+              every-row t σ σ′ kept (λ u row. ThreadOk (z .N) (g .lo) σ′ row) (own-row link-holdable)
+              (λ u n.
+              thread-kept (z .N) (g .lo) (g .lo) σ σ′ (rowOf σ u)
+              (λ x e. link-holdable x)
+              (λ x e b. link-blank x (other-claim u x n e) b)
+              (m .threads u))
+          ; apart = apart-kept t σ σ′ kept (own .claims-none) (m .apart)
+          ; cursor = rw cursor-kept (link-linked (σ cursorRecord) (m .cursor))
+          ; found = rw found-kept (link-linked (σ foundRecord) (m .found))
+          ; unset = λ x i a b n e. link-unset x i a b n e (ℕ-discrete x c)
+          ; outside = outside-kept z t σ σ′ a-producer kept (m .outside)
+          }
