@@ -1,3 +1,5 @@
 pub mod State
 pub mod Invariant
 pub mod Moves
+pub mod Facts
+pub mod Frame
