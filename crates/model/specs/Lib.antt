@@ -3,3 +3,7 @@ pub mod Invariant
 pub mod Moves
 pub mod Facts
 pub mod Frame
+pub mod Threads
+pub mod Walking
+pub mod Known
+pub mod Positions
