@@ -11,70 +11,89 @@ use Rattle.criterion.specs.Explained.{Started, Begun, Ended, Taken, EndedBefore
 use Rattle.model.specs.State.{Entry, blank, put, gone, Producer, idle, started, seeking, ahead, shifting, behind, writing, setting, done, Consumer, resting, front, reading, scanning, looking, rescanning, found, holding, State, callOf}
 use Rattle.model.specs.Invariant.{Open, Placed, Inside, ProducerOk, ConsumerOk, Passed, Rescanned, Reached, Found}
 
+-- call n stays as it is: started, open, taken
+pub record KeptCall (n : ℕ) (h h′ : History) : Type 0 where
+  pub stays-started : (v : ℕ) → Started n v h → Started n v h′
+  pub stays-open : Ended n h′ → Ended n h
+  pub stays-taken : Taken n h → Taken n h′
+
+-- it keeps its position and gets no other
+pub record KeptOwner (n tail tail′ : ℕ) (owner owner′ : ℕ → ℕ) : Type 0 where
+  pub stays-owner : (p : ℕ) → p < tail → owner p ≡ n → owner′ p ≡ n
+  pub was-owner : (p : ℕ) → p < tail′ → owner′ p ≡ n → (p < tail) × (owner p ≡ n)
+
+-- its entry stays empty, or set until it is taken, and holds what it held
+pub record KeptEntry (n : ℕ) (owner : ℕ → ℕ) (entry entry′ : ℕ → Entry) (content content′ : ℕ → Item) (h′ : History) : Type 0 where
+  pub stays-blank : (p : ℕ) → owner p ≡ n → entry p ≡ blank → entry′ p ≡ blank
+  pub stays-put : (p : ℕ) → owner p ≡ n → entry p ≡ put → Taken n h′ ⊎ (entry′ p ≡ put)
+  pub stays-content : (p : ℕ) → owner p ≡ n → content′ p ≡ content p
+
 -- nothing that the clause of a producer with call number n speaks of is lost from s to s′
 pub record Kept (s s′ : State) (n : ℕ) : Type 0 where
-  pub tail-up : s .tail ≤ s′ .tail
-  pub place-up : s .tp ≤ s′ .tp
-  pub last-up : s .hi ≤ s′ .hi
-  pub stays-started : (v : ℕ) → Started n v (s .history) → Started n v (s′ .history)
-  pub stays-open : Ended n (s′ .history) → Ended n (s .history)
-  pub stays-taken : Taken n (s .history) → Taken n (s′ .history)
-  pub stays-owner : (p : ℕ) → p < s .tail → s .owner p ≡ n → s′ .owner p ≡ n
-  pub was-owner : (p : ℕ) → p < s′ .tail → s′ .owner p ≡ n → (p < s .tail) × (s .owner p ≡ n)
-  pub stays-blank : (p : ℕ) → s .owner p ≡ n → s .entry p ≡ blank → s′ .entry p ≡ blank
-  pub stays-put : (p : ℕ) → s .owner p ≡ n → s .entry p ≡ put → Taken n (s′ .history) ⊎ (s′ .entry p ≡ put)
-  pub stays-content : (p : ℕ) → s .owner p ≡ n → s′ .content p ≡ s .content p
+  pub numbers : (s .tail ≤ s′ .tail) × (s .tp ≤ s′ .tp) × (s .hi ≤ s′ .hi)
+  pub call : KeptCall n (s .history) (s′ .history)
+  pub position : KeptOwner n (s .tail) (s′ .tail) (s .owner) (s′ .owner)
+  pub state : KeptEntry n (s .owner) (s .entry) (s′ .entry) (s .content) (s′ .content) (s′ .history)
+
+-- what a move does not touch is kept
+pub same-call : (n : ℕ) (h : History) → KeptCall n h h
+same-call n h = record { stays-started = λ v e. e; stays-open = λ e. e; stays-taken = λ e. e }
+
+pub same-owner : (n tail : ℕ) (owner : ℕ → ℕ) → KeptOwner n tail tail owner owner
+same-owner n tail owner = record { stays-owner = λ p l e. e; was-owner = λ p l e. (l, e) }
+
+pub same-entry : (n : ℕ) (owner : ℕ → ℕ) (entry : ℕ → Entry) (content : ℕ → Item) (h′ : History)
+    → KeptEntry n owner entry entry content content h′
+same-entry n owner entry content h′ =
+    record { stays-blank = λ p o e. e; stays-put = λ p o e. inr e; stays-content = λ p o. refl }
 
 module _ (B : ℕ) (s s′ : State) where
   open-kept : (n v : ℕ) → Kept s s′ n → Open n v (s .history) → Open n v (s′ .history)
-  open-kept n v k o = record { is-started = k .stays-started v (o .is-started); not-ended = λ e. o .not-ended (k .stays-open e) }
+  open-kept n v k o = record { is-started = k .call .stays-started v (o .is-started); not-ended = λ e. o .not-ended (k .call .stays-open e) }
 
   placed-kept : (n v L : ℕ) → Kept s s′ n → Placed (s .tail) n v L (s .entry) (s .owner) (s .history)
       → Placed (s′ .tail) n v L (s′ .entry) (s′ .owner) (s′ .history)
   placed-kept n v L k o =
       record {
         is-open = open-kept n v k (o .is-open);
-        taken = omega (arith, k .tail-up, o .taken);
-        is-blank = k .stays-blank L (o .owns) (o .is-blank);
-        owns = k .stays-owner L (o .taken) (o .owns);
+        taken = omega (arith, k .numbers, o .taken);
+        is-blank = k .state .stays-blank L (o .owns) (o .is-blank);
+        owns = k .position .stays-owner L (o .taken) (o .owns);
       }
 
   settled-kept : (n L : ℕ) → Kept s s′ n → s .owner L ≡ n → Taken n (s .history) ⊎ (s .entry L ≡ put)
       → Taken n (s′ .history) ⊎ (s′ .entry L ≡ put)
-  settled-kept n L k o (inl e) = inl (k .stays-taken e)
-  settled-kept n L k o (inr e) = k .stays-put L o e
+  settled-kept n L k o (inl e) = inl (k .call .stays-taken e)
+  settled-kept n L k o (inr e) = k .state .stays-put L o e
 
   pub producer-kept : (x : Producer) → ((y : Item) → callOf x ≡ some y → Kept s s′ (y .number)) → ProducerOk B s x → ProducerOk B s′ x
   producer-kept idle k o = tt
   producer-kept (started n v) k o =
       let e : Kept s s′ n = k _ refl in
-      (open-kept n v e (o .0), λ p l d. let w = e .was-owner p l d in o .1 p (w .0) (w .1))
+      (open-kept n v e (o .0), λ p l d. let w = e .position .was-owner p l d in o .1 p (w .0) (w .1))
   producer-kept (seeking n v L) k o = placed-kept n v L (k _ refl) o
   producer-kept (ahead n v L j) k o =
       let e : Kept s s′ n = k _ refl in
-      (placed-kept n v L e (o .0), omega (arith, e .place-up), o .2)
+      (placed-kept n v L e (o .0), omega (arith, e .numbers), o .2)
   producer-kept (shifting n v L j) k o =
       let e : Kept s s′ n = k _ refl in
-      (placed-kept n v L e (o .0), omega (arith, e .place-up), o .2, omega (arith, e .last-up))
+      (placed-kept n v L e (o .0), omega (arith, e .numbers), o .2, omega (arith, e .numbers))
   producer-kept (behind n v L j) k o =
       let e : Kept s s′ n = k _ refl in
-      (placed-kept n v L e (o .0), omega (arith, e .place-up), o .2)
+      (placed-kept n v L e (o .0), omega (arith, e .numbers), o .2)
   producer-kept (writing n v L j) k o =
       let e : Kept s s′ n = k _ refl in
-      (placed-kept n v L e (o .0), omega (arith, e .place-up), o .2)
+      (placed-kept n v L e (o .0), omega (arith, e .numbers), o .2)
   producer-kept (setting n v L j) k o =
       let e : Kept s s′ n = k _ refl in
-      (placed-kept n v L e (o .0), omega (arith, e .place-up), o .2, e .stays-content L (o .0 .owns) ∙ o .3)
+      (placed-kept n v L e (o .0), omega (arith, e .numbers), o .2, e .state .stays-content L (o .0 .owns) ∙ o .3)
   producer-kept (done n v L j) k o =
       let e : Kept s s′ n = k _ refl in
-      (open-kept n v e (o .0), omega (arith, e .tail-up), e .stays-owner L (o .1) (o .2), omega (arith, e .place-up), o .4, settled-kept n L e (o .2) (o .5))
+      (open-kept n v e (o .0), omega (arith, e .numbers), e .position .stays-owner L (o .1) (o .2), omega (arith, e .numbers), o .4, settled-kept n L e (o .2) (o .5))
 
 -- the consumer keeps its set entries, and no set entry comes to have ended before its dequeue, or before a later position's call
 pub record Watched (s s′ : State) : Type 0 where
-  pub tail-up : s .tail ≤ s′ .tail
-  pub place-up : s .tp ≤ s′ .tp
-  pub head-same : s′ .hp ≡ s .hp
-  pub first-same : s′ .lo ≡ s .lo
+  pub numbers : (s .tail ≤ s′ .tail) × (s .tp ≤ s′ .tp) × (s′ .hp ≡ s .hp) × (s′ .lo ≡ s .lo)
   pub stays-put : (p : ℕ) → s .entry p ≡ put → s′ .entry p ≡ put
   pub stays-content : (p : ℕ) → s .entry p ≡ put → s′ .content p ≡ s .content p
   pub none-before-dequeue : (p : ℕ) → s′ .entry p ≡ put → EndedBeforeDequeue (s′ .owner p) (s′ .history)
@@ -96,7 +115,7 @@ module _ (B : ℕ) (s s′ : State) (w : Watched s s′) where
   found-kept f g o = (omega arith, omega arith, w .stays-put f (o .2), omega arith, omega arith, o .5)
 
   inside-kept : s .hp < B * s .lo → s′ .hp < B * s′ .lo
-  inside-kept l = rw (w .head-same, w .first-same) l
+  inside-kept l = rw (w .numbers .2, w .numbers .3) l
 
   pub consumer-kept : (x : Consumer) → ConsumerOk B s x → ConsumerOk B s′ x
   consumer-kept resting o = tt

@@ -53,3 +53,18 @@ module _ (B : ℕ) (s : State) (i : Invariant B s) where
       go : Taken n (s .history) ⊎ Has (s .tail) (s .entry) (s .owner) put n → Has (s .tail) (s .entry) (s .owner) put n
       go (inl taken) = absurd (untaken taken)
       go (inr has) = has
+
+  -- a call that has ended has a position, and so it has begun
+  pub ended-begun : (n : ℕ) → Ended n (s .history) → Begun n (s .history)
+  ended-begun n e = go (i .past .ended-has n e)
+    where
+      owned : (x : Entry) → Has (s .tail) (s .entry) (s .owner) x n → Begun n (s .history)
+      owned x (p, l, o, d) = subst (λ (m : ℕ). Begun m (s .history)) o (i .owners .begun p l)
+
+      go : Taken n (s .history) ⊎ Has (s .tail) (s .entry) (s .owner) put n → Begun n (s .history)
+      go (inl taken) = owned gone (i .past .taken-has n taken)
+      go (inr has) = owned put has
+
+  -- no position belongs to a call that starts later
+  pub owner-numbered : (p : ℕ) → p < s .tail → s .owner p ≤ s .starts
+  owner-numbered p l = i .past .numbered (s .owner p) (i .owners .begun p l) .1

@@ -7,3 +7,4 @@ pub mod Threads
 pub mod Walking
 pub mod Known
 pub mod Positions
+pub mod Enqueues

@@ -11,7 +11,7 @@ use Rattle.model.specs.State.{Entry, blank, put, gone, Producer, started
 use Rattle.model.specs.Invariant.{Has, Owners, ProducerOk, Invariant}
 use Rattle.model.specs.Moves.{takePosition, writeEntry, setEntry}
 use Rattle.model.specs.Facts.{started-begun, ended-before-ended, ended-before-dequeue-ended, put-not-blank, gone-not-blank, at-same, at-other, at-all, at-cases}
-use Rattle.model.specs.Frame.{Kept, Watched, consumer-kept}
+use Rattle.model.specs.Frame.{Kept, same-call, same-owner, same-entry, Watched, consumer-kept}
 use Rattle.model.specs.Threads.{calls-same, producers-after}
 use Rattle.model.specs.Known.{put-below-tail, has-kept}
 use Rattle.model.specs.Walking.{producer-clause}
@@ -20,8 +20,8 @@ module _ (B : ℕ) (s : State) (i : Invariant B s) (t n v : ℕ) (e : s .produce
   open State s using (tail, entry, owner, content, history)
 
   -- earlier positions keep their owners
-  same-owner : (p : ℕ) → p < tail → at owner tail n p ≡ owner p
-  same-owner p l = at-other owner tail n p (omega arith)
+  still-owner : (p : ℕ) → p < tail → at owner tail n p ≡ owner p
+  still-owner p l = at-other owner tail n p (omega arith)
 
   owners-take : Owners (suc tail) (at owner tail n) history
   owners-take =
@@ -40,44 +40,38 @@ module _ (B : ℕ) (s : State) (i : Invariant B s) (t n v : ℕ) (e : s .produce
         in-order = λ p q. at-all owner tail n (λ j a. p ≤ j → j < suc tail → EndedBefore a (at owner tail n p) history → ⊥)
             (λ le l d. o .0 .not-ended (ended-before-ended n _ history d))
             (λ j ne le l d. i .owners .in-order p j le (omega arith)
-            (subst (λ (b : ℕ). EndedBefore (owner j) b history) (same-owner p (omega arith)) d))
+            (subst (λ (b : ℕ). EndedBefore (owner j) b history) (still-owner p (omega arith)) d))
             q;
       }
 
   kept-take : (m : ℕ) → m ≢ n → Kept s (takePosition s t n v) m
   kept-take m ne =
       record {
-        tail-up = omega arith;
-        place-up = omega arith;
-        last-up = omega arith;
-        stays-started = λ w d. d;
-        stays-open = λ d. d;
-        stays-taken = λ d. d;
-        stays-owner = λ p l d. same-owner p l ∙ d;
-        was-owner = λ p l d. ⊎-elim (λ c. absurd (ne (sym (c .1)))) (λ c. (omega arith, c .1)) (at-cases owner tail n p m d);
-        stays-blank = λ p o d. d;
-        stays-put = λ p o d. inr d;
-        stays-content = λ p o. refl;
+        numbers = omega arith;
+        call = same-call m history;
+        position =
+            record {
+              stays-owner = λ p l d. still-owner p l ∙ d;
+              was-owner = λ p l d. ⊎-elim (λ c. absurd (ne (sym (c .1)))) (λ c. (omega arith, c .1)) (at-cases owner tail n p m d);
+            };
+        state = same-entry m owner entry content history;
       }
 
   watched-take : Watched s (takePosition s t n v)
   watched-take =
       record {
-        tail-up = omega arith;
-        place-up = omega arith;
-        head-same = refl;
-        first-same = refl;
+        numbers = omega arith;
         stays-put = λ p d. d;
         stays-content = λ p d. refl;
         none-before-dequeue = λ p d b.
-            (d, subst (λ (a : ℕ). EndedBeforeDequeue a history) (same-owner p (put-below-tail B s i p d)) b);
+            (d, subst (λ (a : ℕ). EndedBeforeDequeue a history) (still-owner p (put-below-tail B s i p d)) b);
         none-before = λ p f l d b.
-            (d, subst₂ (λ (a b : ℕ). EndedBefore a b history) (same-owner p (put-below-tail B s i p d)) (same-owner f l) b);
+            (d, subst₂ (λ (a b : ℕ). EndedBefore a b history) (still-owner p (put-below-tail B s i p d)) (still-owner f l) b);
       }
 
   has-take : (x : Entry) (m : ℕ) → Has tail entry owner x m → Has (suc tail) entry (at owner tail n) x m
   has-take x m =
-      has-kept tail (suc tail) entry entry owner (at owner tail n) x m (λ p l d is-x. (omega arith, same-owner p l ∙ d, is-x))
+      has-kept tail (suc tail) entry entry owner (at owner tail n) x m (λ p l d is-x. (omega arith, still-owner p l ∙ d, is-x))
 
   pub take-position : Invariant B (takePosition s t n v)
   take-position =
@@ -93,7 +87,7 @@ module _ (B : ℕ) (s : State) (i : Invariant B s) (t n v : ℕ) (e : s .produce
         owners = owners-take;
         contents =
             record {
-              number-is = λ p d. i .contents .number-is p d ∙ sym (same-owner p (put-below-tail B s i p d));
+              number-is = λ p d. i .contents .number-is p d ∙ sym (still-owner p (put-below-tail B s i p d));
               value-is = i .contents .value-is;
             };
         past =
@@ -143,26 +137,21 @@ module _ (B : ℕ) (s : State) (i : Invariant B s) (t n v L k : ℕ) where
       kept : (m : ℕ) → m ≢ n → Kept s (writeEntry s t n v L k) m
       kept m ne =
           record {
-            tail-up = omega arith;
-            place-up = omega arith;
-            last-up = omega arith;
-            stays-started = λ w d. d;
-            stays-open = λ d. d;
-            stays-taken = λ d. d;
-            stays-owner = λ p l d. d;
-            was-owner = λ p l d. (l, d);
-            stays-blank = λ p d b. b;
-            stays-put = λ p d b. inr b;
-            stays-content = λ p d. same p (λ q. ne (sym d ∙ ap owner q ∙ o .0 .owns));
+            numbers = omega arith;
+            call = same-call m history;
+            position = same-owner m tail owner;
+            state =
+                record {
+                  stays-blank = λ p d b. b;
+                  stays-put = λ p d b. inr b;
+                  stays-content = λ p d. same p (λ q. ne (sym d ∙ ap owner q ∙ o .0 .owns));
+                };
           }
 
       watched : Watched s (writeEntry s t n v L k)
       watched =
           record {
-            tail-up = omega arith;
-            place-up = omega arith;
-            head-same = refl;
-            first-same = refl;
+            numbers = omega arith;
             stays-put = λ p d. d;
             stays-content = λ p d. same p (not-there p d);
             none-before-dequeue = λ p d b. (d, b);
@@ -221,17 +210,15 @@ module _ (B : ℕ) (s : State) (i : Invariant B s) (t n v L k : ℕ) where
       kept : (m : ℕ) → m ≢ n → Kept s (setEntry s t n v L k) m
       kept m ne =
           record {
-            tail-up = omega arith;
-            place-up = omega arith;
-            last-up = omega arith;
-            stays-started = λ w d. d;
-            stays-open = λ d. d;
-            stays-taken = λ d. d;
-            stays-owner = λ p l d. d;
-            was-owner = λ p l d. (l, d);
-            stays-blank = λ p d b. same p (λ q. ne (sym d ∙ ap owner q ∙ o .0 .owns)) ∙ b;
-            stays-put = λ p d b. inr (still-put p b);
-            stays-content = λ p d. refl;
+            numbers = omega arith;
+            call = same-call m history;
+            position = same-owner m tail owner;
+            state =
+                record {
+                  stays-blank = λ p d b. same p (λ q. ne (sym d ∙ ap owner q ∙ o .0 .owns)) ∙ b;
+                  stays-put = λ p d b. inr (still-put p b);
+                  stays-content = λ p d. refl;
+                };
           }
 
       -- an entry set after the move was set before, or its call has not ended
@@ -243,10 +230,7 @@ module _ (B : ℕ) (s : State) (i : Invariant B s) (t n v L k : ℕ) where
       watched : Watched s (setEntry s t n v L k)
       watched =
           record {
-            tail-up = omega arith;
-            place-up = omega arith;
-            head-same = refl;
-            first-same = refl;
+            numbers = omega arith;
             stays-put = still-put;
             stays-content = λ p d. refl;
             none-before-dequeue = λ p d b. (was-put p d (ended-before-dequeue-ended _ history b), b);

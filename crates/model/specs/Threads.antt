@@ -16,7 +16,7 @@ use Rattle.model.specs.State.{gone, Producer, idle, started, seeking, ah
 use Rattle.model.specs.Invariant.{Open, Calls, ProducerOk, ConsumerOk, Invariant, dequeues}
 use Rattle.model.specs.Moves.{withProducer, withConsumer}
 use Rattle.model.specs.Facts.{at-all}
-use Rattle.model.specs.Frame.{Kept, producer-kept, Watched, consumer-kept}
+use Rattle.model.specs.Frame.{Kept, same-call, same-owner, same-entry, producer-kept, Watched, consumer-kept}
 
 -- no two producers have calls of one number
 abbrev pub Apart : (ℕ → Producer) → Type 0
@@ -114,26 +114,16 @@ module _ (s : State) (hp lo tp hi : ℕ) (f : ℕ → Producer) (c : Consumer) w
   pub kept-moved : s .tp ≤ tp → s .hi ≤ hi → (n : ℕ) → Kept s (moved s hp lo tp hi f c) n
   kept-moved tp-up hi-up n =
       record {
-        tail-up = omega arith;
-        place-up = tp-up;
-        last-up = hi-up;
-        stays-started = λ v e. e;
-        stays-open = λ e. e;
-        stays-taken = λ e. e;
-        stays-owner = λ p l e. e;
-        was-owner = λ p l e. (l, e);
-        stays-blank = λ p o e. e;
-        stays-put = λ p o e. inr e;
-        stays-content = λ p o. refl;
+        numbers = omega arith;
+        call = same-call n (s .history);
+        position = same-owner n (s .tail) (s .owner);
+        state = same-entry n (s .owner) (s .entry) (s .content) (s .history);
       }
 
   pub watched-moved : s .tp ≤ tp → hp ≡ s .hp → lo ≡ s .lo → Watched s (moved s hp lo tp hi f c)
   watched-moved tp-up hp-same lo-same =
       record {
-        tail-up = omega arith;
-        place-up = tp-up;
-        head-same = hp-same;
-        first-same = lo-same;
+        numbers = omega arith;
         stays-put = λ p e. e;
         stays-content = λ p e. refl;
         none-before-dequeue = λ p e d. (e, d);
