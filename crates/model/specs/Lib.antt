@@ -8,3 +8,4 @@ pub mod Walking
 pub mod Known
 pub mod Positions
 pub mod Enqueues
+pub mod Dequeues
