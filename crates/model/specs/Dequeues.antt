@@ -10,10 +10,10 @@ use Rattle.history.specs.Event.{Event, History, dequeueStarted, gaveItem, gaveE
 use Rattle.history.specs.Linearization.{Item}
 use Rattle.criterion.specs.Explained.{Started, Ended, Taken, EndedBefore, EndedBeforeDequeue, MayGive, MayBeEmpty}
 use Rattle.model.specs.State.{Entry, blank, put, gone, Consumer, resting, front, reading, scanning, looking, rescanning, found, holding, State, at}
-use Rattle.model.specs.Invariant.{Has, Places, ConsumerOk, Invariant}
-use Rattle.model.specs.Moves.{withPlaces, beginDequeue, answerEmpty, takeItem, takeFront}
+use Rattle.model.specs.Invariant.{Has, Places, Owners, Contents, Past, Calls, ConsumerOk, Invariant, dequeues}
+use Rattle.model.specs.Moves.{withConsumer, withEvent, withPlaces, beginDequeue, answerEmpty, takeItem, takeFront}
 use Rattle.model.specs.Facts.{ended-before-ended, ended-before-dequeue-ended, put-not-blank, put-not-gone, at-same, at-other, at-all}
-use Rattle.model.specs.Frame.{Kept, same-owner, same-entry, producer-kept}
+use Rattle.model.specs.Frame.{Kept, KeptCall, same-call, same-owner, same-entry, producer-kept}
 use Rattle.model.specs.Known.{put-below-tail, put-in-records, put-past-head, put-untaken}
 
 module _ (B : ℕ) (s : State) (i : Invariant B s) where
@@ -23,62 +23,47 @@ module _ (B : ℕ) (s : State) (i : Invariant B s) where
   pub consumer-clause : (x : Consumer) → s .consumer ≡ x → ConsumerOk B s x
   consumer-clause x e = subst (ConsumerOk B s) e (i .consuming)
 
-  pub begin-dequeue : Invariant B (beginDequeue s)
-  begin-dequeue =
+  -- an event of the consumer that says nothing of any enqueue
+  dequeue-event : (d : Event) (c : Consumer) → Owners tail owner (d ∷ history) → Contents entry owner content (d ∷ history)
+      → Past tail (s .starts) entry owner (d ∷ history) → Calls (s .producer) (dequeues c) (d ∷ history)
+      → ((n : ℕ) → KeptCall n history (d ∷ history)) → ConsumerOk B (withEvent (withConsumer s c) d) c
+      → Invariant B (withEvent (withConsumer s c) d)
+  dequeue-event d c owners contents past calls same ok =
       record {
         places = i .places;
         entries = i .entries;
-        owners = record { begun = i .owners .begun; apart = i .owners .apart; in-order = i .owners .in-order };
-        contents = record { number-is = i .contents .number-is; value-is = i .contents .value-is };
-        past =
-            record {
-              explained = i .past .explained;
-              numbered = i .past .numbered;
-              ended-has = i .past .ended-has;
-              taken-has = i .past .taken-has;
-            };
-        calls = record { of-producers = i .calls .of-producers; of-consumer = refl; apart = i .calls .apart };
-        producers = λ u. producer-kept B s (beginDequeue s) (s .producer u) (λ y e. kept (y .number)) (i .producers u);
-        consuming = tt;
+        owners = owners;
+        contents = contents;
+        past = past;
+        calls = calls;
+        producers = λ u. producer-kept B s (withEvent (withConsumer s c) d) (s .producer u) (λ y e. kept (y .number)) (i .producers u);
+        consuming = ok;
       }
     where
-      kept : (n : ℕ) → Kept s (beginDequeue s) n
+      kept : (n : ℕ) → Kept s (withEvent (withConsumer s c) d) n
       kept n =
           record {
             numbers = omega arith;
-            call = record { stays-started = λ v e. e; stays-open = λ e. e; stays-taken = λ e. e };
+            call = same n;
             position = same-owner n tail owner;
-            state = same-entry n owner entry content _;
+            state = same-entry n owner entry content (d ∷ history);
           }
+
+  pub begin-dequeue : Invariant B (beginDequeue s)
+  begin-dequeue =
+      dequeue-event dequeueStarted front (search (i .owners)) (search (i .contents)) (search (i .past))
+      (record { of-producers = i .calls .of-producers; of-consumer = refl; apart = i .calls .apart })
+      (λ n. search (same-call n history))
+      tt
 
   -- A dequeue may answer empty if no set entry's call had ended before it started.
   pub answer-empty : ((p : ℕ) → entry p ≡ put → EndedBeforeDequeue (owner p) history → ⊥) → Invariant B (answerEmpty s)
   answer-empty none =
-      record {
-        places = i .places;
-        entries = i .entries;
-        owners = record { begun = i .owners .begun; apart = i .owners .apart; in-order = i .owners .in-order };
-        contents = record { number-is = i .contents .number-is; value-is = i .contents .value-is };
-        past =
-            record {
-              explained = (may, i .past .explained);
-              numbered = i .past .numbered;
-              ended-has = i .past .ended-has;
-              taken-has = i .past .taken-has;
-            };
-        calls = record { of-producers = i .calls .of-producers; of-consumer = refl; apart = i .calls .apart };
-        producers = λ u. producer-kept B s (answerEmpty s) (s .producer u) (λ y e. kept (y .number)) (i .producers u);
-        consuming = tt;
-      }
+      dequeue-event gaveEmpty resting (search (i .owners)) (search (i .contents)) (search (may, i .past))
+      (record { of-producers = i .calls .of-producers; of-consumer = refl; apart = i .calls .apart })
+      (λ n. search (same-call n history))
+      tt
     where
-      kept : (n : ℕ) → Kept s (answerEmpty s) n
-      kept n =
-          record {
-            numbers = omega arith;
-            call = record { stays-started = λ v e. e; stays-open = λ e. e; stays-taken = λ e. e };
-            position = same-owner n tail owner;
-            state = same-entry n owner entry content _;
-          }
       may : MayBeEmpty history
       may m d = ⊎-elim (λ taken. taken)
           (λ has. absurd (none (has .0) (has .3) (subst (λ (a : ℕ). EndedBeforeDequeue a history) (sym (has .2)) d)))
@@ -87,7 +72,7 @@ module _ (B : ℕ) (s : State) (i : Invariant B s) where
   pub empty-at-head-end : hp ≡ B * lo → lo ≡ tp → Invariant B (answerEmpty s)
   empty-at-head-end at-end last =
       answer-empty (λ p e d. let same : B * lo ≡ B * tp = ap (λ (k : ℕ). B * k) last in
-        omega (arith, put-past-head B s i p e, put-in-records B s i p e))
+      omega (arith, put-past-head B s i p e, put-in-records B s i p e))
 
   pub empty-at-tail : tail ≡ hp → Invariant B (answerEmpty s)
   empty-at-tail same = answer-empty (λ p e d. omega (arith, put-past-head B s i p e, put-below-tail B s i p e))
@@ -95,7 +80,7 @@ module _ (B : ℕ) (s : State) (i : Invariant B s) where
   pub empty-scanned-records : (c k : ℕ) → s .consumer ≡ scanning c k → c ≡ B * k → k ≡ tp → Invariant B (answerEmpty s)
   empty-scanned-records c k e at-end last =
       answer-empty (λ p is-put d. let same : B * k ≡ B * tp = ap (λ (j : ℕ). B * j) last in
-        consumer-clause _ e .4 p (omega (arith, put-in-records B s i p is-put)) is-put d)
+      consumer-clause _ e .4 p (omega (arith, put-in-records B s i p is-put)) is-put d)
 
   pub empty-scanned-tail : (c k : ℕ) → s .consumer ≡ scanning c k → c ≡ tail → Invariant B (answerEmpty s)
   empty-scanned-tail c k e at-tail =
@@ -116,6 +101,7 @@ module _ (B : ℕ) (s : State) (i : Invariant B s) (f g : ℕ) (x : Item) (e : s
     where
       before : (p : ℕ) → owner p ≡ m → EndedBefore (owner p) (owner f) history
       before p o = subst₂ (λ (a b : ℕ). EndedBefore a b history) (sym o) (sym owner-is) d
+
       unset : (p : ℕ) → p < tail → entry p ≡ put → EndedBefore (owner p) (owner f) history → ⊥
       unset p l p-put b =
           by-cases (decLt p f) (λ lt. consumer-clause B s i _ e .2 p lt p-put b) (λ nlt. i .owners .in-order f p (omega arith) l b)

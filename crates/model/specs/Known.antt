@@ -13,6 +13,10 @@ use Rattle.model.specs.Facts.{put-not-blank, put-not-gone, gone-not-blan
 pub lt-unless : (a b : ℕ) → (b ≤ a → ⊥) → a < b
 lt-unless a b no-le = by-cases (decLt a b) (λ l. l) (λ nl. absurd (no-le (omega arith)))
 
+-- what holds below c, and at c, holds below its successor
+pub below-suc : (P : ℕ → Type 0) (c : ℕ) → ((p : ℕ) → p < c → P p) → P c → (p : ℕ) → p < suc c → P p
+below-suc P c below here p l = by-cases (decLt p c) (below p) (λ n. subst P (omega arith) here)
+
 -- a position of one state is of that state elsewhere too, where the move keeps it
 pub has-kept : (tail tail′ : ℕ) (entry entry′ : ℕ → Entry) (owner owner′ : ℕ → ℕ) (e : Entry) (n : ℕ)
     → ((p : ℕ) → p < tail → owner p ≡ n → entry p ≡ e → (p < tail′) × (owner′ p ≡ n) × (entry′ p ≡ e))
@@ -28,9 +32,12 @@ module _ (B : ℕ) (s : State) (i : Invariant B s) where
   pub put-in-records : (p : ℕ) → s .entry p ≡ put → p < B * s .tp
   put-in-records p e = lt-unless p (B * s .tp) (λ l. put-not-blank _ e (i .entries .blank-ahead p l))
 
+  pub none-put-below-head : (p : ℕ) → p < s .hp → s .entry p ≡ put → ⊥
+  none-put-below-head p l e = put-not-gone _ e (i .entries .gone-below p l)
+
   pub put-past-head : (p : ℕ) → s .entry p ≡ put → s .hp ≤ p
   put-past-head p e =
-      by-cases (decLe (s .hp) p) (λ g. g) (λ ng. absurd (put-not-gone _ e (i .entries .gone-below p (omega arith))))
+      by-cases (decLe (s .hp) p) (λ g. g) (λ ng. absurd (none-put-below-head p (omega arith) e))
 
   pub blank-past-head : (p : ℕ) → s .entry p ≡ blank → s .hp ≤ p
   blank-past-head p e =

@@ -9,3 +9,4 @@ pub mod Known
 pub mod Positions
 pub mod Enqueues
 pub mod Dequeues
+pub mod Scanning
