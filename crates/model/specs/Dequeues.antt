@@ -163,6 +163,7 @@ module _ (B : ℕ) (s : State) (i : Invariant B s) (f g : ℕ) (x : Item) (e : s
             record {
               explained = (may-give, i .past .explained);
               numbered = i .past .numbered;
+              one-value = i .past .one-value;
               ended-has = λ m d. ended-take m (i .past .ended-has m d);
               taken-has = taken-take;
             };

@@ -7,11 +7,11 @@ use Prim.Native.Nat.{ℕ, suc, _+_, _*_, _≤_, _<_}
 use native.Mathlib.Omega.{arith}
 use Rattle.history.specs.Event.{History, enqueueStarted, enqueueEnded}
 use Rattle.history.specs.Linearization.{Item}
-use Rattle.criterion.specs.Explained.{Begun, Ended, Taken, EndedBefore}
+use Rattle.criterion.specs.Explained.{Started, Begun, Ended, Taken, EndedBefore}
 use Rattle.model.specs.State.{blank, put, Producer, idle, started, done, State, at, callOf, initial}
 use Rattle.model.specs.Invariant.{Has, Owners, Past, ProducerOk, Invariant}
 use Rattle.model.specs.Moves.{beginEnqueue, finish}
-use Rattle.model.specs.Facts.{put-not-blank, at-all}
+use Rattle.model.specs.Facts.{started-begun, put-not-blank, at-all}
 use Rattle.model.specs.Frame.{Kept, same-owner, same-entry, producer-kept, Watched, consumer-kept}
 use Rattle.model.specs.Threads.{call-is-open, calls-begin, calls-end, producers-after}
 use Rattle.model.specs.Known.{open-numbered, ended-begun, owner-numbered}
@@ -24,7 +24,7 @@ initial-keeps B =
       entries = record { blank-past = λ p l. refl; blank-ahead = λ p l. refl; gone-below = λ p l. absurd (omega arith) };
       owners = record { begun = λ p l. absurd (omega arith); apart = λ p q l. absurd (omega arith); in-order = λ p q l d e. e };
       contents = record { number-is = λ p e. absurd (blank-not-put e); value-is = λ p e. absurd (blank-not-put e) };
-      past = record { explained = tt; numbered = λ n e. absurd e; ended-has = λ n e. absurd e; taken-has = λ n e. absurd e };
+      past = record { explained = tt; numbered = λ n e. absurd e; one-value = λ n v w e. absurd e; ended-has = λ n e. absurd e; taken-has = λ n e. absurd e };
       calls = record { of-producers = λ t. refl; of-consumer = refl; apart = λ t u x y e. absurd (Option·none-ne-some x e) };
       producers = λ t. tt;
       consuming = tt;
@@ -48,6 +48,16 @@ module _ (B : ℕ) (s : State) (i : Invariant B s) (t v : ℕ) where
   numbered-begin : (n : ℕ) → Begun n (enqueueStarted t (suc starts) v ∷ history) → (1 ≤ n) × (n ≤ suc starts)
   numbered-begin n (inl e) = omega arith
   numbered-begin n (inr e) = omega (arith, i .past .numbered n e)
+
+  -- the new number was not started before
+  not-started : (n w : ℕ) → n ≡ suc starts → Started n w history → ⊥
+  not-started n w e d = omega (arith, i .past .numbered n (started-begun n w history d))
+
+  one-value-begin : (n w x : ℕ) → Started n w (enqueueStarted t (suc starts) v ∷ history) → Started n x (enqueueStarted t (suc starts) v ∷ history) → w ≡ x
+  one-value-begin n w x (inl e) (inl d) = e .1 ∙ sym (d .1)
+  one-value-begin n w x (inl e) (inr d) = absurd (not-started n x (e .0) d)
+  one-value-begin n w x (inr e) (inl d) = absurd (not-started n w (d .0) e)
+  one-value-begin n w x (inr e) (inr d) = i .past .one-value n w x e d
 
   kept-begin : (n : ℕ) → Kept s (beginEnqueue s t v) n
   kept-begin n =
@@ -81,7 +91,13 @@ module _ (B : ℕ) (s : State) (i : Invariant B s) (t v : ℕ) where
             };
         contents = record { number-is = i .contents .number-is; value-is = λ p e. inr (i .contents .value-is p e) };
         past =
-            record { explained = i .past .explained; numbered = numbered-begin; ended-has = i .past .ended-has; taken-has = i .past .taken-has };
+            record {
+              explained = i .past .explained;
+              numbered = numbered-begin;
+              one-value = one-value-begin;
+              ended-has = i .past .ended-has;
+              taken-has = i .past .taken-has;
+            };
         calls =
             calls-begin (s .producer) t (suc starts) v _ _
             (λ u y has e. omega (arith, open-numbered B s i (y .number) (y .value) (call-is-open B s i u y has)))
@@ -135,7 +151,13 @@ module _ (B : ℕ) (s : State) (i : Invariant B s) (t n v L k : ℕ) (e : s .pro
         owners = record { begun = i .owners .begun; apart = i .owners .apart; in-order = i .owners .in-order };
         contents = record { number-is = i .contents .number-is; value-is = i .contents .value-is };
         past =
-            record { explained = i .past .explained; numbered = i .past .numbered; ended-has = ended-finish; taken-has = i .past .taken-has };
+            record {
+              explained = i .past .explained;
+              numbered = i .past .numbered;
+              one-value = i .past .one-value;
+              ended-has = ended-finish;
+              taken-has = i .past .taken-has;
+            };
         calls = calls-end (s .producer) t n v _ _ (i .calls);
         producers = producers-after B s i (finish s t n v) t _ idle _ e refl kept-finish tt;
         consuming = consumer-kept B s (finish s t n v) watched-finish (s .consumer) (i .consuming);

@@ -10,3 +10,4 @@ pub mod Positions
 pub mod Enqueues
 pub mod Dequeues
 pub mod Scanning
+pub mod Items

@@ -94,6 +94,7 @@ module _ (B : ℕ) (s : State) (i : Invariant B s) (t n v : ℕ) (e : s .produce
             record {
               explained = i .past .explained;
               numbered = i .past .numbered;
+              one-value = i .past .one-value;
               ended-has = λ m d. ⊎-elim inl (λ h. inr (has-take put m h)) (i .past .ended-has m d);
               taken-has = λ m d. has-take gone m (i .past .taken-has m d);
             };
@@ -182,6 +183,7 @@ module _ (B : ℕ) (s : State) (i : Invariant B s) (t n v L k : ℕ) where
             record {
               explained = i .past .explained;
               numbered = i .past .numbered;
+              one-value = i .past .one-value;
               ended-has = λ m d. ⊎-elim inl (λ h. inr (has m put still-put h)) (i .past .ended-has m d);
               taken-has = λ m d. has m gone still-gone (i .past .taken-has m d);
             };
