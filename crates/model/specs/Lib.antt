@@ -11,3 +11,4 @@ pub mod Enqueues
 pub mod Dequeues
 pub mod Scanning
 pub mod Items
+pub mod Count
