@@ -12,3 +12,4 @@ pub mod Dequeues
 pub mod Scanning
 pub mod Items
 pub mod Count
+pub mod Bounds
