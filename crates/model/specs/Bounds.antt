@@ -1,12 +1,12 @@
 -- Where the threads stand: bounds on places and positions that the records behind them need. From the clauses of the phases; a
 -- producer whose entry is still empty is at or past the head.
-use mathlib.Core.Path.{_≡_, refl, ap}
+use mathlib.Core.Path.{_≡_}
 use mathlib.Core.Logic.{_≢_}
-use Prim.Native.Nat.{ℕ, suc, _+_, _*_, _≤_, _<_}
+use Prim.Native.Nat.{ℕ, suc, _*_, _≤_, _<_}
 use native.Mathlib.Nat.{lt-of-mul-lt-mul-left}
 use native.Mathlib.Omega.{arith}
 use Rattle.history.specs.Linearization.{Item}
-use Rattle.model.specs.State.{gone, Producer, behind, writing, setting, Consumer, front, reading, scanning, looking, rescanning, found, holding, State}
+use Rattle.model.specs.State.{gone, behind, writing, setting, scanning, looking, rescanning, found, holding, State}
 use Rattle.model.specs.Invariant.{Placed, Inside, Reached, Found, Invariant}
 use Rattle.model.specs.Facts.{gone-not-blank}
 use Rattle.model.specs.Known.{lt-unless, blank-past-head}

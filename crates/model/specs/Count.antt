@@ -46,7 +46,8 @@ pigeonhole (suc m) (suc k) f within apart = omega (arith, pigeonhole m k g g-wit
     g-apart : (p q : ℕ) → p < m → q < m → g p ≡ g q → p ≡ q
     g-apart p q lp lq e = go (instead-cases f (suc k) (f m) p) (instead-cases f (suc k) (f m) q)
       where
-        go : ((f p ≡ suc k) × (g p ≡ f m)) ⊎ ((f p ≢ suc k) × (g p ≡ f p)) → ((f q ≡ suc k) × (g q ≡ f m)) ⊎ ((f q ≢ suc k) × (g q ≡ f q)) → p ≡ q
+        go : ((f p ≡ suc k) × (g p ≡ f m)) ⊎ ((f p ≢ suc k) × (g p ≡ f p))
+            → ((f q ≡ suc k) × (g q ≡ f m)) ⊎ ((f q ≢ suc k) × (g q ≡ f q)) → p ≡ q
         go (inl c) (inl d) = apart p q (omega arith) (omega arith) (c .0 ∙ sym (d .0))
         go (inl c) (inr d) = absurd (apart-last q lq (sym (d .1) ∙ sym e ∙ c .1))
         go (inr c) (inl d) = absurd (apart-last p lp (sym (c .1) ∙ e ∙ d .1))

@@ -1,15 +1,15 @@
 -- A dequeue's beginning and its ends, empty or with an item, keep the invariant, and with it that the history is explained. From
 -- the frame of producers and from what the invariant says of set entries.
 use mathlib.Core.Path.{_≡_, refl, sym, _∙_, ap, subst, subst₂}
-use mathlib.Core.Logic.{_⊎_, inl, inr, _≢_, ⊎-elim, by-cases}
+use mathlib.Core.Logic.{_⊎_, inl, inr, ⊎-elim, by-cases}
 use mathlib.Core.List.{_∷_}
-use Prim.Native.Nat.{ℕ, suc, _+_, _*_, _≤_, _<_}
+use Prim.Native.Nat.{ℕ, suc, _*_, _<_}
 use native.Mathlib.Decide.{decLt}
 use native.Mathlib.Omega.{arith}
 use Rattle.history.specs.Event.{Event, History, dequeueStarted, gaveItem, gaveEmpty}
 use Rattle.history.specs.Linearization.{Item}
-use Rattle.criterion.specs.Explained.{Started, Ended, Taken, EndedBefore, EndedBeforeDequeue, MayGive, MayBeEmpty}
-use Rattle.model.specs.State.{Entry, blank, put, gone, Consumer, resting, front, reading, scanning, looking, rescanning, found, holding, State, at}
+use Rattle.criterion.specs.Explained.{Started, Taken, EndedBefore, EndedBeforeDequeue, MayGive, MayBeEmpty}
+use Rattle.model.specs.State.{blank, put, gone, Consumer, resting, front, scanning, holding, State, at}
 use Rattle.model.specs.Invariant.{Has, Places, Owners, Contents, Past, Calls, ConsumerOk, Invariant, dequeues}
 use Rattle.model.specs.Moves.{withConsumer, withEvent, withPlaces, beginDequeue, answerEmpty, takeItem, takeFront}
 use Rattle.model.specs.Facts.{ended-before-ended, ended-before-dequeue-ended, put-not-blank, put-not-gone, at-same, at-other, at-all}
@@ -97,14 +97,17 @@ module _ (B : ℕ) (s : State) (i : Invariant B s) (f g : ℕ) (x : Item) (e : s
 
   -- what ended before the found call started is taken: it has no set entry, neither before found nor past it
   first : (m : ℕ) → EndedBefore m (x .number) history → Taken m history
-  first m d = ⊎-elim (λ taken. taken) (λ has. absurd (unset (has .0) (has .1) (has .3) (before (has .0) (has .2)))) (i .past .ended-has m (ended-before-ended m _ history d))
+  first m d =
+      ⊎-elim (λ taken. taken) (λ has. absurd (unset (has .0) (has .1) (has .3) (before (has .0) (has .2))))
+      (i .past .ended-has m (ended-before-ended m _ history d))
     where
       before : (p : ℕ) → owner p ≡ m → EndedBefore (owner p) (owner f) history
       before p o = subst₂ (λ (a b : ℕ). EndedBefore a b history) (sym o) (sym owner-is) d
 
       unset : (p : ℕ) → p < tail → entry p ≡ put → EndedBefore (owner p) (owner f) history → ⊥
       unset p l p-put b =
-          by-cases (decLt p f) (λ lt. consumer-clause B s i _ e .2 p lt p-put b) (λ nlt. i .owners .in-order f p (omega arith) l b)
+          by-cases (decLt p f) (λ lt. consumer-clause B s i _ e .2 p lt p-put b)
+          (λ nlt. i .owners .in-order f p (omega arith) l b)
 
   may-give : MayGive (x .number) (x .value) history
   may-give =

@@ -1,15 +1,14 @@
 -- The invariant holds at first, and an enqueue's beginning and its end keep it. From the frames of producers and consumer.
-use mathlib.Core.Path.{_≡_, refl, sym, _∙_, ap, subst}
+use mathlib.Core.Path.{_≡_, refl, sym, _∙_, subst}
 use mathlib.Core.Logic.{_⊎_, inl, inr, _≢_, ⊎-elim}
-use mathlib.Core.Option.{Option, none, some, Option·none-ne-some}
+use mathlib.Core.Option.{Option·none-ne-some}
 use mathlib.Core.List.{_∷_}
-use Prim.Native.Nat.{ℕ, suc, _+_, _*_, _≤_, _<_}
+use Prim.Native.Nat.{ℕ, suc, _≤_, _<_}
 use native.Mathlib.Omega.{arith}
-use Rattle.history.specs.Event.{History, enqueueStarted, enqueueEnded}
-use Rattle.history.specs.Linearization.{Item}
+use Rattle.history.specs.Event.{enqueueStarted, enqueueEnded}
 use Rattle.criterion.specs.Explained.{Started, Begun, Ended, Taken, EndedBefore}
-use Rattle.model.specs.State.{blank, put, Producer, idle, started, done, State, at, callOf, initial}
-use Rattle.model.specs.Invariant.{Has, Owners, Past, ProducerOk, Invariant}
+use Rattle.model.specs.State.{blank, put, idle, started, done, State, initial}
+use Rattle.model.specs.Invariant.{Has, ProducerOk, Invariant}
 use Rattle.model.specs.Moves.{beginEnqueue, finish}
 use Rattle.model.specs.Facts.{started-begun, put-not-blank, at-all}
 use Rattle.model.specs.Frame.{Kept, same-owner, same-entry, producer-kept, Watched, consumer-kept}
@@ -24,7 +23,14 @@ initial-keeps B =
       entries = record { blank-past = λ p l. refl; blank-ahead = λ p l. refl; gone-below = λ p l. absurd (omega arith) };
       owners = record { begun = λ p l. absurd (omega arith); apart = λ p q l. absurd (omega arith); in-order = λ p q l d e. e };
       contents = record { number-is = λ p e. absurd (blank-not-put e); value-is = λ p e. absurd (blank-not-put e) };
-      past = record { explained = tt; numbered = λ n e. absurd e; one-value = λ n v w e. absurd e; ended-has = λ n e. absurd e; taken-has = λ n e. absurd e };
+      past =
+          record {
+            explained = tt;
+            numbered = λ n e. absurd e;
+            one-value = λ n v w e. absurd e;
+            ended-has = λ n e. absurd e;
+            taken-has = λ n e. absurd e;
+          };
       calls = record { of-producers = λ t. refl; of-consumer = refl; apart = λ t u x y e. absurd (Option·none-ne-some x e) };
       producers = λ t. tt;
       consuming = tt;
@@ -41,7 +47,8 @@ module _ (B : ℕ) (s : State) (i : Invariant B s) (t v : ℕ) where
   new-owner p l e = omega (arith, owner-numbered B s i p l)
 
   -- a call at a position did not start just now, so what ended before it started had ended before
-  was-before : (a p : ℕ) → p < tail → EndedBefore a (owner p) (enqueueStarted t (suc starts) v ∷ history) → EndedBefore a (owner p) history
+  was-before : (a p : ℕ) → p < tail → EndedBefore a (owner p) (enqueueStarted t (suc starts) v ∷ history)
+      → EndedBefore a (owner p) history
   was-before a p l (inl e) = absurd (new-owner p l (e .0))
   was-before a p l (inr e) = e
 
@@ -53,7 +60,8 @@ module _ (B : ℕ) (s : State) (i : Invariant B s) (t v : ℕ) where
   not-started : (n w : ℕ) → n ≡ suc starts → Started n w history → ⊥
   not-started n w e d = omega (arith, i .past .numbered n (started-begun n w history d))
 
-  one-value-begin : (n w x : ℕ) → Started n w (enqueueStarted t (suc starts) v ∷ history) → Started n x (enqueueStarted t (suc starts) v ∷ history) → w ≡ x
+  one-value-begin : (n w x : ℕ) → Started n w (enqueueStarted t (suc starts) v ∷ history)
+      → Started n x (enqueueStarted t (suc starts) v ∷ history) → w ≡ x
   one-value-begin n w x (inl e) (inl d) = e .1 ∙ sym (d .1)
   one-value-begin n w x (inl e) (inr d) = absurd (not-started n x (e .0) d)
   one-value-begin n w x (inr e) (inl d) = absurd (not-started n w (d .0) e)
@@ -122,7 +130,8 @@ module _ (B : ℕ) (s : State) (i : Invariant B s) (t n v L k : ℕ) (e : s .pro
   ended-finish m (inr d) = i .past .ended-has m d
   ended-finish m (inl d) =
       let o = producer-clause B s i t _ e in
-      subst (λ (a : ℕ). Taken a history ⊎ Has tail entry owner put a) (sym d) (⊎-elim inl (λ is-put. inr (L, o .1, o .2, is-put)) (o .5))
+      subst (λ (a : ℕ). Taken a history ⊎ Has tail entry owner put a) (sym d)
+      (⊎-elim inl (λ is-put. inr (L, o .1, o .2, is-put)) (o .5))
 
   kept-finish : (m : ℕ) → m ≢ n → Kept s (finish s t n v) m
   kept-finish m ne =

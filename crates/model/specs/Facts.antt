@@ -1,14 +1,14 @@
 -- Laws of the history's facts, of entries and of functions changed at one place. From the definitions of crate criterion and of
 -- State alone.
-use mathlib.Core.Path.{_≡_, refl, sym, _∙_, ap, subst}
+use mathlib.Core.Path.{_≡_, refl, sym, subst}
 use mathlib.Core.Logic.{_⊎_, inl, inr, _≢_}
 use mathlib.Core.Bool.{Bool, true, false, cond}
-use mathlib.Core.List.{List, [], _∷_}
+use mathlib.Core.List.{_∷_}
 use Prim.Native.Nat.{ℕ}
 use native.Mathlib.Omega.{arith}
 use lib.Dec.{eqb}
 use borrow.Author.Tests.{eqb-true, eqb-false, eq-eqb, ne-eqb}
-use Rattle.history.specs.Event.{Event, History, enqueueStarted, enqueueEnded, dequeueStarted, gaveItem, gaveEmpty}
+use Rattle.history.specs.Event.{History, enqueueStarted, enqueueEnded, dequeueStarted, gaveItem, gaveEmpty}
 use Rattle.criterion.specs.Explained.{Started, Begun, Ended, EndedBefore, EndedBeforeDequeue}
 use Rattle.model.specs.State.{Entry, blank, put, gone, at}
 
@@ -70,5 +70,8 @@ module _ {A : Type 0} (f : ℕ → A) (k : ℕ) (x : A) where
       go false e = there j (λ d. eqb-false k j e (sym d))
 
   -- a value of the changed function is x, at k, or a value of f elsewhere
-  pub at-cases : (j : ℕ) (y : A) → at f k x j ≡ y → ((j ≡ k) × (x ≡ y)) ⊎ ((j ≢ k) × (f j ≡ y))
-  at-cases j y = at-all (λ i a. a ≡ y → ((i ≡ k) × (x ≡ y)) ⊎ ((i ≢ k) × (f i ≡ y))) (λ e. inl (refl, e)) (λ i ne e. inr (ne, e)) j
+  abbrev pub AtCases : ℕ → A → Type 0
+  AtCases j y = ((j ≡ k) × (x ≡ y)) ⊎ ((j ≢ k) × (f j ≡ y))
+
+  pub at-cases : (j : ℕ) (y : A) → at f k x j ≡ y → AtCases j y
+  at-cases j y = at-all (λ i a. a ≡ y → AtCases i y) (λ e. inl (refl, e)) (λ i ne e. inr (ne, e)) j

@@ -1,15 +1,15 @@
 -- What a move must leave alone for the clause of a producer, or of the consumer, to hold after it. From the invariant's clauses;
 -- a move shows these few facts and need not look at the phases.
-use mathlib.Core.Path.{_≡_, refl, sym, _∙_, ap, subst}
-use mathlib.Core.Logic.{_⊎_, inl, inr, _≢_}
-use mathlib.Core.Option.{Option, none, some}
-use Prim.Native.Nat.{ℕ, suc, _+_, _*_, _≤_, _<_}
+use mathlib.Core.Path.{_≡_, refl, _∙_}
+use mathlib.Core.Logic.{_⊎_, inl, inr}
+use mathlib.Core.Option.{some}
+use Prim.Native.Nat.{ℕ, suc, _*_, _≤_, _<_}
 use native.Mathlib.Omega.{arith}
 use Rattle.history.specs.Event.{History}
 use Rattle.history.specs.Linearization.{Item}
-use Rattle.criterion.specs.Explained.{Started, Begun, Ended, Taken, EndedBefore, EndedBeforeDequeue}
-use Rattle.model.specs.State.{Entry, blank, put, gone, Producer, idle, started, seeking, ahead, shifting, behind, writing, setting, done, Consumer, resting, front, reading, scanning, looking, rescanning, found, holding, State, callOf}
-use Rattle.model.specs.Invariant.{Open, Placed, Inside, ProducerOk, ConsumerOk, Passed, Rescanned, Reached, Found}
+use Rattle.criterion.specs.Explained.{Started, Ended, Taken, EndedBefore, EndedBeforeDequeue}
+use Rattle.model.specs.State.{Entry, blank, put, Producer, idle, started, seeking, ahead, shifting, behind, writing, setting, done, Consumer, resting, front, reading, scanning, looking, rescanning, found, holding, State, callOf}
+use Rattle.model.specs.Invariant.{Open, Placed, ProducerOk, ConsumerOk, Passed, Rescanned, Reached, Found}
 
 -- call n stays as it is: started, open, taken
 pub record KeptCall (n : ℕ) (h h′ : History) : Type 0 where
@@ -49,7 +49,8 @@ same-entry n owner entry content h′ =
 
 module _ (B : ℕ) (s s′ : State) where
   open-kept : (n v : ℕ) → Kept s s′ n → Open n v (s .history) → Open n v (s′ .history)
-  open-kept n v k o = record { is-started = k .call .stays-started v (o .is-started); not-ended = λ e. o .not-ended (k .call .stays-open e) }
+  open-kept n v k o =
+      record { is-started = k .call .stays-started v (o .is-started); not-ended = λ e. o .not-ended (k .call .stays-open e) }
 
   placed-kept : (n v L : ℕ) → Kept s s′ n → Placed (s .tail) n v L (s .entry) (s .owner) (s .history)
       → Placed (s′ .tail) n v L (s′ .entry) (s′ .owner) (s′ .history)
@@ -66,7 +67,8 @@ module _ (B : ℕ) (s s′ : State) where
   settled-kept n L k o (inl e) = inl (k .call .stays-taken e)
   settled-kept n L k o (inr e) = k .state .stays-put L o e
 
-  pub producer-kept : (x : Producer) → ((y : Item) → callOf x ≡ some y → Kept s s′ (y .number)) → ProducerOk B s x → ProducerOk B s′ x
+  pub producer-kept : (x : Producer) → ((y : Item) → callOf x ≡ some y → Kept s s′ (y .number)) → ProducerOk B s x
+      → ProducerOk B s′ x
   producer-kept idle k o = tt
   producer-kept (started n v) k o =
       let e : Kept s s′ n = k _ refl in
@@ -88,8 +90,14 @@ module _ (B : ℕ) (s s′ : State) where
       let e : Kept s s′ n = k _ refl in
       (placed-kept n v L e (o .0), omega (arith, e .numbers), o .2, e .state .stays-content L (o .0 .owns) ∙ o .3)
   producer-kept (done n v L j) k o =
-      let e : Kept s s′ n = k _ refl in
-      (open-kept n v e (o .0), omega (arith, e .numbers), e .position .stays-owner L (o .1) (o .2), omega (arith, e .numbers), o .4, settled-kept n L e (o .2) (o .5))
+      let e : Kept s s′ n = k _ refl in (
+        open-kept n v e (o .0),
+        omega (arith, e .numbers),
+        e .position .stays-owner L (o .1) (o .2),
+        omega (arith, e .numbers),
+        o .4,
+        settled-kept n L e (o .2) (o .5),
+      )
 
 -- the consumer keeps its set entries, and no set entry comes to have ended before its dequeue, or before a later position's call
 pub record Watched (s s′ : State) : Type 0 where

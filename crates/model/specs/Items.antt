@@ -1,15 +1,15 @@
 -- The items of the machine: what its set entries hold, by rising position. They are an order in which the untaken items may be
 -- left. From the invariant.
-use mathlib.Core.Path.{_≡_, refl, sym, _∙_, ap, subst, subst₂}
-use mathlib.Core.Logic.{_⊎_, inl, inr, _≢_}
-use mathlib.Core.List.{List, [], _∷_, _++_}
-use Prim.Native.Nat.{ℕ, zero, suc, _≤_, _<_}
+use mathlib.Core.Path.{_≡_, refl, sym, _∙_, subst, subst₂}
+use mathlib.Core.Logic.{inl, inr, _≢_}
+use mathlib.Core.List.{[], _∷_, _++_}
+use Prim.Native.Nat.{ℕ, zero, suc, _<_}
 use native.Mathlib.Omega.{arith}
 use Rattle.history.specs.Lists.{All, Pairwise, Member}
 use Rattle.history.specs.Linearization.{Item, Queue}
 use Rattle.criterion.specs.Explained.{Started, Ended, Taken, EndedBefore, Rest}
 use Rattle.model.specs.State.{Entry, blank, put, gone, State}
-use Rattle.model.specs.Invariant.{Has, Invariant}
+use Rattle.model.specs.Invariant.{Invariant}
 use Rattle.model.specs.Known.{below-suc, put-untaken, ended-put}
 
 -- a set entry's content joins at the back
@@ -59,14 +59,16 @@ member-join q gone x y m = m
 
 module _ (entry : ℕ → Entry) (content : ℕ → Item) where
   -- what holds of every set entry below n holds of every item
-  pub all-items : (P : Item → Type 0) (n : ℕ) → ((p : ℕ) → p < n → entry p ≡ put → P (content p)) → All P (itemsBelow n entry content)
+  pub all-items : (P : Item → Type 0) (n : ℕ) → ((p : ℕ) → p < n → entry p ≡ put → P (content p))
+      → All P (itemsBelow n entry content)
   all-items P zero h = tt
   all-items P (suc n) h =
       all-join P (itemsBelow n entry content) (entry n) (content n) (all-items P n (λ p l. h p (omega arith))) (h n (omega arith))
 
   -- and so for every two of them
   pub pairwise-items : (R : Item → Item → Type 0) (n : ℕ)
-      → ((p q : ℕ) → p < q → q < n → entry p ≡ put → entry q ≡ put → R (content p) (content q)) → Pairwise R (itemsBelow n entry content)
+      → ((p q : ℕ) → p < q → q < n → entry p ≡ put → entry q ≡ put → R (content p) (content q))
+      → Pairwise R (itemsBelow n entry content)
   pairwise-items R zero h = tt
   pairwise-items R (suc n) h =
       pairwise-join R (itemsBelow n entry content) (entry n) (content n) (pairwise-items R n (λ p q l m. h p q l (omega arith)))
@@ -87,21 +89,27 @@ module _ (B : ℕ) (s : State) (i : Invariant B s) where
   number : (p : ℕ) → entry p ≡ put → content p .number ≡ owner p
   number = i .contents .number-is
 
-  untaken-item : (p : ℕ) → p < tail → entry p ≡ put → Started (content p .number) (content p .value) history × (Taken (content p .number) history → ⊥)
+  untaken-item : (p : ℕ) → p < tail → entry p ≡ put
+      → Started (content p .number) (content p .value) history × (Taken (content p .number) history → ⊥)
   untaken-item p l e = (i .contents .value-is p e, put-untaken B s i p (content p .number) e (sym (number p e)))
 
   -- an untaken enqueue that has ended is among the items, with its value
-  ended-item : (n v : ℕ) → Started n v history → Ended n history → (Taken n history → ⊥) → Member (record { number = n; value = v }) (items s)
+  ended-item : (n v : ℕ) → Started n v history → Ended n history → (Taken n history → ⊥)
+      → Member (record { number = n; value = v }) (items s)
   ended-item n v is-started ended not-taken =
       let (p, l, o, e) = ended-put B s i n ended not-taken in
       let is-n : content p .number ≡ n = number p e ∙ o in
-      let is-v : content p .value ≡ v = i .past .one-value n _ v (subst (λ (m : ℕ). Started m (content p .value) history) is-n (i .contents .value-is p e)) is-started in
-      subst (λ (x : Item). Member x (items s)) (λ j. record { number = is-n j; value = is-v j }) (member-items entry content tail p l e)
+      let as-held : Started n (content p .value) history =
+      subst (λ (m : ℕ). Started m (content p .value) history) is-n (i .contents .value-is p e) in
+      let is-v : content p .value ≡ v = i .past .one-value n (content p .value) v as-held is-started in
+      subst (λ (x : Item). Member x (items s)) (λ j. record { number = is-n j; value = is-v j })
+      (member-items entry content tail p l e)
 
   distinct-items : (p q : ℕ) → p < q → q < tail → entry p ≡ put → entry q ≡ put → content p .number ≢ content q .number
   distinct-items p q l b ep eq e = omega (arith, i .owners .apart p q (omega arith) b (sym (number p ep) ∙ e ∙ number q eq))
 
-  ordered-items : (p q : ℕ) → p < q → q < tail → entry p ≡ put → entry q ≡ put → EndedBefore (content q .number) (content p .number) history → ⊥
+  ordered-items : (p q : ℕ) → p < q → q < tail → entry p ≡ put → entry q ≡ put
+      → EndedBefore (content q .number) (content p .number) history → ⊥
   ordered-items p q l b ep eq e =
       i .owners .in-order p q (omega arith) b (subst₂ (λ (a b : ℕ). EndedBefore a b history) (number q eq) (number p ep) e)
 

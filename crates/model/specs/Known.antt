@@ -1,10 +1,10 @@
 -- What the invariant says at once of set entries, owners and taken calls. From its parts on entries, owners and the past.
-use mathlib.Core.Path.{_≡_, refl, sym, _∙_, ap, subst}
-use mathlib.Core.Logic.{_⊎_, inl, inr, _≢_, by-cases}
-use Prim.Native.Nat.{ℕ, suc, _+_, _*_, _≤_, _<_}
+use mathlib.Core.Path.{_≡_, sym, _∙_, ap, subst}
+use mathlib.Core.Logic.{_⊎_, inl, inr, by-cases}
+use Prim.Native.Nat.{ℕ, suc, _*_, _≤_, _<_}
 use native.Mathlib.Decide.{decLe, decLt}
 use native.Mathlib.Omega.{arith}
-use Rattle.criterion.specs.Explained.{Started, Begun, Ended, Taken}
+use Rattle.criterion.specs.Explained.{Begun, Ended, Taken}
 use Rattle.model.specs.State.{Entry, blank, put, gone, State}
 use Rattle.model.specs.Invariant.{Has, Open, Invariant}
 use Rattle.model.specs.Facts.{put-not-blank, put-not-gone, gone-not-blank, started-begun}

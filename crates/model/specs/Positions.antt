@@ -1,16 +1,16 @@
 -- A producer takes its position, writes its entry and sets it, phases 1, 8 and 9: each keeps the invariant. From the frames of
 -- producers and consumer. Set-entry is where a set entry may appear behind the cursor: its call has not ended.
 use mathlib.Core.Path.{_≡_, refl, sym, _∙_, ap, subst, subst₂}
-use mathlib.Core.Logic.{_⊎_, inl, inr, _≢_, ⊎-elim, ⊎-map}
-use Prim.Native.Nat.{ℕ, suc, _+_, _*_, _≤_, _<_}
+use mathlib.Core.Logic.{inl, inr, _≢_, ⊎-elim}
+use Prim.Native.Nat.{ℕ, suc, _≤_, _<_}
 use native.Mathlib.Nat.{mul-le-mul-left}
 use native.Mathlib.Omega.{arith}
 use Rattle.history.specs.Linearization.{Item}
-use Rattle.criterion.specs.Explained.{Started, Begun, Ended, Taken, EndedBefore, EndedBeforeDequeue}
-use Rattle.model.specs.State.{Entry, blank, put, gone, Producer, started, seeking, writing, setting, done, State, at, callOf}
+use Rattle.criterion.specs.Explained.{Started, Begun, Ended, EndedBefore, EndedBeforeDequeue}
+use Rattle.model.specs.State.{Entry, put, gone, started, seeking, writing, setting, done, State, at, callOf}
 use Rattle.model.specs.Invariant.{Has, Owners, ProducerOk, Invariant}
 use Rattle.model.specs.Moves.{takePosition, writeEntry, setEntry}
-use Rattle.model.specs.Facts.{started-begun, ended-before-ended, ended-before-dequeue-ended, put-not-blank, gone-not-blank, at-same, at-other, at-all, at-cases}
+use Rattle.model.specs.Facts.{started-begun, ended-before-ended, ended-before-dequeue-ended, put-not-blank, gone-not-blank, at-same, at-other, at-all, AtCases, at-cases}
 use Rattle.model.specs.Frame.{Kept, same-call, same-owner, same-entry, Watched, consumer-kept}
 use Rattle.model.specs.Threads.{calls-same, producers-after}
 use Rattle.model.specs.Known.{put-below-tail, has-kept}
@@ -23,25 +23,41 @@ module _ (B : ℕ) (s : State) (i : Invariant B s) (t n v : ℕ) (e : s .produce
   still-owner : (p : ℕ) → p < tail → at owner tail n p ≡ owner p
   still-owner p l = at-other owner tail n p (omega arith)
 
+  -- the call had no position, so that owners stay apart
+  apart-take : (p q : ℕ) → p < suc tail → q < suc tail → at owner tail n p ≡ at owner tail n q → p ≡ q
+  apart-take p q lp lq d = go (at-cases owner tail n p _ d) (at-cases owner tail n q _ refl)
+    where
+      fresh : (r : ℕ) → r < tail → owner r ≢ n
+      fresh = producer-clause B s i t _ e .1
+
+      go : AtCases owner tail n p (at owner tail n q) → AtCases owner tail n q (at owner tail n q) → p ≡ q
+      go (inl c) (inl d) = c .0 ∙ sym (d .0)
+      go (inl c) (inr d) = absurd (fresh q (omega arith) (d .1 ∙ sym (c .1)))
+      go (inr c) (inl d) = absurd (fresh p (omega arith) (c .1 ∙ sym (d .1)))
+      go (inr c) (inr d) = i .owners .apart p q (omega arith) (omega arith) (c .1 ∙ sym (d .1))
+
+  -- it has not ended, so that it ended before no other call started
+  in-order-take : (p q : ℕ) → p ≤ q → q < suc tail → EndedBefore (at owner tail n q) (at owner tail n p) history → ⊥
+  in-order-take p =
+      at-all owner tail n (λ q a. p ≤ q → q < suc tail → EndedBefore a (at owner tail n p) history → ⊥)
+      (λ le l d. open-call (ended-before-ended n _ history d))
+      (λ q ne le l d. i .owners .in-order p q le (omega arith) (same-p q (omega arith) d))
+    where
+      open-call : Ended n history → ⊥
+      open-call = producer-clause B s i t _ e .0 .not-ended
+
+      same-p : (q : ℕ) → p < tail → EndedBefore (owner q) (at owner tail n p) history → EndedBefore (owner q) (owner p) history
+      same-p q l d = subst (λ (b : ℕ). EndedBefore (owner q) b history) (still-owner p l) d
+
   owners-take : Owners (suc tail) (at owner tail n) history
   owners-take =
-      let o = producer-clause B s i t _ e in
       record {
-        begun = at-all owner tail n (λ p a. p < suc tail → Begun a history)
-            (λ l. started-begun n v history (o .0 .is-started))
+        begun =
+            at-all owner tail n (λ p a. p < suc tail → Begun a history)
+            (λ l. started-begun n v history (producer-clause B s i t _ e .0 .is-started))
             (λ p ne l. i .owners .begun p (omega arith));
-        apart = λ p q lp lq. at-all owner tail n (λ j a. j < suc tail → a ≡ at owner tail n q → j ≡ q)
-            (λ l. at-all owner tail n (λ j a. j < suc tail → n ≡ a → tail ≡ j) (λ l d. refl) (λ j ne l d. absurd (o .1 j (omega arith) (sym d))) q lq)
-            (λ j ne l. at-all owner tail n (λ m a. m < suc tail → owner j ≡ a → j ≡ m)
-            (λ lm d. absurd (o .1 j (omega arith) d))
-            (λ m ne′ lm d. i .owners .apart j m (omega arith) (omega arith) d)
-            q lq)
-            p lp;
-        in-order = λ p q. at-all owner tail n (λ j a. p ≤ j → j < suc tail → EndedBefore a (at owner tail n p) history → ⊥)
-            (λ le l d. o .0 .not-ended (ended-before-ended n _ history d))
-            (λ j ne le l d. i .owners .in-order p j le (omega arith)
-            (subst (λ (b : ℕ). EndedBefore (owner j) b history) (still-owner p (omega arith)) d))
-            q;
+        apart = apart-take;
+        in-order = in-order-take;
       }
 
   kept-take : (m : ℕ) → m ≢ n → Kept s (takePosition s t n v) m
@@ -101,7 +117,12 @@ module _ (B : ℕ) (s : State) (i : Invariant B s) (t n v : ℕ) (e : s .produce
         calls = calls-same (s .producer) t (seeking n v tail) _ _ (sym (ap callOf e)) (i .calls);
         producers =
             producers-after B s i (takePosition s t n v) t _ (seeking n v tail) _ e refl kept-take
-            (record { is-open = o .0; taken = omega arith; is-blank = i .entries .blank-past tail (omega arith); owns = at-same owner tail n });
+            (record {
+              is-open = o .0;
+              taken = omega arith;
+              is-blank = i .entries .blank-past tail (omega arith);
+              owns = at-same owner tail n;
+            });
         consuming = consumer-kept B s (takePosition s t n v) watched-take (s .consumer) (i .consuming);
       }
 
@@ -206,7 +227,8 @@ module _ (B : ℕ) (s : State) (i : Invariant B s) (t n v L k : ℕ) where
       still-gone : (p : ℕ) → entry p ≡ gone → at entry L put p ≡ gone
       still-gone p d = same p (λ q. gone-not-blank _ d (ap entry q ∙ o .0 .is-blank)) ∙ d
 
-      has : (m : ℕ) (x : Entry) → ((p : ℕ) → entry p ≡ x → at entry L put p ≡ x) → Has tail entry owner x m → Has tail (at entry L put) owner x m
+      has : (m : ℕ) (x : Entry) → ((p : ℕ) → entry p ≡ x → at entry L put p ≡ x) → Has tail entry owner x m
+          → Has tail (at entry L put) owner x m
       has m x still = has-kept tail tail entry (at entry L put) owner owner x m (λ p l d is-x. (l, d, still p is-x))
 
       kept : (m : ℕ) → m ≢ n → Kept s (setEntry s t n v L k) m

@@ -1,13 +1,13 @@
 -- Consumer moves from the head along the records, phases 1 to 6, keep the invariant. From the frame of moves that change the
 -- consumer and the head.
-use mathlib.Core.Path.{_≡_, refl, sym, _∙_, ap, subst}
-use mathlib.Core.Logic.{_⊎_, _≢_}
-use Prim.Native.Nat.{ℕ, suc, _+_, _*_, _≤_, _<_}
+use mathlib.Core.Path.{_≡_, refl, sym, subst}
+use mathlib.Core.Logic.{_≢_}
+use Prim.Native.Nat.{ℕ, suc, _*_, _<_}
 use native.Mathlib.Nat.{lt-of-mul-lt-mul-left}
 use native.Mathlib.Omega.{arith}
 use Rattle.criterion.specs.Explained.{EndedBefore, EndedBeforeDequeue}
-use Rattle.model.specs.State.{blank, put, gone, Consumer, resting, front, reading, scanning, looking, rescanning, found, holding, State}
-use Rattle.model.specs.Invariant.{ConsumerOk, Invariant, Passed, Rescanned, Reached, Found}
+use Rattle.model.specs.State.{blank, put, gone, front, reading, scanning, looking, rescanning, found, holding, State}
+use Rattle.model.specs.Invariant.{ConsumerOk, Invariant, Rescanned}
 use Rattle.model.specs.Moves.{withConsumer, retireHead, advanceHead}
 use Rattle.model.specs.Facts.{put-not-blank, gone-not-blank}
 use Rattle.model.specs.Threads.{consumer-moves, consumer-goes-on}
@@ -21,8 +21,8 @@ module _ (B : ℕ) (s : State) (i : Invariant B s) where
 
   pub retire-head : s .consumer ≡ front → hp ≡ B * lo → lo ≢ tp → Invariant B (retireHead s)
   retire-head e at-end more =
-      consumer-moves B s i hp (suc lo) (s .consumer) (omega arith) (omega (arith, i .places)) (omega arith) (omega arith) (i .places .head-below)
-      (i .entries .gone-below) refl (subst (ConsumerOk B (retireHead s)) (sym e) tt)
+      consumer-moves B s i hp (suc lo) (s .consumer) (omega arith) (omega (arith, i .places)) (omega arith) (omega arith)
+      (i .places .head-below) (i .entries .gone-below) refl (subst (ConsumerOk B (retireHead s)) (sym e) tt)
 
   pub advance-head : s .consumer ≡ front → hp ≢ B * lo → entry hp ≡ gone → Invariant B (advanceHead s)
   advance-head e inside is-gone =
@@ -34,7 +34,14 @@ module _ (B : ℕ) (s : State) (i : Invariant B s) where
   front-found e inside is-put =
       consumer-goes-on B s i _ (found hp lo) e refl (
         omega (arith, i .places),
-        (omega arith, put-below-tail B s i hp is-put, is-put, omega arith, i .places .head-tail, (omega (arith, i .places), i .places .head-from)),
+        (
+          omega arith,
+          put-below-tail B s i hp is-put,
+          is-put,
+          omega arith,
+          i .places .head-tail,
+          (omega (arith, i .places), i .places .head-from),
+        ),
         λ p l p-put d. none-put-below-head B s i p l p-put,
       )
 
@@ -42,7 +49,8 @@ module _ (B : ℕ) (s : State) (i : Invariant B s) where
   front-blank e inside is-blank =
       consumer-goes-on B s i _ reading e refl (
         omega (arith, i .places),
-        below-suc (λ p. entry p ≡ put → EndedBeforeDequeue (owner p) history → ⊥) hp (λ p l p-put d. none-put-below-head B s i p l p-put)
+        below-suc (λ p. entry p ≡ put → EndedBeforeDequeue (owner p) history → ⊥) hp
+            (λ p l p-put d. none-put-below-head B s i p l p-put)
             (λ is-put d. put-not-blank _ is-put is-blank),
       )
 
@@ -89,7 +97,8 @@ module _ (B : ℕ) (s : State) (i : Invariant B s) where
 
   -- the rescan
 
-  pub rescan-cross : (c k f g : ℕ) → s .consumer ≡ rescanning c k f g → c ≡ B * k → Invariant B (withConsumer s (rescanning c (suc k) f g))
+  pub rescan-cross : (c k f g : ℕ) → s .consumer ≡ rescanning c k f g → c ≡ B * k
+      → Invariant B (withConsumer s (rescanning c (suc k) f g))
   rescan-cross c k f g e at-end =
       let o = consumer-clause B s i _ e in
       let before : k < g = lt-of-mul-lt-mul-left B (omega arith) in
@@ -120,7 +129,8 @@ module _ (B : ℕ) (s : State) (i : Invariant B s) where
     -- an entry that is not set is passed
     rescan-suc : entry c ≢ put → Rescanned B s (suc c) f
     rescan-suc not-put =
-        below-suc (λ p. entry p ≡ put → EndedBefore (owner p) (owner f) history → ⊥) c (consumer-clause B s i _ e .5) (λ is-put d. not-put is-put)
+        below-suc (λ p. entry p ≡ put → EndedBefore (owner p) (owner f) history → ⊥) c (consumer-clause B s i _ e .5)
+        (λ is-put d. not-put is-put)
 
     pub rescan-pass : entry c ≢ put → suc c ≢ f → Invariant B (withConsumer s (rescanning (suc c) k f g))
     rescan-pass not-put more =

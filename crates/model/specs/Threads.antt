@@ -1,11 +1,11 @@
 -- Moves that change one thread, and perhaps places: what is under way after them, the clauses of the other threads, and the
 -- invariant. From the frames of producers and consumer.
 use mathlib.Core.Path.{_≡_, refl, sym, _∙_, ap, subst}
-use mathlib.Core.Logic.{_⊎_, inl, inr, _≢_}
+use mathlib.Core.Logic.{_≢_}
 use mathlib.Core.Bool.{Bool, true, false, cond}
-use mathlib.Core.Option.{Option, none, some, Option·some-injective, Option·none-ne-some}
+use mathlib.Core.Option.{Option, some, Option·some-injective, Option·none-ne-some}
 use mathlib.Core.List.{_∷_}
-use Prim.Native.Nat.{ℕ, suc, _+_, _*_, _≤_, _<_}
+use Prim.Native.Nat.{ℕ, _+_, _*_, _≤_, _<_}
 use native.Mathlib.Nat.{mul-le-mul-left}
 use native.Mathlib.Omega.{arith}
 use lib.Dec.{eqb}
@@ -25,14 +25,20 @@ Apart f = (t u : ℕ) (x y : Item) → callOf (f t) ≡ some x → callOf (f u) 
 pub apart-at : (f : ℕ → Producer) (t : ℕ) (z : Producer) → Apart f
     → ((u : ℕ) (x y : Item) → u ≢ t → callOf z ≡ some x → callOf (f u) ≡ some y → x .number ≡ y .number → ⊥)
     → Apart (at f t z)
-apart-at f t z old new a b =
-    at-all f t z (λ c p. (x y : Item) → callOf p ≡ some x → callOf (at f t z b) ≡ some y → x .number ≡ y .number → c ≡ b)
-    (λ x y ex. at-all f t z (λ d q. callOf q ≡ some y → x .number ≡ y .number → t ≡ d) (λ ey n. refl) (λ d ne ey n. absurd (new d x y ne ex ey n)) b)
-    (λ c ne x y ex. at-all f t z (λ d q. callOf q ≡ some y → x .number ≡ y .number → c ≡ d) (λ ey n. absurd (new c y x ne ey ex (sym n))) (λ d ne′ ey n. old c d x y ex ey n) b)
-    a
+apart-at f t z old new a b x y ex ey n = at-all f t z (λ c p. callOf p ≡ some x → c ≡ b) changed unchanged a ex
+  where
+    changed : callOf z ≡ some x → t ≡ b
+    changed ex′ =
+        at-all f t z (λ d q. callOf q ≡ some y → t ≡ d) (λ ey′. refl) (λ d ne ey′. absurd (new d x y ne ex′ ey′ n)) b ey
+
+    unchanged : (c : ℕ) → c ≢ t → callOf (f c) ≡ some x → c ≡ b
+    unchanged c ne ex′ =
+        at-all f t z (λ d q. callOf q ≡ some y → c ≡ d) (λ ey′. absurd (new c y x ne ey′ ex′ (sym n)))
+        (λ d ne′ ey′. old c d x y ex′ ey′ n) b ey
 
 -- a producer goes on with its call
-pub calls-same : (f : ℕ → Producer) (t : ℕ) (z : Producer) (b : Bool) (h : History) → callOf z ≡ callOf (f t) → Calls f b h → Calls (at f t z) b h
+pub calls-same : (f : ℕ → Producer) (t : ℕ) (z : Producer) (b : Bool) (h : History) → callOf z ≡ callOf (f t) → Calls f b h
+    → Calls (at f t z) b h
 calls-same f t z b h e c =
     record {
       of-producers = at-all f t z (λ u p. current u h ≡ callOf p) (c .of-producers t ∙ sym e) (λ u ne. c .of-producers u);
@@ -52,11 +58,13 @@ calls-begin f t n v b h new c =
     record {
       of-producers = λ u. call-at (eqb t u) (started n v) (f u) (current u h) (c .of-producers u);
       of-consumer = c .of-consumer;
-      apart = apart-at f t (started n v) (c .apart) (λ u x y ne ex ey e. new u y ey (ap (λ (i : Item). i .number) (Option·some-injective _ _ ex) ∙ e));
+      apart = apart-at f t (started n v) (c .apart)
+          (λ u x y ne ex ey e. new u y ey (ap (λ (i : Item). i .number) (Option·some-injective _ _ ex) ∙ e));
     }
 
 -- it ends its call
-pub calls-end : (f : ℕ → Producer) (t n v : ℕ) (b : Bool) (h : History) → Calls f b h → Calls (at f t idle) b (enqueueEnded t n v ∷ h)
+pub calls-end : (f : ℕ → Producer) (t n v : ℕ) (b : Bool) (h : History) → Calls f b h
+    → Calls (at f t idle) b (enqueueEnded t n v ∷ h)
 calls-end f t n v b h c =
     record {
       of-producers = λ u. call-at (eqb t u) idle (f u) (current u h) (c .of-producers u);
@@ -65,7 +73,8 @@ calls-end f t n v b h c =
     }
 
 module _ (B : ℕ) (s : State) where
-  open-is : (n v : ℕ) (y : Item) → Open n v (s .history) → some (record { number = n; value = v }) ≡ some y → Open (y .number) (y .value) (s .history)
+  open-is : (n v : ℕ) (y : Item) → Open n v (s .history) → some (record { number = n; value = v }) ≡ some y
+      → Open (y .number) (y .value) (s .history)
   open-is n v y o e = subst (λ (x : Item). Open (x .number) (x .value) (s .history)) (Option·some-injective _ _ e) o
 
   open-call : (x : Producer) (y : Item) → ProducerOk B s x → callOf x ≡ some y → Open (y .number) (y .value) (s .history)
@@ -80,7 +89,8 @@ module _ (B : ℕ) (s : State) where
   open-call (done n v L k) y o e = open-is n v y (o .0) e
 
   -- a call under way has started and not ended
-  pub call-is-open : Invariant B s → (t : ℕ) (y : Item) → callOf (s .producer t) ≡ some y → Open (y .number) (y .value) (s .history)
+  pub call-is-open : Invariant B s → (t : ℕ) (y : Item) → callOf (s .producer t) ≡ some y
+      → Open (y .number) (y .value) (s .history)
   call-is-open i t y e = open-call (s .producer t) y (i .producers t) e
 
   -- the producers after a move of thread t that loses nothing of the calls of other numbers than its own

@@ -1,16 +1,16 @@
 -- Producer moves between records, phases 2 to 7, keep the invariant. From the frame of moves that change one thread and places.
-use mathlib.Core.Path.{_≡_, refl, sym, _∙_, ap, subst}
+use mathlib.Core.Path.{_≡_, refl, sym, ap, subst}
 use mathlib.Core.Bool.{Bool, true, false, cond}
 use mathlib.Core.Option.{some}
 use Prim.Native.Nat.{ℕ, suc, _+_, _*_, _≤_, _<_}
 use native.Mathlib.Omega.{arith}
 use lib.Dec.{leb, ltb}
 use borrow.Author.Tests.{leb-true, leb-false, ltb-true, ltb-false}
-use Rattle.model.specs.State.{Producer, idle, started, seeking, ahead, shifting, behind, writing, setting, done, State, at, callOf}
+use Rattle.model.specs.State.{Producer, seeking, ahead, shifting, behind, writing, State, at, callOf}
 use Rattle.model.specs.Invariant.{Placed, ProducerOk, Invariant}
 use Rattle.model.specs.Moves.{withProducer, chosen, loadTail, passOn, linkLast, shiftTail, leaveTail, goBack}
 use Rattle.model.specs.Frame.{producer-kept}
-use Rattle.model.specs.Threads.{calls-same, producers-after, kept-moved, moved, producer-moves, producer-goes-on}
+use Rattle.model.specs.Threads.{calls-same, producers-after, kept-moved, producer-moves, producer-goes-on}
 
 -- "choose", by cases
 chosen-all : (P : Producer → Type 0) (B n v L k : ℕ) → (B * k ≤ L → P (ahead n v L k)) → (L + B < B * k → P (behind n v L k))
@@ -21,7 +21,8 @@ chosen-all P B n v L k far near here = outer (leb (B * k) L) refl
     inner true e l = near (ltb-true (L + B) (B * k) e)
     inner false e l = here l (ltb-false (L + B) (B * k) e)
 
-    outer : (b : Bool) → leb (B * k) L ≡ b → P (cond b (ahead n v L k) (cond (ltb (L + B) (B * k)) (behind n v L k) (writing n v L k)))
+    outer : (b : Bool) → leb (B * k) L ≡ b
+        → P (cond b (ahead n v L k) (cond (ltb (L + B) (B * k)) (behind n v L k) (writing n v L k)))
     outer true e = far (leb-true (B * k) L e)
     outer false e = inner (ltb (L + B) (B * k)) refl (leb-false (B * k) L e)
 
@@ -55,7 +56,8 @@ module _ (B : ℕ) (s : State) (i : Invariant B s) (t : ℕ) where
       producer-moves B s i (suc k) (s .hi) (omega arith) (omega arith) (omega arith) (at (s .producer) t (seeking n v L))
       (calls-same (s .producer) t (seeking n v L) _ _ (sym (ap callOf e)) (i .calls))
       (producers-after B s i (shiftTail s t n v L k) t _ (seeking n v L) _ e refl
-      (λ m ne. kept-moved s (s .hp) (s .lo) (suc k) (s .hi) (at (s .producer) t (seeking n v L)) (s .consumer) (omega arith) (omega arith) m)
+      (λ m ne. kept-moved s (s .hp) (s .lo) (suc k) (s .hi) (at (s .producer) t (seeking n v L)) (s .consumer) (omega arith)
+      (omega arith) m)
       (o .0))
 
   pub go-back : (n v L k : ℕ) → s .producer t ≡ behind n v L (suc k) → Invariant B (goBack B s t n v L k)
