@@ -86,8 +86,8 @@ module _ (B : ℕ) (s : State) (i : Invariant B s) (t v : ℕ) where
         none-before = λ p f l e d. (e, was-before (owner p) f l d);
       }
 
-  pub begin-enqueue : s .producer t ≡ idle → Invariant B (beginEnqueue s t v)
-  begin-enqueue is-idle =
+  pub begin-enqueue : Invariant B (beginEnqueue s t v)
+  begin-enqueue =
       record {
         places = i .places;
         entries = i .entries;
