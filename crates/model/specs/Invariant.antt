@@ -47,11 +47,12 @@ pub record Contents (entry : ℕ → Entry) (owner : ℕ → ℕ) (content : ℕ
 abbrev pub Has : (tail : ℕ) (entry : ℕ → Entry) (owner : ℕ → ℕ) → Entry → ℕ → Type 0
 Has tail entry owner e n = (p : ℕ) × (p < tail) × (owner p ≡ n) × (entry p ≡ e)
 
--- the past: the history is explained, numbers are 1 to starts, an ended enqueue is taken or its entry is set, a taken one's entry
--- is handled
+-- the past: the history is explained, numbers are 1 to starts and each starts with one value, an ended enqueue is taken or its
+-- entry is set, a taken one's entry is handled
 pub record Past (tail starts : ℕ) (entry : ℕ → Entry) (owner : ℕ → ℕ) (h : History) : Type 0 where
   pub explained : Explained h
   pub numbered : (n : ℕ) → Begun n h → (1 ≤ n) × (n ≤ starts)
+  pub one-value : (n v w : ℕ) → Started n v h → Started n w h → v ≡ w
   pub ended-has : (n : ℕ) → Ended n h → Taken n h ⊎ Has tail entry owner put n
   pub taken-has : (n : ℕ) → Taken n h → Has tail entry owner gone n
 

@@ -1,3 +1,15 @@
 pub mod State
 pub mod Invariant
 pub mod Moves
+pub mod Facts
+pub mod Frame
+pub mod Threads
+pub mod Walking
+pub mod Known
+pub mod Positions
+pub mod Enqueues
+pub mod Dequeues
+pub mod Scanning
+pub mod Items
+pub mod Count
+pub mod Bounds

@@ -1,0 +1,262 @@
+-- A producer takes its position, writes its entry and sets it, phases 1, 8 and 9: each keeps the invariant. From the frames of
+-- producers and consumer. Set-entry is where a set entry may appear behind the cursor: its call has not ended.
+use mathlib.Core.Path.{_≡_, refl, sym, _∙_, ap, subst, subst₂}
+use mathlib.Core.Logic.{inl, inr, _≢_, ⊎-elim}
+use Prim.Native.Nat.{ℕ, suc, _≤_, _<_}
+use native.Mathlib.Nat.{mul-le-mul-left}
+use native.Mathlib.Omega.{arith}
+use Rattle.history.specs.Linearization.{Item}
+use Rattle.criterion.specs.Explained.{Started, Begun, Ended, EndedBefore, EndedBeforeDequeue}
+use Rattle.model.specs.State.{Entry, put, gone, started, seeking, writing, setting, done, State, at, callOf}
+use Rattle.model.specs.Invariant.{Has, Owners, ProducerOk, Invariant}
+use Rattle.model.specs.Moves.{takePosition, writeEntry, setEntry}
+use Rattle.model.specs.Facts.{started-begun, ended-before-ended, ended-before-dequeue-ended, put-not-blank, gone-not-blank, at-same, at-other, at-all, AtCases, at-cases}
+use Rattle.model.specs.Frame.{Kept, same-call, same-owner, same-entry, Watched, consumer-kept}
+use Rattle.model.specs.Threads.{calls-same, producers-after}
+use Rattle.model.specs.Known.{put-below-tail, has-kept}
+use Rattle.model.specs.Walking.{producer-clause}
+
+module _ (B : ℕ) (s : State) (i : Invariant B s) (t n v : ℕ) (e : s .producer t ≡ started n v) where
+  open State s using (tail, entry, owner, content, history)
+
+  -- earlier positions keep their owners
+  still-owner : (p : ℕ) → p < tail → at owner tail n p ≡ owner p
+  still-owner p l = at-other owner tail n p (omega arith)
+
+  -- the call had no position, so that owners stay apart
+  apart-take : (p q : ℕ) → p < suc tail → q < suc tail → at owner tail n p ≡ at owner tail n q → p ≡ q
+  apart-take p q lp lq d = go (at-cases owner tail n p _ d) (at-cases owner tail n q _ refl)
+    where
+      fresh : (r : ℕ) → r < tail → owner r ≢ n
+      fresh = producer-clause B s i t _ e .1
+
+      go : AtCases owner tail n p (at owner tail n q) → AtCases owner tail n q (at owner tail n q) → p ≡ q
+      go (inl c) (inl d) = c .0 ∙ sym (d .0)
+      go (inl c) (inr d) = absurd (fresh q (omega arith) (d .1 ∙ sym (c .1)))
+      go (inr c) (inl d) = absurd (fresh p (omega arith) (c .1 ∙ sym (d .1)))
+      go (inr c) (inr d) = i .owners .apart p q (omega arith) (omega arith) (c .1 ∙ sym (d .1))
+
+  -- it has not ended, so that it ended before no other call started
+  in-order-take : (p q : ℕ) → p ≤ q → q < suc tail → EndedBefore (at owner tail n q) (at owner tail n p) history → ⊥
+  in-order-take p =
+      at-all owner tail n (λ q a. p ≤ q → q < suc tail → EndedBefore a (at owner tail n p) history → ⊥)
+      (λ le l d. open-call (ended-before-ended n _ history d))
+      (λ q ne le l d. i .owners .in-order p q le (omega arith) (same-p q (omega arith) d))
+    where
+      open-call : Ended n history → ⊥
+      open-call = producer-clause B s i t _ e .0 .not-ended
+
+      same-p : (q : ℕ) → p < tail → EndedBefore (owner q) (at owner tail n p) history → EndedBefore (owner q) (owner p) history
+      same-p q l d = subst (λ (b : ℕ). EndedBefore (owner q) b history) (still-owner p l) d
+
+  owners-take : Owners (suc tail) (at owner tail n) history
+  owners-take =
+      record {
+        begun =
+            at-all owner tail n (λ p a. p < suc tail → Begun a history)
+            (λ l. started-begun n v history (producer-clause B s i t _ e .0 .is-started))
+            (λ p ne l. i .owners .begun p (omega arith));
+        apart = apart-take;
+        in-order = in-order-take;
+      }
+
+  kept-take : (m : ℕ) → m ≢ n → Kept s (takePosition s t n v) m
+  kept-take m ne =
+      record {
+        numbers = omega arith;
+        call = same-call m history;
+        position =
+            record {
+              stays-owner = λ p l d. still-owner p l ∙ d;
+              was-owner = λ p l d. ⊎-elim (λ c. absurd (ne (sym (c .1)))) (λ c. (omega arith, c .1)) (at-cases owner tail n p m d);
+            };
+        state = same-entry m owner entry content history;
+      }
+
+  watched-take : Watched s (takePosition s t n v)
+  watched-take =
+      record {
+        numbers = omega arith;
+        stays-put = λ p d. d;
+        stays-content = λ p d. refl;
+        none-before-dequeue = λ p d b.
+            (d, subst (λ (a : ℕ). EndedBeforeDequeue a history) (still-owner p (put-below-tail B s i p d)) b);
+        none-before = λ p f l d b.
+            (d, subst₂ (λ (a b : ℕ). EndedBefore a b history) (still-owner p (put-below-tail B s i p d)) (still-owner f l) b);
+      }
+
+  has-take : (x : Entry) (m : ℕ) → Has tail entry owner x m → Has (suc tail) entry (at owner tail n) x m
+  has-take x m =
+      has-kept tail (suc tail) entry entry owner (at owner tail n) x m (λ p l d is-x. (omega arith, still-owner p l ∙ d, is-x))
+
+  pub take-position : Invariant B (takePosition s t n v)
+  take-position =
+      let o = producer-clause B s i t _ e in
+      record {
+        places = omega (arith, i .places);
+        entries =
+            record {
+              blank-past = λ p l. i .entries .blank-past p (omega arith);
+              blank-ahead = i .entries .blank-ahead;
+              gone-below = i .entries .gone-below;
+            };
+        owners = owners-take;
+        contents =
+            record {
+              number-is = λ p d. i .contents .number-is p d ∙ sym (still-owner p (put-below-tail B s i p d));
+              value-is = i .contents .value-is;
+            };
+        past =
+            record {
+              explained = i .past .explained;
+              numbered = i .past .numbered;
+              one-value = i .past .one-value;
+              ended-has = λ m d. ⊎-elim inl (λ h. inr (has-take put m h)) (i .past .ended-has m d);
+              taken-has = λ m d. has-take gone m (i .past .taken-has m d);
+            };
+        calls = calls-same (s .producer) t (seeking n v tail) _ _ (sym (ap callOf e)) (i .calls);
+        producers =
+            producers-after B s i (takePosition s t n v) t _ (seeking n v tail) _ e refl kept-take
+            (record {
+              is-open = o .0;
+              taken = omega arith;
+              is-blank = i .entries .blank-past tail (omega arith);
+              owns = at-same owner tail n;
+            });
+        consuming = consumer-kept B s (takePosition s t n v) watched-take (s .consumer) (i .consuming);
+      }
+
+module _ (B : ℕ) (s : State) (i : Invariant B s) (t n v L k : ℕ) where
+  open State s using (tail, entry, owner, content, history)
+
+  pub write-entry : s .producer t ≡ writing n v L k → Invariant B (writeEntry s t n v L k)
+  write-entry e =
+      record {
+        places = i .places;
+        entries = i .entries;
+        owners = i .owners;
+        contents =
+            record {
+              number-is = λ p d. ap (λ (x : Item). x .number) (same p (not-there p d)) ∙ i .contents .number-is p d;
+              value-is = λ p d. rw (same p (not-there p d)) (i .contents .value-is p d);
+            };
+        past = i .past;
+        calls = calls-same (s .producer) t (setting n v L k) _ _ (sym (ap callOf e)) (i .calls);
+        producers =
+            producers-after B s i (writeEntry s t n v L k) t _ (setting n v L k) _ e refl kept (o .0, o .1, o .2, at-same content L _);
+        consuming = consumer-kept B s (writeEntry s t n v L k) watched (s .consumer) (i .consuming);
+      }
+    where
+      o : ProducerOk B s (writing n v L k)
+      o = producer-clause B s i t _ e
+
+      same : (p : ℕ) → p ≢ L → at content L (record { number = n; value = v }) p ≡ content p
+      same = at-other content L (record { number = n; value = v })
+
+      not-there : (p : ℕ) → entry p ≡ put → p ≢ L
+      not-there p d q = put-not-blank _ d (ap entry q ∙ o .0 .is-blank)
+
+      kept : (m : ℕ) → m ≢ n → Kept s (writeEntry s t n v L k) m
+      kept m ne =
+          record {
+            numbers = omega arith;
+            call = same-call m history;
+            position = same-owner m tail owner;
+            state =
+                record {
+                  stays-blank = λ p d b. b;
+                  stays-put = λ p d b. inr b;
+                  stays-content = λ p d. same p (λ q. ne (sym d ∙ ap owner q ∙ o .0 .owns));
+                };
+          }
+
+      watched : Watched s (writeEntry s t n v L k)
+      watched =
+          record {
+            numbers = omega arith;
+            stays-put = λ p d. d;
+            stays-content = λ p d. same p (not-there p d);
+            none-before-dequeue = λ p d b. (d, b);
+            none-before = λ p f l d b. (d, b);
+          }
+
+  pub set-entry : s .producer t ≡ setting n v L k → Invariant B (setEntry s t n v L k)
+  set-entry e =
+      record {
+        places = i .places;
+        entries =
+            record {
+              blank-past = λ p l. same p (omega (arith, o .0 .taken)) ∙ i .entries .blank-past p l;
+              blank-ahead = λ p l. same p (omega (arith, o .2, mul-le-mul-left B (o .1))) ∙ i .entries .blank-ahead p l;
+              gone-below = λ p l. still-gone p (i .entries .gone-below p l);
+            };
+        owners = i .owners;
+        contents =
+            record {
+              number-is = at-all entry L put (λ p a. a ≡ put → content p .number ≡ owner p)
+                  (λ d. ap (λ (x : Item). x .number) (o .3) ∙ sym (o .0 .owns))
+                  (λ p ne d. i .contents .number-is p d);
+              value-is = at-all entry L put (λ p a. a ≡ put → Started (content p .number) (content p .value) history)
+                  (λ d. subst (λ (x : Item). Started (x .number) (x .value) history) (sym (o .3)) (o .0 .is-open .is-started))
+                  (λ p ne d. i .contents .value-is p d);
+            };
+        past =
+            record {
+              explained = i .past .explained;
+              numbered = i .past .numbered;
+              one-value = i .past .one-value;
+              ended-has = λ m d. ⊎-elim inl (λ h. inr (has m put still-put h)) (i .past .ended-has m d);
+              taken-has = λ m d. has m gone still-gone (i .past .taken-has m d);
+            };
+        calls = calls-same (s .producer) t (done n v L k) _ _ (sym (ap callOf e)) (i .calls);
+        producers =
+            producers-after B s i (setEntry s t n v L k) t _ (done n v L k) _ e refl kept
+            (o .0 .is-open, o .0 .taken, o .0 .owns, o .1, o .2, inr (at-same entry L put));
+        consuming = consumer-kept B s (setEntry s t n v L k) watched (s .consumer) (i .consuming);
+      }
+    where
+      o : ProducerOk B s (setting n v L k)
+      o = producer-clause B s i t _ e
+
+      same : (p : ℕ) → p ≢ L → at entry L put p ≡ entry p
+      same = at-other entry L put
+
+      still-put : (p : ℕ) → entry p ≡ put → at entry L put p ≡ put
+      still-put = at-all entry L put (λ p a. entry p ≡ put → a ≡ put) (λ d. refl) (λ p ne d. d)
+
+      still-gone : (p : ℕ) → entry p ≡ gone → at entry L put p ≡ gone
+      still-gone p d = same p (λ q. gone-not-blank _ d (ap entry q ∙ o .0 .is-blank)) ∙ d
+
+      has : (m : ℕ) (x : Entry) → ((p : ℕ) → entry p ≡ x → at entry L put p ≡ x) → Has tail entry owner x m
+          → Has tail (at entry L put) owner x m
+      has m x still = has-kept tail tail entry (at entry L put) owner owner x m (λ p l d is-x. (l, d, still p is-x))
+
+      kept : (m : ℕ) → m ≢ n → Kept s (setEntry s t n v L k) m
+      kept m ne =
+          record {
+            numbers = omega arith;
+            call = same-call m history;
+            position = same-owner m tail owner;
+            state =
+                record {
+                  stays-blank = λ p d b. same p (λ q. ne (sym d ∙ ap owner q ∙ o .0 .owns)) ∙ b;
+                  stays-put = λ p d b. inr (still-put p b);
+                  stays-content = λ p d. refl;
+                };
+          }
+
+      -- an entry set after the move was set before, or its call has not ended
+      was-put : (p : ℕ) → at entry L put p ≡ put → Ended (owner p) history → entry p ≡ put
+      was-put = at-all entry L put (λ p a. a ≡ put → Ended (owner p) history → entry p ≡ put)
+          (λ d ended. absurd (o .0 .is-open .not-ended (subst (λ (m : ℕ). Ended m history) (o .0 .owns) ended)))
+          (λ p ne d ended. d)
+
+      watched : Watched s (setEntry s t n v L k)
+      watched =
+          record {
+            numbers = omega arith;
+            stays-put = still-put;
+            stays-content = λ p d. refl;
+            none-before-dequeue = λ p d b. (was-put p d (ended-before-dequeue-ended _ history b), b);
+            none-before = λ p f l d b. (was-put p d (ended-before-ended _ _ history b), b);
+          }
