@@ -284,6 +284,11 @@ class Refusals(unittest.TestCase):
             self.assert_refused(3, words, step, 0)
             self.assert_refused(2, words[:15], step, 0)
 
+    def test_3_store_before_any_open(self):
+        """A store of zeros taken for an open one."""
+        for call, arguments in ((start_enqueue, (1, 5)), (start_dequeue, ()), (step, (0,))):
+            self.assert_refused(3, [0] * 12_696, call, *arguments)
+
     def test_3_limits_of_each_word_of_an_idle_store(self):
         """A range that is off by one, or a word that is not looked at."""
         words = opened(2, 3, 1, 4)
