@@ -10,18 +10,26 @@ from intake_model import EMPTY, SET, USE_RETIRED
 from test_model import TRAPS
 
 
-def held_in(v, phase):
-    return [p.held for p in v.producers if p.phase == phase]
+def held_in(v, first, last):
+    return [p.held for p in v.in_phases(first, last)]
+
+
+def holds_retired(v, first, last):
+    return any(v.use[r] == USE_RETIRED for r in held_in(v, first, last))
+
+
+def set_behind_cursor(v):
+    return v.set_positions(v.consumer.cursor_position)
 
 
 # What an exploration has to meet, or it shows little.
 SITUATIONS = {
     'a producer goes back': lambda v: v.in_phases(7, 7),
     'a producer that went back sets index 1': lambda v: any(p.back and p.L % v.B == 1 for p in v.in_phases(9, 9)),
-    'a producer in 3 to 6 holds a retired record': lambda v: any(v.use[p.held] == USE_RETIRED for p in v.in_phases(3, 6)),
-    'a producer in 11 holds a retired record': lambda v: any(v.use[r] == USE_RETIRED for r in held_in(v, 11)),
-    'a link is lost in 5': lambda v: any(v.next[r] is not None for r in held_in(v, 5)),
-    'a link is lost in 11': lambda v: any(v.next[r] is not None for r in held_in(v, 11)),
+    'a producer in 3 to 6 holds a retired record': lambda v: holds_retired(v, 3, 6),
+    'a producer in 11 holds a retired record': lambda v: holds_retired(v, 11, 11),
+    'a link is lost in 5': lambda v: any(v.next[r] is not None for r in held_in(v, 5, 5)),
+    'a link is lost in 11': lambda v: any(v.next[r] is not None for r in held_in(v, 11, 11)),
     'no record is free in 4': lambda v: v.in_phases(4, 4) and not im.free_records(v.words),
     'no record is free in 10': lambda v: v.in_phases(10, 10) and not im.free_records(v.words),
     'a record is linked for the second time': lambda v: v.hi > v.N,
@@ -29,8 +37,8 @@ SITUATIONS = {
     'the head record has its end to be left': lambda v: v.hp == v.B * v.lo and v.lo < v.tp,
     'the scan stands at a record\'s end': lambda v: v.consumer.phase == 3 and cursor_at_end(v),
     'the rescan stands at a record\'s end': lambda v: v.consumer.phase == 5 and cursor_at_end(v),
-    'an entry is set behind the scan': lambda v: v.consumer.phase == 4 and v.set_positions(v.consumer.cursor_position),
-    'an entry is set behind the rescan': lambda v: v.consumer.phase == 5 and v.set_positions(v.consumer.cursor_position),
+    'an entry is set behind the scan': lambda v: v.consumer.phase == 4 and set_behind_cursor(v),
+    'an entry is set behind the rescan': lambda v: v.consumer.phase == 5 and set_behind_cursor(v),
     'an item is found past an empty entry': lambda v: v.consumer.phase == 7 and v.state_at(v.hp) == EMPTY,
     'an item is found past a set entry': lambda v: v.consumer.phase == 7 and v.consumer.found_position > v.hp
     and v.state_at(v.hp) == SET,

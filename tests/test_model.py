@@ -101,6 +101,43 @@ class Runs(unittest.TestCase):
         contents = [2, 2, 1, 5, 16, 32, 0, 1, 1, 0, 0, 0, 0, 0, 0, 0]
         self.assertEqual(words, contents + [0] * 16 + record_0 + [0] * 10 + [9] * 3)
 
+    def test_head_advances_with_its_item(self):
+        """An item at the head that leaves the head position behind: the next dequeue then takes a step more."""
+        recorder = Recorder(4, 2, 1, 9)
+        for v in (70, 80):
+            enqueue_whole(recorder, 1, v)
+        self.assertEqual(recorder.run(D + S(0, 3)), [OK, GOING, GOING, ('item', 1, 70)])
+        self.assertEqual(recorder.run(D + S(0, 3)), [OK, GOING, GOING, ('item', 2, 80)])
+        self.assertEqual(recorder.run(D + S(0, 2)), [OK, GOING, EMPTY])
+
+    def test_handled_entry_at_the_head(self):
+        """An item found past the head that is given twice, or a head that does not pass it later."""
+        recorder = Recorder(4, 2, 2, 9)
+        recorder.run(E(1, 70) + S(1, 3))
+        enqueue_whole(recorder, 2, 80)
+        self.assertEqual(recorder.run(D + S(0, 7)), [OK] + [GOING] * 6 + [('item', 2, 80)])
+        self.assertEqual(recorder.run(S(1)), [END])
+        self.assertEqual(recorder.run(D + S(0, 3)), [OK, GOING, GOING, ('item', 1, 70)])
+        self.assertEqual(recorder.run(D + S(0, 3)), [OK, GOING, GOING, EMPTY])
+
+    def test_rescan_begins_again_after_each_find(self):
+        """A rescan that keeps the first set entry it meets: here 2 is found, then 1, then 0."""
+        recorder = Recorder(4, 2, 3, 9)
+        recorder.run(E(1, 70) + S(1, 3) + E(2, 80) + S(2, 3))
+        enqueue_whole(recorder, 3, 90)
+        self.assertEqual(recorder.run(D + S(0, 7)), [OK] + [GOING] * 7)
+        self.assertEqual(recorder.run(S(2) + S(0)), [GOING, GOING])
+        self.assertEqual(recorder.run(S(1) + S(0, 3)), [END, GOING, GOING, ('item', 1, 70)])
+
+    def test_producer_that_went_back_links_nothing_ahead(self):
+        """A back flag that is not kept: position 1 is set after going back, with a record free."""
+        recorder = Recorder(2, 3, 2, 9)
+        enqueue_whole(recorder, 2, 0)
+        recorder.run(E(1, 1) + S(1))
+        enqueue_whole(recorder, 2, 2)
+        self.assertEqual(im.free_records(recorder.words), [2])
+        self.assertEqual(recorder.run(S(1, 4)), [GOING, GOING, GOING, END])
+
     def test_head_record_is_retired_by_the_next_dequeue(self):
         """A head record retired too early, or not given back to the free ones."""
         recorder = Recorder(2, 2, 1, 9)
@@ -445,6 +482,17 @@ class Damage(unittest.TestCase):
             words = [rng.choice((0, 1, 2, 3, 16, 32, rng.randrange(2**32))) for _ in range(length)]
             for reply in self.check_all(words).values():
                 self.assertIn(reply, (refused(2), refused(3)))
+
+    def test_retired_records_that_are_held_or_claimed(self):
+        """A free map that looks at held words alone, at claimed words alone, or at some phases."""
+        words = opened(2, 3, 1, 4)
+        for use_of_record in (35, 45, 55):
+            words[use_of_record] = 3
+        self.assertEqual(im.free_records(words), [0, 1, 2])
+        words[24:32] = [2, 1, 5, 0, 3, 0, 0, 0]
+        self.assertEqual(im.free_records(words), [0, 1])
+        words[24:32] = [5, 1, 5, 2, 1, 2, 0, 0]
+        self.assertEqual(im.free_records(words), [2])
 
     def test_words_past_the_store_are_never_written(self):
         """A write past the words that the sizes need."""

@@ -1,0 +1,6 @@
+pub mod View
+pub mod Good
+pub mod Rows
+pub mod Steps
+pub mod Own
+pub mod Walking
