@@ -49,6 +49,10 @@ withProducers s f =
       history = s .history;
     }
 
+-- the invariant, with the producers seen another way
+pub as-seen : {B : ℕ} {s : State} {f : ℕ → Producer} → Invariant B s → s .producer ≡ f → Invariant B (withProducers s f)
+as-seen {B} {s} i e = subst (λ (g : ℕ → Producer). Invariant B (withProducers s g)) e i
+
 -- The record that another producer holds has the place that it had.
 abbrev pub PlacesKept : ℕ → Reader → Reader → Type 0
 PlacesKept t σ σ′ = (u : ℕ) → (t ≡ u → ⊥) → placeOf (placesOf σ′) (rowOf σ u 4) ≡ placeOf (placesOf σ) (rowOf σ u 4)
@@ -77,8 +81,7 @@ at-itself {A} f k = fun-ext (λ j. go j (ℕ-discrete k j))
 -- A producer that goes on as it was.
 pub goes-on-same : (B : ℕ) (s : State) (t : ℕ) (x : Producer) → s .producer t ≡ x → Invariant B s → Invariant B (withProducer s t x)
 goes-on-same B s t x e i =
-    subst (λ (f : ℕ → Producer). Invariant B (withProducers s f))
-    (sym (at-itself (s .producer) t) ∙ ap (at (s .producer) t) e) i
+    as-seen i (sym (at-itself (s .producer) t) ∙ ap (at (s .producer) t) e)
 
 -- A producer's clause, where it claims nothing.
 pub unclaimed : (N lo : ℕ) (σ : Reader) (row : ℕ → ℕ) → Held lo σ (row 4) → row 5 ≡ 0 → (3 ≤ row 0 → row 4 ≢ 0)

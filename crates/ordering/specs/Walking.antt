@@ -19,7 +19,7 @@ use Rattle.rules.specs.Producer.{choose, lookNext, loadTail, goBack, shiftTail}
 use Rattle.rules.specs.Request.{Request, step}
 use Rattle.model.specs.State.{Producer, ahead, shifting, behind, writing, State}
 use Rattle.model.specs.Invariant.{Invariant}
-use Rattle.model.specs.Moves.{withProducer, chosen, shiftTail as shift}
+use Rattle.model.specs.Moves.{withProducer, chosen}
 use Rattle.model.specs.Walking.{producer-clause, pass-on, load-tail, go-back, shift-tail, leave-tail}
 use Rattle.model.specs.Bounds.{behind-past-first}
 use Rattle.memory.specs.Memory.{Shape, Holdable, Held, ThreadOk, rowOf, Memory, held-is}
@@ -27,7 +27,7 @@ use Rattle.memory.specs.Frames.{others-kept}
 use Rattle.ordering.specs.View.{Ghost, placesOf, placeOf, producerAt, producersOf, view}
 use Rattle.ordering.specs.Good.{Good, Goes, Fine, by-need, by-cond}
 use Rattle.ordering.specs.Rows.{OfSorts, of-sort, has-sort, row-of}
-use Rattle.ordering.specs.Steps.{withProducers, producers-after, goes-on-same, unclaimed, own-words, seen-at, producer-goes}
+use Rattle.ordering.specs.Steps.{as-seen, producers-after, goes-on-same, unclaimed, own-words, seen-at, producer-goes}
 use Rattle.ordering.specs.Own.{OfProducer, producer-writes, producer-own}
 
 -- A record that may be held and has a next is not the last one.
@@ -277,9 +277,8 @@ module _ (z : Sizes) (σ : Reader) (γ : Ghost) (good : Good z σ γ) (t : ℕ) 
         none
         (omega (arith, tail-placed, good .memory .head-tail), tail-below, sym r ∙ tail-next)
         (good .agrees)
-        (subst (λ (f : ℕ → Producer). Invariant (z .B) (withProducers (shift (view σ γ) t _ _ _ _) f))
-        (producers-after t σ σ′ (others-kept z t σ (shiftWrites n) in-sort) (λ u x. refl) _ (rw self refl))
-        (shift-tail (z .B) (view σ γ) (good .model) t _ _ _ _ seen-shifting tail-placed))
+        (as-seen (shift-tail (z .B) (view σ γ) (good .model) t _ _ _ _ seen-shifting tail-placed)
+        (producers-after t σ σ′ (others-kept z t σ (shiftWrites n) in-sort) (λ u x. refl) _ (rw self refl)))
         (good .formed)
         refl
       where
