@@ -56,7 +56,7 @@ module _ (z : Sizes) (σ : Reader) (g : Shape) (m : Memory z σ g) (t r p : ℕ)
   not-claimed e = ⊎-elim (λ u. omega arith) (λ u. omega arith) (free-has z σ r is-free)
 
   -- no producer holds it
-  not-held : (u : ℕ) → σ (held u) ≡ suc r → ⊥
+  pub not-held : (u : ℕ) → σ (held u) ≡ suc r → ⊥
   not-held u e = go (decLe 1 u) (decLe u (z .P)) (free-has z σ r is-free)
     where
       go : Dec (1 ≤ u) → Dec (u ≤ z .P)

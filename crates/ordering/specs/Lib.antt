@@ -4,3 +4,5 @@ pub mod Rows
 pub mod Steps
 pub mod Own
 pub mod Walking
+pub mod Records
+pub mod Claims

@@ -1,0 +1,89 @@
+-- Producer phases 4 and 10, which claim a record.
+use mathlib.Core.Path.{_≡_, refl, ap, sym, _∙_, subst}
+use mathlib.Core.Logic.{⊎-elim, _≢_}
+use mathlib.Core.Bool.{true}
+use mathlib.Core.List.{List, [], _∷_}
+use Prim.Native.Nat.{ℕ, zero, suc, _+_, _*_, _≤_, _<_}
+use native.Mathlib.Omega.{arith}
+use lib.Dec.{eqb}
+use lib.ListN.{getD}
+use borrow.Author.Tests.{eq-eqb, ne-eqb}
+use Rattle.history.specs.Lists.{All}
+use Rattle.rules.specs.Sizes.{Sizes}
+use Rattle.rules.specs.Cell.{Reader, Write, after, place, used, phase, call, value, position, held, producer}
+use Rattle.rules.specs.Range.{producerSorts}
+use Rattle.rules.specs.Free.{free}
+use Rattle.rules.specs.Rule.{going}
+use Rattle.rules.specs.Request.{step}
+use Rattle.rules.specs.InRange.{InSort}
+use Rattle.model.specs.State.{Producer, State}
+use Rattle.model.specs.Invariant.{Invariant}
+use Rattle.memory.specs.Memory.{rowOf, Memory, held-is}
+use Rattle.memory.specs.Frames.{OthersKept, others-kept}
+use Rattle.memory.specs.Claiming.{claimWrites, free-has, claim-keeps, not-held}
+use Rattle.ordering.specs.View.{Ghost, placesOf, placeOf, producerAt, producersOf, view, cellOf}
+use Rattle.ordering.specs.Good.{Good, Goes}
+use Rattle.ordering.specs.Rows.{OfSorts, row-of}
+use Rattle.ordering.specs.Steps.{producers-after, goes-on-same, seen-at}
+use Rattle.ordering.specs.Records.{record-goes, place-same, consumer-same, threads-seen, agrees-kept}
+
+module _ (z : Sizes) (σ : Reader) (γ : Ghost) (good : Good z σ γ) (t : ℕ) (a-producer : (1 ≤ t) × (t ≤ z .P)) where
+  self : eqb t t ≡ true
+  self = eq-eqb t t refl
+
+  -- The claim of record r in phase p, on the way to p′, in which the producer is seen as before.
+  claims : (p p′ r : ℕ) → σ (phase t) ≡ p → 3 ≤ p → r < z .N → free z σ r ≡ true
+      → ((n v L k : ℕ) → producerAt p′ n v L k ≡ producerAt p n v L k)
+      → p′ ≤ 11 → OfSorts z (rowOf (after σ (claimWrites t r p′)) t) 1 (getD producerSorts p′ [])
+      → Goes z σ γ (step t) going (claimWrites t r p′)
+  claims p p′ r e past fits is-free same-seen l row =
+      record-goes z σ γ good t a-producer going ws γ in-sort
+      (fits, ((fits, omega arith), ((a-producer .0, a-producer .1, omega arith), ((a-producer .0, a-producer .1, omega arith), tt))))
+      (row-of z 11 producerSorts (rowOf σ′ t) p′ new-phase l row)
+      (claim-keeps z σ (γ .shape) m t r p′ a-producer fits is-free holds-one)
+      (agrees-kept (z .B) (γ .shape .lo) (γ .shape .hi) (γ .shape .at) (γ .entry) (γ .content) (cellOf σ) (cellOf σ′)
+      (λ k i j a b. rw (ne-eqb r (γ .shape .at (suc k)) (λ q. unlinked (rw q (m .chain .linked (suc k) a b)))) refl)
+      (good .agrees))
+      (threads-seen (goes-on-same (z .B) (view σ γ) t _ seen (good .model))
+      (producers-after t σ σ′ (others-kept z t σ ws in-sort)
+      (λ u n. place-same σ σ′ r places (σ (held u)) (not-held z σ (γ .shape) m t r p′ a-producer fits is-free holds-one u)) _ seen′)
+      (sym (consumer-same σ σ′ r (λ k. refl) places unlinked (m .cursor) (m .found))))
+      (good .formed)
+      refl
+    where
+      m : Memory z σ (γ .shape)
+      m = good .memory
+
+      ws : List Write
+      ws = claimWrites t r p′
+
+      σ′ : Reader
+      σ′ = after σ ws
+
+      in-sort : All (InSort z t) ws
+      in-sort = (tt, (refl, (refl, (refl, tt))))
+
+      holds-one : σ (held t) ≢ 0
+      holds-one = m .threads t .has-held (omega arith)
+
+      unlinked : σ (used r) ≡ 2 → ⊥
+      unlinked q = ⊎-elim (λ u. omega arith) (λ u. omega arith) (free-has z σ r is-free)
+
+      places : (y : ℕ) → (y ≡ r → ⊥) → σ′ (place y) ≡ σ (place y)
+      places y n = rw (ne-eqb r y (λ q. n (sym q))) refl
+
+      k : ℕ
+      k = placeOf (placesOf σ) (σ (held t))
+
+      seen : view σ γ .producer t ≡ producerAt p (σ (call t)) (σ (value t)) (σ (position t)) k
+      seen = seen-at z σ γ good t a-producer p e
+
+      new-phase : σ′ (producer t 0) ≡ p′
+      new-phase = rw self refl
+
+      seen′ : producersOf σ′ t ≡ producerAt p (σ (call t)) (σ (value t)) (σ (position t)) k
+      seen′ =
+          ap (λ (x : ℕ). producerAt x (σ (call t)) (σ (value t)) (σ (position t)) (placeOf (placesOf σ′) (σ (held t)))) new-phase
+          ∙ same-seen (σ (call t)) (σ (value t)) (σ (position t)) (placeOf (placesOf σ′) (σ (held t)))
+          ∙ ap (producerAt p (σ (call t)) (σ (value t)) (σ (position t)))
+          (place-same σ σ′ r places (σ (held t)) (not-held z σ (γ .shape) m t r p′ a-producer fits is-free holds-one t))

@@ -1,0 +1,106 @@
+-- A producer's step that writes a record's words: what is left to show of it, and what others see of it, nothing.
+use mathlib.Core.Path.{_≡_, refl, ap, ap₂, sym, _∙_, subst}
+use mathlib.Core.Logic.{⊎-elim, _≢_}
+use mathlib.Core.Bool.{true}
+use mathlib.Core.List.{List, _++_}
+use Prim.Native.Nat.{ℕ, zero, suc, _+_, _*_, _≤_, _<_}
+use native.Mathlib.Omega.{arith}
+use Rattle.history.specs.Lists.{All}
+use Rattle.history.specs.Form.{wellFormed}
+use Rattle.history.specs.Linearization.{Item}
+use Rattle.rules.specs.Sizes.{Sizes}
+use Rattle.rules.specs.Cell.{Reader, Write, after, consumer, place, used, cursorRecord, foundRecord, held}
+use Rattle.rules.specs.Range.{producerInRange}
+use Rattle.rules.specs.Rule.{Reply}
+use Rattle.rules.specs.Request.{step}
+use Rattle.rules.specs.Play.{replyEvents}
+use Rattle.rules.specs.Readback.{WriteThere}
+use Rattle.rules.specs.InRange.{InSort, writes-keep-range}
+use Rattle.model.specs.State.{Entry, Producer, Consumer, State}
+use Rattle.model.specs.Invariant.{Invariant}
+use Rattle.memory.specs.Memory.{Shape, Linked, Memory}
+use Rattle.ordering.specs.View.{Ghost, placesOf, placeOf, consumerAt, consumerOf, view, Agrees, AgreesWith, cellOf}
+use Rattle.ordering.specs.Good.{Good, Goes}
+
+module _ (z : Sizes) (σ : Reader) (γ : Ghost) (good : Good z σ γ) (t : ℕ) (a-producer : (1 ≤ t) × (t ≤ z .P)) where
+  pub record-goes : (r : Reply) (ws : List Write) (γ′ : Ghost)
+      → All (InSort z t) ws
+      → All (WriteThere z) ws
+      → producerInRange z (after σ ws) t ≡ true
+      → Memory z (after σ ws) (γ′ .shape)
+      → AgreesWith (z .B) (after σ ws) γ′
+      → Invariant (z .B) (view (after σ ws) γ′)
+      → wellFormed (γ′ .history) ≡ true
+      → γ′ .history ≡ replyEvents (step t) (γ .history) r ++ γ .history
+      → Goes z σ γ (step t) r ws
+  record-goes r ws γ′ in-sort there in-row memory agrees model formed grown =
+      record {
+        there = there;
+        next = γ′;
+        good =
+            record {
+              sizes = good .sizes;
+              range = writes-keep-range z t σ ws in-sort (good .range) (λ e. absurd (omega (arith, a-producer .0))) (λ l. in-row);
+              memory = memory;
+              agrees = agrees;
+              model = model;
+              formed = formed;
+            };
+        grown = grown;
+      }
+
+-- Places stay where the only record whose place is written is another one.
+pub place-same : (σ σ′ : Reader) (c : ℕ) → ((y : ℕ) → (y ≡ c → ⊥) → σ′ (place y) ≡ σ (place y)) → (x : ℕ) → (x ≡ suc c → ⊥)
+    → placeOf (placesOf σ′) x ≡ placeOf (placesOf σ) x
+place-same σ σ′ c same zero n = refl
+place-same σ σ′ c same (suc y) n = same y (λ e. n (ap suc e))
+
+-- a record that is not linked is not where the consumer stands
+pub not-linked-there : (σ : Reader) (c x : ℕ) → (σ (used c) ≡ 2 → ⊥) → Linked σ x → x ≡ suc c → ⊥
+not-linked-there σ c zero n l e = omega arith
+not-linked-there σ c (suc y) n l e = n (subst (λ (w : ℕ). σ (used w) ≡ 2) (omega arith) l)
+
+-- What the consumer sees stays, where its words do and the only place that is written is that of a record that was not linked.
+pub consumer-same : (σ σ′ : Reader) (c : ℕ) → ((k : ℕ) → σ′ (consumer k) ≡ σ (consumer k))
+    → ((y : ℕ) → (y ≡ c → ⊥) → σ′ (place y) ≡ σ (place y)) → (σ (used c) ≡ 2 → ⊥)
+    → Linked σ (σ cursorRecord) → Linked σ (σ foundRecord) → consumerOf σ′ ≡ consumerOf σ
+consumer-same σ σ′ c row same n cursor found =
+    let k : placeOf (placesOf σ′) (σ′ cursorRecord) ≡ placeOf (placesOf σ) (σ cursorRecord) =
+    ap (placeOf (placesOf σ′)) (row 1) ∙ place-same σ σ′ c same (σ cursorRecord) (not-linked-there σ c (σ cursorRecord) n cursor) in
+    let g : placeOf (placesOf σ′) (σ′ foundRecord) ≡ placeOf (placesOf σ) (σ foundRecord) =
+    ap (placeOf (placesOf σ′)) (row 3) ∙ place-same σ σ′ c same (σ foundRecord) (not-linked-there σ c (σ foundRecord) n found) in
+    λ i. consumerAt (row 0 i) (row 2 i) (k i) (row 4 i) (g i) (record { number = row 5 i; value = row 6 i })
+
+-- a state with its threads seen another way
+abbrev pub withThreads : State → (ℕ → Producer) → Consumer → State
+withThreads s f c =
+    record {
+      tail = s .tail;
+      hp = s .hp;
+      lo = s .lo;
+      tp = s .tp;
+      hi = s .hi;
+      starts = s .starts;
+      entry = s .entry;
+      owner = s .owner;
+      content = s .content;
+      producer = f;
+      consumer = c;
+      history = s .history;
+    }
+
+pub threads-seen : {B : ℕ} {s : State} {f : ℕ → Producer} {c : Consumer} → Invariant B s → s .producer ≡ f → s .consumer ≡ c
+    → Invariant B (withThreads s f c)
+threads-seen {B} {s} i p q = subst (Invariant B) (λ j. withThreads s (p j) (q j)) i
+
+-- Entries stay where those of the linked records do.
+pub agrees-kept : (B lo hi : ℕ) (at : ℕ → ℕ) (entry : ℕ → Entry) (content : ℕ → Item) (cell cell′ : ℕ → ℕ → ℕ → ℕ)
+    → ((k i j : ℕ) → lo ≤ suc k → suc k ≤ hi → cell′ (at (suc k)) i j ≡ cell (at (suc k)) i j)
+    → Agrees B lo hi at entry content cell → Agrees B lo hi at entry content cell′
+agrees-kept B lo hi at entry content cell cell′ same a =
+    record {
+      states = λ k i l h b. same k i 0 l h ∙ a .states k i l h b;
+      numbers = λ k i l h b. same k i 1 l h ∙ a .numbers k i l h b;
+      values = λ k i l h b. same k i 2 l h ∙ a .values k i l h b;
+      fresh = a .fresh;
+    }
