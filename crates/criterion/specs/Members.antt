@@ -1,0 +1,85 @@
+-- General facts on lists: what holds of every element, of every two, and of one, under `++` and `map`, and where an element
+-- splits a list.
+use mathlib.Core.Path.{_≡_, refl, sym, ap, subst}
+use mathlib.Core.Logic.{_⊎_, inl, inr}
+use mathlib.Core.List.{List, [], _∷_, _++_, map}
+use Rattle.history.specs.Lists.{All, Pairwise, Member}
+
+module _ {A : Type 0} where
+  pub all-at : (P : A → Type 0) (xs : List A) → All P xs → (a : A) → Member a xs → P a
+  all-at P (x ∷ xs) p a (inl e) = subst P (sym e) (p .0)
+  all-at P (x ∷ xs) p a (inr m) = all-at P xs (p .1) a m
+
+  pub all-of : (P : A → Type 0) (xs : List A) → ((a : A) → Member a xs → P a) → All P xs
+  all-of P [] f = tt
+  all-of P (x ∷ xs) f = (f x (inl refl), all-of P xs (λ a m. f a (inr m)))
+
+  pub all-map : (P Q : A → Type 0) (xs : List A) → ((a : A) → P a → Q a) → All P xs → All Q xs
+  all-map P Q xs f p = all-of Q xs (λ a m. f a (all-at P xs p a m))
+
+  pub in-left : (a : A) (xs ys : List A) → Member a xs → Member a (xs ++ ys)
+  in-left a (x ∷ xs) ys (inl e) = inl e
+  in-left a (x ∷ xs) ys (inr m) = inr (in-left a xs ys m)
+
+  pub in-right : (a : A) (xs ys : List A) → Member a ys → Member a (xs ++ ys)
+  in-right a [] ys m = m
+  in-right a (x ∷ xs) ys m = inr (in-right a xs ys m)
+
+  pub in-either : (a : A) (xs ys : List A) → Member a (xs ++ ys) → Member a xs ⊎ Member a ys
+  in-either a [] ys m = inr m
+  in-either a (x ∷ xs) ys (inl e) = inl (inl e)
+  in-either a (x ∷ xs) ys (inr m) = elim (in-either a xs ys m) [ inl l ↦ inl (inr l) | inr r ↦ inr r ]
+
+  -- the last of a list with one more
+  pub in-snoc : (a : A) (xs : List A) (x : A) → Member a (xs ++ (x ∷ [])) → Member a xs ⊎ (a ≡ x)
+  in-snoc a xs x m = elim (in-either a xs (x ∷ []) m) [ inl l ↦ inl l | inr (inl e) ↦ inr e | inr (inr n) ↦ absurd n ]
+
+  pub all-append : (P : A → Type 0) (xs ys : List A) → All P xs → All P ys → All P (xs ++ ys)
+  all-append P [] ys p q = q
+  all-append P (x ∷ xs) ys p q = (p .0, all-append P xs ys (p .1) q)
+
+  pub all-right : (P : A → Type 0) (xs ys : List A) → All P (xs ++ ys) → All P ys
+  all-right P [] ys p = p
+  all-right P (x ∷ xs) ys p = all-right P xs ys (p .1)
+
+  pub pairwise-right : (R : A → A → Type 0) (xs ys : List A) → Pairwise R (xs ++ ys) → Pairwise R ys
+  pairwise-right R [] ys p = p
+  pairwise-right R (x ∷ xs) ys p = pairwise-right R xs ys (p .1)
+
+  -- the earlier of two parts against the later one
+  pub pairwise-across : (R : A → A → Type 0) (xs ys : List A) → Pairwise R (xs ++ ys) → (a b : A) → Member a xs → Member b ys → R a b
+  pairwise-across R (x ∷ xs) ys p a b (inl e) n = subst (λ z. R z b) (sym e) (all-at (R x) (xs ++ ys) (p .0) b (in-right b xs ys n))
+  pairwise-across R (x ∷ xs) ys p a b (inr m) n = pairwise-across R xs ys (p .1) a b m n
+
+  pub pairwise-append : (R : A → A → Type 0) (xs ys : List A) → Pairwise R xs → Pairwise R ys → All (λ a. All (R a) ys) xs → Pairwise R (xs ++ ys)
+  pairwise-append R [] ys p q r = q
+  pairwise-append R (x ∷ xs) ys p q r = (all-append (R x) xs ys (p .0) (r .0), pairwise-append R xs ys (p .1) q (r .1))
+
+  -- two elements of a list, one R to the other or the same
+  pub pairwise-at : (R : A → A → Type 0) (xs : List A) → Pairwise R xs → (a b : A) → Member a xs → Member b xs → (a ≡ b) ⊎ (R a b ⊎ R b a)
+  pairwise-at R (x ∷ xs) p a b (inl e) (inl f) = inl (cc)
+  pairwise-at R (x ∷ xs) p a b (inl e) (inr n) = inr (inl (subst (λ z. R z b) (sym e) (all-at (R x) xs (p .0) b n)))
+  pairwise-at R (x ∷ xs) p a b (inr m) (inl f) = inr (inr (subst (λ z. R z a) (sym f) (all-at (R x) xs (p .0) a m)))
+  pairwise-at R (x ∷ xs) p a b (inr m) (inr n) = pairwise-at R xs (p .1) a b m n
+
+  -- where an element stands
+  pub split-at : (a : A) (xs : List A) → Member a xs → (b c : List A) × (xs ≡ b ++ (a ∷ c))
+  split-at a (x ∷ xs) (inl e) = ([], xs, ap (λ z. z ∷ xs) (sym e))
+  split-at a (x ∷ xs) (inr m) = let s = split-at a xs m in (x ∷ s .0, s .1, ap (λ z. x ∷ z) (s .2))
+
+module _ {A B : Type 0} where
+  pub in-map : (f : A → B) (a : A) (xs : List A) → Member a xs → Member (f a) (map f xs)
+  in-map f a (x ∷ xs) (inl e) = inl (ap f e)
+  in-map f a (x ∷ xs) (inr m) = inr (in-map f a xs m)
+
+  pub from-map : (f : A → B) (b : B) (xs : List A) → Member b (map f xs) → (a : A) × Member a xs × (b ≡ f a)
+  from-map f b (x ∷ xs) (inl e) = (x, inl refl, e)
+  from-map f b (x ∷ xs) (inr m) = let r = from-map f b xs m in (r .0, inr (r .1), r .2)
+
+  pub pairwise-map : (R : B → B → Type 0) (S : A → A → Type 0) (f : A → B) (xs : List A) → ((a b : A) → S a b → R (f a) (f b)) → Pairwise S xs → Pairwise R (map f xs)
+  pairwise-map R S f [] g p = tt
+  pairwise-map R S f (x ∷ xs) g p = (later xs (p .0), pairwise-map R S f xs g (p .1))
+    where
+      later : (ys : List A) → All (S x) ys → All (R (f x)) (map f ys)
+      later [] q = tt
+      later (y ∷ ys) q = (g x y (q .0), later ys (q .1))
