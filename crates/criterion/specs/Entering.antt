@@ -13,6 +13,7 @@ use Rattle.history.specs.Lists.{All, Pairwise, Member}
 use Rattle.history.specs.Event.{Event, History, enqueueStarted, enqueueEnded, dequeueStarted, gaveItem, gaveEmpty}
 use Rattle.history.specs.Calls.{Answer, nothing, item, empty, Enqueue, Dequeue, Call, enq, deq, startOf, endOf, endEnqueue, endDequeue, calls}
 use Rattle.history.specs.Form.{enqueues, dequeues}
+use Rattle.criterion.specs.Following.{is-busy, is-idle}
 use Rattle.criterion.specs.Members.{in-left, in-right, in-snoc, in-map, from-map}
 
 -- an enqueue that event k started, or ended
@@ -43,16 +44,6 @@ ends-enqueue : (t k : ℕ) (x : Enqueue) (b : Bool) → enqueues t (enq x) ≡ b
 ends-enqueue t k x true e = rw e
 ends-enqueue t k x false e = rw e
 
-pub is-busy : (t : ℕ) (x : Enqueue) → x .thread ≡ t → x .end ≡ 0 → enqueues t (enq x) ≡ true
-is-busy t x p q = and-eq-true-iff _ _ .1 (eq-eqb (x .thread) t p, eq-eqb (x .end) 0 q)
-
-pub is-idle : (t : ℕ) (x : Enqueue) → (x .thread ≡ t → x .end ≢ 0) → enqueues t (enq x) ≡ false
-is-idle t x f = go (enqueues t (enq x)) refl
-  where
-    go : (b : Bool) → enqueues t (enq x) ≡ b → b ≡ false
-    go true q = let both = and-eq-true-iff _ _ .0 q in absurd (f (eqb-true _ _ (both .0)) (eqb-true _ _ (both .1)))
-    go false q = refl
-
 ends-dequeue : (k : ℕ) (a : Answer) (d : Dequeue) (b : Bool) → eqb (d .end) 0 ≡ b → endDequeue k a (deq d) ≡ deq (cond b (answered k a d) d)
 ends-dequeue k a d true e = rw e
 ends-dequeue k a d false e = rw e
@@ -74,6 +65,7 @@ module _ (t k : ℕ) (cs : List Call) where
       test : (y : Enqueue) → Member (enq y) cs → (b : Bool) → enqueues t (enq y) ≡ b → x ≡ cond b (closed k y) y → Ends t k cs x
       test y l true q e = let both = and-eq-true-iff _ _ .0 q in inr (y, l, eqb-true _ _ (both .0), eqb-true _ _ (both .1), e)
       test y l false q e = inl (rw e l, λ p z. true≢false (sym (is-busy t y (cc) (cc)) ∙ q))
+
       at : (c : Call) → Member c cs → enq x ≡ endEnqueue t k c → Ends t k cs x
       at (enq y) l e = test y l (enqueues t (enq y)) refl (same-enq (rw (← ends-enqueue t k y _ refl) e))
       at (deq d) l e = absurd (enq-not-deq e)
@@ -98,6 +90,7 @@ module _ (k : ℕ) (a : Answer) (cs : List Call) where
       test : (b : Dequeue) → Member (deq b) cs → (t : Bool) → eqb (b .end) 0 ≡ t → d ≡ cond t (answered k a b) b → Answers k a cs d
       test b l true q e = inr (b, l, eqb-true _ _ q, e)
       test b l false q e = inl (rw e l, λ z. eqb-false (b .end) 0 q (cc))
+
       at : (c : Call) → Member c cs → deq d ≡ endDequeue k a c → Answers k a cs d
       at (enq y) l e = absurd (enq-not-deq (sym e))
       at (deq b) l e = test b l (eqb (b .end) 0) refl (same-deq (rw (← ends-dequeue k a b _ refl) e))
@@ -108,7 +101,6 @@ module _ (k : ℕ) (a : Answer) (cs : List Call) where
       at : (c : Call) → Member c cs → enq x ≡ endDequeue k a c → Member (enq x) cs
       at (enq y) l e = rw e l
       at (deq b) l e = absurd (enq-not-deq e)
-
 
   pub dequeue-ends : (d : Dequeue) → Member (deq d) cs → d .end ≡ 0 → Member (deq (answered k a d)) (map (endDequeue k a) cs)
   dequeue-ends d m q = rw (ends-dequeue k a d true (eq-eqb _ _ q)) at (in-map (endDequeue k a) (deq d) cs m)

@@ -1,3 +1,6 @@
 pub mod Explained
 pub mod Members
+pub mod Following
 pub mod Entering
+pub mod Growth
+pub mod Times
