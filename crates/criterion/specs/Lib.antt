@@ -4,3 +4,5 @@ pub mod Following
 pub mod Entering
 pub mod Growth
 pub mod Times
+pub mod Tidy
+pub mod Apart
