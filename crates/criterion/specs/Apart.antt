@@ -7,6 +7,7 @@ use mathlib.Core.List.{List, [], _∷_, _++_, map}
 use mathlib.Core.Option.{Option, none, some, Option·some-injective}
 use Prim.Native.Nat.{ℕ, suc, _≤_, _<_}
 use native.Mathlib.Omega.{arith}
+use native.Mathlib.Decide.{decLt}
 use lib.ListN.{length}
 use Rattle.history.specs.Lists.{All, Pairwise, Member}
 use Rattle.history.specs.Event.{Event, History, enqueueStarted, enqueueEnded, dequeueStarted, gaveItem, gaveEmpty}
@@ -109,3 +110,11 @@ ended-by-next (gaveEmpty ∷ h) w d m j (inr a) l =
 
 pub one-at-a-time : (h : History) → wellFormed h ≡ true → (d b : Dequeue) → Member (deq d) (calls h) → Member (deq b) (calls h) → d .start < b .start → (d .end ≢ 0) × (d .end < b .start)
 one-at-a-time h w d b m n l = ended-by-next h w d m (b .start) (dequeue-tells h w b n .started) l
+
+-- No dequeue starts while another is under way.
+pub none-meanwhile : (h : History) → wellFormed h ≡ true → (d b : Dequeue) → Member (deq d) (calls h) → Member (deq b) (calls h) → b .start < d .end → b .start ≤ d .start
+none-meanwhile h w d b m n l = go (decLt (d .start) (b .start))
+  where
+    go : Dec (d .start < b .start) → b .start ≤ d .start
+    go (yes p) = absurd (let r = one-at-a-time h w d b m n p in omega arith)
+    go (no f) = omega arith

@@ -6,3 +6,4 @@ pub mod Growth
 pub mod Times
 pub mod Tidy
 pub mod Apart
+pub mod Orderly
