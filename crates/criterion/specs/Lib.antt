@@ -7,3 +7,5 @@ pub mod Times
 pub mod Tidy
 pub mod Apart
 pub mod Orderly
+pub mod Order
+pub mod Fits
