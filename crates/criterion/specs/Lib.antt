@@ -9,3 +9,4 @@ pub mod Apart
 pub mod Orderly
 pub mod Order
 pub mod Fits
+pub mod Serve
