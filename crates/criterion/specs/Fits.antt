@@ -44,7 +44,7 @@ fits-runs (give {d = d} {x = x} {q = q} {ord = ord} e a f) = run-step (deq d) _ 
 fits-runs (find-none e a f) = rw e (fits-runs f)
 
 -- It holds just those calls.
-abbrev Among : List Dequeue → List Enqueue → Call → Type 0
+abbrev pub Among : List Dequeue → List Enqueue → Call → Type 0
 Among ds p (enq x) = Member x p
 Among ds p (deq d) = Member d ds
 

@@ -10,3 +10,5 @@ pub mod Orderly
 pub mod Order
 pub mod Fits
 pub mod Serve
+pub mod Found
+pub mod Sound

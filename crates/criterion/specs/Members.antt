@@ -62,6 +62,15 @@ module _ {A : Type 0} where
   pairwise-at R (x ∷ xs) p a b (inr m) (inl f) = inr (inr (subst (λ z. R z a) (sym f) (all-at (R x) xs (p .0) a m)))
   pairwise-at R (x ∷ xs) p a b (inr m) (inr n) = pairwise-at R xs (p .1) a b m n
 
+  pub pairwise-both : (R S : A → A → Type 0) (xs : List A) → Pairwise R xs → Pairwise S xs → Pairwise (λ a b. R a b × S a b) xs
+  pairwise-both R S [] p q = tt
+  pairwise-both R S (x ∷ xs) p q = (all-of _ xs (λ a m. (all-at (R x) xs (p .0) a m, all-at (S x) xs (q .0) a m)), pairwise-both R S xs (p .1) (q .1))
+
+  pub pairwise-with : (R S : A → A → Type 0) (xs : List A) → Pairwise R xs → ((a b : A) → Member a xs → Member b xs → R a b → S a b) → Pairwise S xs
+  pairwise-with R S [] p f = tt
+  pairwise-with R S (x ∷ xs) p f =
+      (all-of (S x) xs (λ a m. f x a (inl refl) (inr m) (all-at (R x) xs (p .0) a m)), pairwise-with R S xs (p .1) (λ a b m n. f a b (inr m) (inr n)))
+
   -- where an element stands
   pub split-at : (a : A) (xs : List A) → Member a xs → (b c : List A) × (xs ≡ b ++ (a ∷ c))
   split-at a (x ∷ xs) (inl e) = ([], xs, ap (λ z. z ∷ xs) (sym e))
@@ -83,3 +92,7 @@ module _ {A B : Type 0} where
       later : (ys : List A) → All (S x) ys → All (R (f x)) (map f ys)
       later [] q = tt
       later (y ∷ ys) q = (g x y (q .0), later ys (q .1))
+
+  pub pairwise-unmap : (R : B → B → Type 0) (f : A → B) (xs : List A) → Pairwise R (map f xs) → Pairwise (λ a b. R (f a) (f b)) xs
+  pairwise-unmap R f [] p = tt
+  pairwise-unmap R f (x ∷ xs) p = (all-of _ xs (λ a m. all-at (R (f x)) (map f xs) (p .0) (f a) (in-map f a xs m)), pairwise-unmap R f xs (p .1))

@@ -31,7 +31,7 @@ abbrev pub Serves : List Dequeue → (p r : List Enqueue) → Type 0
 Serves [] p r = p ≡ r
 Serves (d ∷ ds) p r = Serve (d .answer) (d .start) (d .end) p (λ z. Serves ds z r)
 
-clears-nothing : (ds : List Dequeue) → clears ds [] ≡ true
+pub clears-nothing : (ds : List Dequeue) → clears ds [] ≡ true
 clears-nothing [] = refl
 clears-nothing (d ∷ ds) = refl
 
