@@ -1,5 +1,5 @@
 -- What the order is made of: the answered dequeues of some calls, and the enqueues that are looked up by number.
-use mathlib.Core.Path.{_≡_, refl, sym, ap, subst, _∙_}
+use mathlib.Core.Path.{_≡_, refl, sym, ap, subst, subst₂, _∙_}
 use mathlib.Core.Logic.{_⊎_, inl, inr, _≢_}
 use mathlib.Core.Bool.{Bool, true, false, cond}
 use mathlib.Core.List.{List, [], _∷_, _++_, map}
@@ -8,55 +8,46 @@ use lib.Dec.{eqb}
 use borrow.Author.Tests.{eqb-true, eqb-false}
 use Rattle.history.specs.Lists.{All, Pairwise, Member}
 use Rattle.history.specs.Calls.{Answer, nothing, item, empty, Enqueue, Dequeue, Call, enq, deq}
-use Rattle.criterion.specs.Members.{all-at, all-of, in-left, in-right, in-either}
+use Rattle.criterion.specs.Members.{gather, in-gather, from-gather, pairwise-gather}
 use Rattle.criterion.specs.Entering.{same-enq, same-deq, enq-not-deq}
-use Rattle.criterion.specs.Order.{keep, dequeuesOf, look, lookAnswer, taken}
+use Rattle.criterion.specs.Order.{ifAnswered, dequeueOf, dequeuesOf, look, lookAnswer, taken}
 use Rattle.criterion.specs.Orderly.{item-not-nothing, empty-not-nothing}
 
 -- the answered dequeues
-keeps : (a : Answer) (d b : Dequeue) (ds : List Dequeue) → Member b (keep a d ds) → ((b ≡ d) × (a ≢ nothing)) ⊎ Member b ds
-keeps nothing d b ds m = inr m
-keeps (item n v) d b ds (inl e) = inl (e, item-not-nothing)
-keeps (item n v) d b ds (inr m) = inr m
-keeps empty d b ds (inl e) = inl (e, empty-not-nothing)
-keeps empty d b ds (inr m) = inr m
+is-answered : (a : Answer) (d b : Dequeue) → Member b (ifAnswered a d) → (b ≡ d) × (a ≢ nothing)
+is-answered (item n v) d b (inl e) = (e, item-not-nothing)
+is-answered empty d b (inl e) = (e, empty-not-nothing)
 
-kept-rest : (a : Answer) (d b : Dequeue) (ds : List Dequeue) → Member b ds → Member b (keep a d ds)
-kept-rest nothing d b ds m = m
-kept-rest (item n v) d b ds m = inr m
-kept-rest empty d b ds m = inr m
+answered-is : (a : Answer) (d : Dequeue) → a ≢ nothing → Member d (ifAnswered a d)
+answered-is nothing d f = absurd (f refl)
+answered-is (item n v) d f = inl refl
+answered-is empty d f = inl refl
 
-kept-first : (a : Answer) (d : Dequeue) (ds : List Dequeue) → a ≢ nothing → Member d (keep a d ds)
-kept-first nothing d ds f = absurd (f refl)
-kept-first (item n v) d ds f = inl refl
-kept-first empty d ds f = inl refl
+is-dequeue : (c : Call) (d : Dequeue) → Member d (dequeueOf c) → (c ≡ deq d) × (d .answer ≢ nothing)
+is-dequeue (deq b) d m =
+    let r = is-answered (b .answer) b d m in
+    (ap deq (sym (r .0)), λ q. r .1 (ap (λ (z : Dequeue). z .answer) (sym (r .0)) ∙ q))
 
 pub of-calls : (cs : List Call) (d : Dequeue) → Member d (dequeuesOf cs) → Member (deq d) cs × (d .answer ≢ nothing)
-of-calls (enq x ∷ cs) d m = let r = of-calls cs d m in (inr (r .0), r .1)
-of-calls (deq b ∷ cs) d m =
-    elim (keeps (b .answer) b d (dequeuesOf cs) m) [
-      | inl e ↦ (inl (ap deq (e .0)), λ q. e .1 (ap (λ (z : Dequeue). z .answer) (sym (e .0)) ∙ q))
-      | inr n ↦ let r = of-calls cs d n in (inr (r .0), r .1)
-    ]
+of-calls cs d m =
+    let r = from-gather dequeueOf d cs m in
+    let e = is-dequeue (r .0) d (r .2) in
+    (subst (λ c. Member c cs) (e .0) (r .1), e .1)
 
 pub answered-in : (cs : List Call) (d : Dequeue) → Member (deq d) cs → d .answer ≢ nothing → Member d (dequeuesOf cs)
-answered-in (enq x ∷ cs) d (inl e) f = absurd (enq-not-deq (sym e))
-answered-in (enq x ∷ cs) d (inr m) f = answered-in cs d m f
-answered-in (deq b ∷ cs) d (inl e) f = subst (λ z. Member d (keep (z .answer) z (dequeuesOf cs))) (same-deq e) (kept-first (d .answer) d (dequeuesOf cs) f)
-answered-in (deq b ∷ cs) d (inr m) f = kept-rest (b .answer) b d (dequeuesOf cs) (answered-in cs d m f)
+answered-in cs d m f = in-gather dequeueOf (deq d) d cs m (answered-is (d .answer) d f)
 
 pub pairwise-dequeues : (R : Call → Call → Type 0) (cs : List Call) → Pairwise R cs → Pairwise (λ d b. R (deq d) (deq b)) (dequeuesOf cs)
-pairwise-dequeues R [] p = tt
-pairwise-dequeues R (enq x ∷ cs) p = pairwise-dequeues R cs (p .1)
-pairwise-dequeues R (deq d ∷ cs) p = go (d .answer) (pairwise-dequeues R cs (p .1))
+pairwise-dequeues R cs p = pairwise-gather R (λ d b. R (deq d) (deq b)) dequeueOf cs p alone (λ a c b d r m n. subst₂ R (is-dequeue a b m .0) (is-dequeue c d n .0) r)
   where
-    ahead : All (λ b. R (deq d) (deq b)) (dequeuesOf cs)
-    ahead = all-of _ (dequeuesOf cs) (λ b m. all-at (R (deq d)) cs (p .0) (deq b) (of-calls cs b m .0))
+    of-answer : (a : Answer) (d : Dequeue) → Pairwise (λ d b. R (deq d) (deq b)) (ifAnswered a d)
+    of-answer nothing d = tt
+    of-answer (item n v) d = (tt, tt)
+    of-answer empty d = (tt, tt)
 
-    go : (a : Answer) → Pairwise (λ d b. R (deq d) (deq b)) (dequeuesOf cs) → Pairwise (λ d b. R (deq d) (deq b)) (keep a d (dequeuesOf cs))
-    go nothing q = q
-    go (item n v) q = (ahead, q)
-    go empty q = (ahead, q)
+    alone : (c : Call) → Pairwise (λ d b. R (deq d) (deq b)) (dequeueOf c)
+    alone (enq x) = tt
+    alone (deq d) = of-answer (d .answer) d
 
 -- the enqueue with a number
 pub look-finds : (n : ℕ) (x : Enqueue) (cs : List Call) → Member (enq x) cs → x .number ≡ n → ((y : Enqueue) → Member (enq y) cs → y .number ≡ n → y ≡ x) → look n cs ≡ x ∷ []
@@ -86,16 +77,10 @@ pub record TakenBy (cs : List Call) (ds : List Dequeue) (y : Enqueue) : Type 0 w
   pub member : Member (enq y) cs
 
 pub taken-by : (cs : List Call) (ds : List Dequeue) (y : Enqueue) → Member y (taken cs ds) → TakenBy cs ds y
-taken-by cs (d ∷ ds) y m =
-    elim (in-either y (lookAnswer (d .answer) cs) (taken cs ds) m) [
-      | inl l ↦ first (d .answer) refl l
-      | inr l ↦ let r = taken-by cs ds y l in record { by = r .by; value = r .value; among = inr (r .among); gives = r .gives; member = r .member }
-    ]
+taken-by cs ds y m = let r = from-gather (λ d. lookAnswer cs (d .answer)) y ds m in at (r .0) (r .1) (r .0 .answer) refl (r .2)
   where
-    first : (a : Answer) → d .answer ≡ a → Member y (lookAnswer a cs) → TakenBy cs (d ∷ ds) y
-    first (item n v) e l = let r = look-is n y cs l in record { by = d; value = v; among = inl refl; gives = e ∙ ap (λ k. item k v) (sym (r .1)); member = r .0 }
+    at : (d : Dequeue) → Member d ds → (a : Answer) → d .answer ≡ a → Member y (lookAnswer cs a) → TakenBy cs ds y
+    at d k (item n v) e l = let r = look-is n y cs l in record { by = d; value = v; among = k; gives = e ∙ ap (λ i. item i v) (sym (r .1)); member = r .0 }
 
 pub taken-has : (cs : List Call) (ds : List Dequeue) (d : Dequeue) (n v : ℕ) (x : Enqueue) → Member d ds → d .answer ≡ item n v → look n cs ≡ x ∷ [] → Member x (taken cs ds)
-taken-has cs (b ∷ ds) d n v x (inl p) e l =
-    in-left x (lookAnswer (b .answer) cs) (taken cs ds) (subst (λ a. Member x (lookAnswer a cs)) (sym e ∙ ap (λ (z : Dequeue). z .answer) p) (subst (Member x) (sym l) (inl refl)))
-taken-has cs (b ∷ ds) d n v x (inr m) e l = in-right x (lookAnswer (b .answer) cs) (taken cs ds) (taken-has cs ds d n v x m e l)
+taken-has cs ds d n v x m e l = in-gather (λ d. lookAnswer cs (d .answer)) d x ds m (rw (e, l) (inl refl))

@@ -96,3 +96,24 @@ module _ {A B : Type 0} where
   pub pairwise-unmap : (R : B → B → Type 0) (f : A → B) (xs : List A) → Pairwise R (map f xs) → Pairwise (λ a b. R (f a) (f b)) xs
   pairwise-unmap R f [] p = tt
   pairwise-unmap R f (x ∷ xs) p = (all-of _ xs (λ a m. all-at (R (f x)) (map f xs) (p .0) (f a) (in-map f a xs m)), pairwise-unmap R f xs (p .1))
+
+  -- the lists that the elements give, one after the other
+  abbrev pub gather : (A → List B) → List A → List B
+  gather f [] = []
+  gather f (x ∷ xs) = f x ++ gather f xs
+
+  pub in-gather : (f : A → List B) (a : A) (b : B) (xs : List A) → Member a xs → Member b (f a) → Member b (gather f xs)
+  in-gather f a b (x ∷ xs) (inl e) m = in-left b (f x) (gather f xs) (subst (λ z. Member b (f z)) e m)
+  in-gather f a b (x ∷ xs) (inr n) m = in-right b (f x) (gather f xs) (in-gather f a b xs n m)
+
+  pub from-gather : (f : A → List B) (b : B) (xs : List A) → Member b (gather f xs) → (a : A) × Member a xs × Member b (f a)
+  from-gather f b (x ∷ xs) m =
+      elim (in-either b (f x) (gather f xs) m) [ inl l ↦ (x, inl refl, l) | inr l ↦ let r = from-gather f b xs l in (r .0, inr (r .1), r .2) ]
+
+  pub pairwise-gather : (R : A → A → Type 0) (S : B → B → Type 0) (f : A → List B) (xs : List A) → Pairwise R xs → ((a : A) → Pairwise S (f a)) → ((a c : A) (b d : B) → R a c → Member b (f a) → Member d (f c) → S b d) → Pairwise S (gather f xs)
+  pairwise-gather R S f [] p own across = tt
+  pairwise-gather R S f (x ∷ xs) p own across =
+      pairwise-append S (f x) (gather f xs) (own x) (pairwise-gather R S f xs (p .1) own across)
+      (all-of _ (f x)
+      (λ b m. all-of (S b) (gather f xs)
+      (λ d n. let r = from-gather f d xs n in across x (r .0) b d (all-at (R x) xs (p .0) (r .0) (r .1)) m (r .2))))

@@ -9,17 +9,20 @@ use lib.Dec.{leb, eqb}
 use Rattle.history.specs.Event.{History}
 use Rattle.history.specs.Calls.{Answer, nothing, item, empty, Enqueue, Dequeue, Call, enq, deq, calls}
 use Rattle.history.specs.Linearization.{Item, Queue}
+use Rattle.criterion.specs.Members.{gather}
 
 -- the answered dequeues
-abbrev pub keep : Answer → Dequeue → List Dequeue → List Dequeue
-keep nothing d ds = ds
-keep (item n v) d ds = d ∷ ds
-keep empty d ds = d ∷ ds
+abbrev pub ifAnswered : Answer → Dequeue → List Dequeue
+ifAnswered nothing d = []
+ifAnswered (item n v) d = d ∷ []
+ifAnswered empty d = d ∷ []
+
+abbrev pub dequeueOf : Call → List Dequeue
+dequeueOf (enq x) = []
+dequeueOf (deq d) = ifAnswered (d .answer) d
 
 abbrev pub dequeuesOf : List Call → List Dequeue
-dequeuesOf [] = []
-dequeuesOf (enq x ∷ cs) = dequeuesOf cs
-dequeuesOf (deq d ∷ cs) = keep (d .answer) d (dequeuesOf cs)
+dequeuesOf cs = gather dequeueOf cs
 
 -- the enqueue with this number, if there is one
 abbrev pub look : ℕ → List Call → List Enqueue
@@ -28,18 +31,16 @@ look n (enq x ∷ cs) = cond (eqb (x .number) n) (x ∷ []) (look n cs)
 look n (deq d ∷ cs) = look n cs
 
 -- the enqueues of the items that the dequeues gave, and of the items of a queue
-abbrev pub lookAnswer : Answer → List Call → List Enqueue
-lookAnswer nothing cs = []
-lookAnswer (item n v) cs = look n cs
-lookAnswer empty cs = []
+abbrev pub lookAnswer : List Call → Answer → List Enqueue
+lookAnswer cs nothing = []
+lookAnswer cs (item n v) = look n cs
+lookAnswer cs empty = []
 
 abbrev pub taken : List Call → List Dequeue → List Enqueue
-taken cs [] = []
-taken cs (d ∷ ds) = lookAnswer (d .answer) cs ++ taken cs ds
+taken cs ds = gather (λ d. lookAnswer cs (d .answer)) ds
 
 abbrev pub left : List Call → Queue → List Enqueue
-left cs [] = []
-left cs (i ∷ q) = look (i .number) cs ++ left cs q
+left cs q = gather (λ i. look (i .number) cs) q
 
 abbrev pub isItem : Answer → Bool
 isItem nothing = false

@@ -14,7 +14,7 @@ use Rattle.history.specs.Calls.{Answer, nothing, item, empty, Enqueue, Dequeue,
 use Rattle.history.specs.Form.{wellFormed}
 use Rattle.history.specs.Linearization.{Item, Queue, Precedes, run, Linearization}
 use Rattle.criterion.specs.Explained.{Started, Ended, Taken, EndedBefore, Explained, Rest}
-use Rattle.criterion.specs.Members.{all-at, all-of, all-map, in-left, in-right, in-either, in-map, from-map, pairwise-both, pairwise-with, pairwise-unmap}
+use Rattle.criterion.specs.Members.{all-at, all-of, all-map, in-left, in-right, in-either, in-map, from-map, from-gather, pairwise-both, pairwise-with, pairwise-unmap}
 use Rattle.criterion.specs.Entering.{same-enq, enq-not-deq}
 use Rattle.criterion.specs.Growth.{itemOf}
 use Rattle.criterion.specs.Times.{At, started-when, when-started, taken-when, when-taken, when-ended, when-before}
@@ -66,9 +66,7 @@ module _ (h : History) (w : wellFormed h ≡ true) where
         rw (looks _ (x .1) (i .number) refl) (ap (λ z. i ∷ z) (left-items q (s .1)))
 
     left-from : (q : Queue) (y : Enqueue) → Member y (left (calls h) q) → Member (enq y) (calls h)
-    left-from (i ∷ q) y m =
-        elim (in-either y (look (i .number) (calls h)) (left (calls h) q) m)
-        [ inl l ↦ look-is (i .number) y (calls h) l .0 | inr l ↦ left-from q y l ]
+    left-from q y m = let r = from-gather (λ i. look (i .number) (calls h)) y q m in look-is (r .0 .number) y (calls h) (r .2) .0
 
     is-rest : map itemOf rests ≡ rest
     is-rest = left-items rest (all-map _ _ rest (λ i s. s .0) (k .untaken))
@@ -118,7 +116,7 @@ module _ (h : History) (w : wellFormed h ≡ true) where
       serves [] t = refl
       serves (d ∷ ds) t = go (d .answer) refl (o d (t .0 .0 .0)) (serves ds (t .0 .1, t .1 .1))
         where
-          go : (a : Answer) → d .answer ≡ a → Fair a (d .start) (d .end) (calls h) → Serves ds (taken (calls h) ds ++ rests) rests → Serve a (d .start) (d .end) ((lookAnswer a (calls h) ++ taken (calls h) ds) ++ rests) (λ z. Serves ds z rests)
+          go : (a : Answer) → d .answer ≡ a → Fair a (d .start) (d .end) (calls h) → Serves ds (taken (calls h) ds ++ rests) rests → Serve a (d .start) (d .end) ((lookAnswer (calls h) a ++ taken (calls h) ds) ++ rests) (λ z. Serves ds z rests)
           go nothing e f s = absurd (t .0 .0 .1 e)
           go (item n v) e f s = rw (looks (f .given) (f .member) n (f .number-is)) (f .number-is, f .value-is, f .started, s)
           go empty e f s = (
@@ -132,7 +130,7 @@ module _ (h : History) (w : wellFormed h ≡ true) where
       timely-line [] t = left-timely
       timely-line (d ∷ ds) t = go (d .answer) refl (o d (t .0 .0 .0)) (timely-line ds (t .0 .1, t .1 .1))
         where
-          go : (a : Answer) → d .answer ≡ a → Fair a (d .start) (d .end) (calls h) → Pairwise (λ x y. Timely (enq x) (enq y)) (taken (calls h) ds ++ rests) → Pairwise (λ x y. Timely (enq x) (enq y)) ((lookAnswer a (calls h) ++ taken (calls h) ds) ++ rests)
+          go : (a : Answer) → d .answer ≡ a → Fair a (d .start) (d .end) (calls h) → Pairwise (λ x y. Timely (enq x) (enq y)) (taken (calls h) ds ++ rests) → Pairwise (λ x y. Timely (enq x) (enq y)) ((lookAnswer (calls h) a ++ taken (calls h) ds) ++ rests)
           go nothing e f p = p
           go (item n v) e f p =
               rw (looks (f .given) (f .member) n (f .number-is)) (
