@@ -12,3 +12,4 @@ pub mod Fits
 pub mod Serve
 pub mod Found
 pub mod Sound
+pub mod Fifo
