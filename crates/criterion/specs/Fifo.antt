@@ -27,7 +27,7 @@ abbrev pub enqueuesOf : List Call → List Enqueue
 enqueuesOf cs = gather enqueueOf cs
 
 -- a run, one call at a time and in two parts
-run-first : (c : Call) (cs : List Call) (q left : Queue) → run q (c ∷ cs) ≡ some left → (r : Queue) × (perform c q ≡ some r) × (run r cs ≡ some left)
+pub run-first : (c : Call) (cs : List Call) (q left : Queue) → run q (c ∷ cs) ≡ some left → (r : Queue) × (perform c q ≡ some r) × (run r cs ≡ some left)
 run-first c cs q left e = go (perform c q) refl e
   where
     go : (o : Option Queue) → perform c q ≡ o → (elim o as (λ _. Option Queue) [ none ↦ none | some r ↦ run r cs ]) ≡ some left → (r : Queue) × (perform c q ≡ some r) × (run r cs ≡ some left)

@@ -13,3 +13,4 @@ pub mod Serve
 pub mod Found
 pub mod Sound
 pub mod Fifo
+pub mod Complete

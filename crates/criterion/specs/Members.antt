@@ -3,6 +3,8 @@
 use mathlib.Core.Path.{_≡_, refl, sym, ap, subst}
 use mathlib.Core.Logic.{_⊎_, inl, inr}
 use mathlib.Core.List.{List, [], _∷_, _++_, map}
+use Prim.Native.Nat.{ℕ}
+use native.Mathlib.Omega.{arith}
 use Rattle.history.specs.Lists.{All, Pairwise, Member}
 
 module _ {A : Type 0} where
@@ -42,6 +44,10 @@ module _ {A : Type 0} where
   all-right P [] ys p = p
   all-right P (x ∷ xs) ys p = all-right P xs ys (p .1)
 
+  pub pairwise-left : (R : A → A → Type 0) (xs ys : List A) → Pairwise R (xs ++ ys) → Pairwise R xs
+  pairwise-left R [] ys p = tt
+  pairwise-left R (x ∷ xs) ys p = (all-of (R x) xs (λ a m. all-at (R x) (xs ++ ys) (p .0) a (in-left a xs ys m)), pairwise-left R xs ys (p .1))
+
   pub pairwise-right : (R : A → A → Type 0) (xs ys : List A) → Pairwise R (xs ++ ys) → Pairwise R ys
   pairwise-right R [] ys p = p
   pairwise-right R (x ∷ xs) ys p = pairwise-right R xs ys (p .1)
@@ -71,6 +77,9 @@ module _ {A : Type 0} where
   pairwise-with R S (x ∷ xs) p f =
       (all-of (S x) xs (λ a m. f x a (inl refl) (inr m) (all-at (R x) xs (p .0) a m)), pairwise-with R S xs (p .1) (λ a b m n. f a b (inr m) (inr n)))
 
+  pub nil-not-cons : {x : A} {xs : List A} → [] ≡ x ∷ xs → ⊥
+  nil-not-cons e = let z : _≡_ {A = ℕ} 0 1 = cc in omega arith
+
   -- where an element stands
   pub split-at : (a : A) (xs : List A) → Member a xs → (b c : List A) × (xs ≡ b ++ (a ∷ c))
   split-at a (x ∷ xs) (inl e) = ([], xs, ap (λ z. z ∷ xs) (sym e))
@@ -96,6 +105,15 @@ module _ {A B : Type 0} where
   pub pairwise-unmap : (R : B → B → Type 0) (f : A → B) (xs : List A) → Pairwise R (map f xs) → Pairwise (λ a b. R (f a) (f b)) xs
   pairwise-unmap R f [] p = tt
   pairwise-unmap R f (x ∷ xs) p = (all-of _ xs (λ a m. all-at (R (f x)) (map f xs) (p .0) (f a) (in-map f a xs m)), pairwise-unmap R f xs (p .1))
+
+  -- what stands where in a mapped list, stands there in the list
+  pub split-map : (f : A → B) (xs : List A) (ys : List B) (z : B) (zs : List B) → map f xs ≡ ys ++ (z ∷ zs) → (b : List A) × (a : A) × (c : List A) × (xs ≡ b ++ (a ∷ c)) × (map f b ≡ ys) × (f a ≡ z)
+  split-map f [] [] z zs e = absurd (nil-not-cons e)
+  split-map f [] (y ∷ ys) z zs e = absurd (nil-not-cons e)
+  split-map f (x ∷ xs) [] z zs e = ([], x, xs, refl, refl, cc)
+  split-map f (x ∷ xs) (y ∷ ys) z zs e =
+      let r = split-map f xs ys z zs (cc) in
+      (x ∷ r .0, r .1, r .2, cc (r .3), cc (e, r .4), r .5)
 
   -- the lists that the elements give, one after the other
   abbrev pub gather : (A → List B) → List A → List B
