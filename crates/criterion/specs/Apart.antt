@@ -13,14 +13,14 @@ use Rattle.history.specs.Lists.{All, Pairwise, Member}
 use Rattle.history.specs.Event.{Event, History, enqueueStarted, enqueueEnded, dequeueStarted, gaveItem, gaveEmpty}
 use Rattle.history.specs.Calls.{Answer, nothing, item, empty, Enqueue, Dequeue, Call, enq, deq, startOf, endOf, endEnqueue, endDequeue, calls}
 use Rattle.history.specs.Form.{any, dequeues, follows, wellFormed}
-use Rattle.history.specs.Linearization.{Item}
-use Rattle.criterion.specs.Explained.{current}
+use Rattle.history.specs.Linearization.{Item, Precedes}
+use Rattle.criterion.specs.Explained.{current, EndedBefore}
 use Rattle.criterion.specs.Members.{all-at, all-of, in-left, in-right, in-snoc, in-map, pairwise-append, pairwise-map, pairwise-at}
 use Rattle.criterion.specs.Following.{head-follows, tail-formed, has-its-start, has-its-dequeue, number-is-new, consumer-is-free}
 use Rattle.criterion.specs.Entering.{opened, closed, asked, answered, same-enq, same-deq, enq-not-deq, enqueue-in-ended, dequeue-in-ended, dequeue-in-answered, enqueue-in-answered, enqueue-ends, dequeue-ends, ended-stays, enqueue-goes-on, dequeue-goes-on}
 use Rattle.criterion.specs.Growth.{itemOf, open-is-current}
-use Rattle.criterion.specs.Times.{At, at-most}
-use Rattle.criterion.specs.Tidy.{EnqueueTold, DequeueTold, enqueue-tells, dequeue-tells, enqueue-of-start}
+use Rattle.criterion.specs.Times.{At, at-most, Happened, EndBefore, before-when, when-before}
+use Rattle.criterion.specs.Tidy.{EnqueueTold, DequeueTold, enqueue-tells, dequeue-tells, enqueue-of-start, enqueue-of-end}
 
 -- Calls have different starts, in rising order.
 pub start-at-most : (h : History) → wellFormed h ≡ true → (c : Call) → Member c (calls h) → startOf c ≤ length h
@@ -118,3 +118,20 @@ none-meanwhile h w d b m n l = go (decLt (d .start) (b .start))
     go : Dec (d .start < b .start) → b .start ≤ d .start
     go (yes p) = absurd (let r = one-at-a-time h w d b m n p in omega arith)
     go (no f) = omega arith
+
+-- One enqueue ended before another started: so say the calls, and so the facts.
+module _ (h : History) (w : wellFormed h ≡ true) (x y : Enqueue) (m : Member (enq x) (calls h)) (n : Member (enq y) (calls h)) where
+  pub precedes-ends : Precedes (enq x) (enq y) → EndedBefore (x .number) (y .number) h
+  precedes-ends p = when-before _ _ _ _ _ _ _ _ h (enqueue-tells h w x m .ended (p .0)) (enqueue-tells h w y n .started) (p .1)
+
+  pub ends-precedes : EndedBefore (x .number) (y .number) h → Precedes (enq x) (enq y)
+  ends-precedes r =
+      let b = before-when (x .number) (y .number) h r in
+      let l = b .in-order in
+      let first = enqueue-of-end (b .first .time) _ (x .number) _ h w (b .first .there) in
+      let second = enqueue-of-start (b .second .time) _ (y .number) _ h (b .second .there) in
+      let c = at-most _ _ h (b .first .there) in
+      let e = first .2 in
+      let i = ap (λ (z : Enqueue). z .end) (same-number h w (first .0) x (first .1) m (first .3)) in
+      let j : b .second .time ≡ y .start = ap (λ (z : Enqueue). z .start) (same-number h w _ y (second .1) n refl) in
+      (λ z. omega arith, omega arith)

@@ -14,3 +14,5 @@ pub mod Found
 pub mod Sound
 pub mod Fifo
 pub mod Complete
+pub mod Remaining
+pub mod Criterion

@@ -19,7 +19,7 @@ use Rattle.criterion.specs.Entering.{same-enq, enq-not-deq}
 use Rattle.criterion.specs.Growth.{itemOf}
 use Rattle.criterion.specs.Times.{At, started-when, when-started, taken-when, when-taken, when-ended, when-before}
 use Rattle.criterion.specs.Tidy.{enqueue-tells, dequeue-tells, enqueue-of-start, dequeue-of-end, Gave}
-use Rattle.criterion.specs.Apart.{starts-rise, same-start, same-number, one-at-a-time}
+use Rattle.criterion.specs.Apart.{starts-rise, same-start, same-number, one-at-a-time, precedes-ends}
 use Rattle.criterion.specs.Orderly.{TakenBefore, FairItem, Fair, Orderly, answered-ended, item-not-nothing, gave-when, explained-is-orderly}
 use Rattle.criterion.specs.Order.{dequeuesOf, look, lookAnswer, taken, left, place, order}
 use Rattle.criterion.specs.Fits.{Fits, Among, Timely, Next, Sorted, fits-runs, fits-among, fits-enqueue, fits-dequeue, fits-timely}
@@ -43,9 +43,6 @@ decide-taken n (gaveEmpty ∷ h) = decide-taken n h
 module _ (h : History) (w : wellFormed h ≡ true) where
   looks : (x : Enqueue) → Member (enq x) (calls h) → (n : ℕ) → x .number ≡ n → look n (calls h) ≡ x ∷ []
   looks x m n e = look-finds n x (calls h) m e (λ y k q. same-number h w y x k m (q ∙ sym e))
-
-  precedes-ends : (x y : Enqueue) → Member (enq x) (calls h) → Member (enq y) (calls h) → Precedes (enq x) (enq y) → EndedBefore (x .number) (y .number) h
-  precedes-ends x y m n p = when-before _ _ _ _ _ _ _ _ h (enqueue-tells h w x m .ended (p .0)) (enqueue-tells h w y n .started) (p .1)
 
   numbers-apart : (x y : Enqueue) → Member (enq x) (calls h) → Member (enq y) (calls h) → x .number ≢ y .number → x .start ≢ y .start
   numbers-apart x y m n f e = f (ap (λ (z : Enqueue). z .number) (same-enq (same-start h w (enq x) (enq y) m n e)))
@@ -83,7 +80,7 @@ module _ (h : History) (w : wellFormed h ≡ true) where
         (λ x y m n r.
         let a = left-from rest x m in
         let b = left-from rest y n in
-        (λ p. r .1 (precedes-ends y x b a p), numbers-apart x y a b (r .0)))
+        (λ p. r .1 (precedes-ends h w y x b a p), numbers-apart x y a b (r .0)))
 
     module _ (o : Orderly (calls h)) where
       from-line : (ds : List Dequeue) (y : Enqueue) → Member y (taken (calls h) ds ++ rests) → Member (enq y) (calls h)
