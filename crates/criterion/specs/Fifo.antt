@@ -15,7 +15,7 @@ use Rattle.history.specs.Linearization.{Item, Queue, dequeue, perform, run}
 use Rattle.criterion.specs.Members.{all-map, all-append, in-left, in-right, gather}
 use Rattle.criterion.specs.Entering.{enq-not-deq, same-deq}
 use Rattle.criterion.specs.Growth.{itemOf}
-use Rattle.criterion.specs.Orderly.{item-not-nothing}
+use Rattle.criterion.specs.Orderly.{item-not-nothing, item-not-empty}
 use Rattle.criterion.specs.Fits.{run-step}
 
 -- the enqueues among some calls
@@ -67,9 +67,6 @@ record Removed (a : Answer) (q r : Queue) : Type 0 where
   in-turn : q ≡ items ++ r
   removes : All (Removes a) items
   given : (n v : ℕ) → a ≡ item n v → Member (record { number = n; value = v }) items
-
-item-not-empty : {n v : ℕ} → item n v ≡ empty → ⊥
-item-not-empty e = let z : _≡_ {A = ℕ} 0 1 = cc in omega arith
 
 same-item : {n v m w : ℕ} → item n v ≡ item m w → _≡_ {A = Item} (record { number = m; value = w }) (record { number = n; value = v })
 same-item {n} {v} {m} {w} e = let p : m ≡ n = cc in let q : w ≡ v = cc in λ i. record { number = p i; value = q i }

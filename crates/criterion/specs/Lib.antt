@@ -16,3 +16,6 @@ pub mod Fifo
 pub mod Complete
 pub mod Remaining
 pub mod Criterion
+pub mod Pass
+pub mod Marks
+pub mod Judged

@@ -55,6 +55,9 @@ answered-ended h w d m f z = f (dequeue-tells h w d m .unanswered z)
 pub item-not-nothing : {n v : ℕ} → item n v ≡ nothing → ⊥
 item-not-nothing e = let z : _≡_ {A = ℕ} 0 1 = cc in omega arith
 
+pub item-not-empty : {n v : ℕ} → item n v ≡ empty → ⊥
+item-not-empty e = let z : _≡_ {A = ℕ} 0 1 = cc in omega arith
+
 pub empty-not-nothing : empty ≡ nothing → ⊥
 empty-not-nothing e = let z : _≡_ {A = ℕ} 0 1 = cc in omega arith
 
