@@ -19,3 +19,4 @@ pub mod Criterion
 pub mod Pass
 pub mod Marks
 pub mod Judged
+pub mod Runs
