@@ -1,26 +1,24 @@
 -- The calls of a well-formed history are told apart by their starts, its enqueues also by their numbers, and one dequeue has
 -- ended before the next starts.
-use mathlib.Core.Path.{_≡_, refl, sym, ap, subst, _∙_}
-use mathlib.Core.Logic.{_⊎_, inl, inr, _≢_}
-use mathlib.Core.Bool.{Bool, true, false}
+use mathlib.Core.Path.{_≡_, refl, sym, ap, subst}
+use mathlib.Core.Logic.{inl, inr, _≢_}
+use mathlib.Core.Bool.{true}
 use mathlib.Core.List.{List, [], _∷_, _++_, map}
-use mathlib.Core.Option.{Option, none, some, Option·some-injective}
 use Prim.Native.Nat.{ℕ, suc, _≤_, _<_}
 use native.Mathlib.Omega.{arith}
 use native.Mathlib.Decide.{decLt}
 use lib.ListN.{length}
-use Rattle.history.specs.Lists.{All, Pairwise, Member}
+use Rattle.history.specs.Lists.{Pairwise, Member}
 use Rattle.history.specs.Event.{Event, History, enqueueStarted, enqueueEnded, dequeueStarted, gaveItem, gaveEmpty}
-use Rattle.history.specs.Calls.{Answer, nothing, item, empty, Enqueue, Dequeue, Call, enq, deq, startOf, endOf, endEnqueue, endDequeue, calls}
-use Rattle.history.specs.Form.{any, dequeues, follows, wellFormed}
-use Rattle.history.specs.Linearization.{Item, Precedes}
-use Rattle.criterion.specs.Explained.{current, EndedBefore}
-use Rattle.criterion.specs.Members.{all-at, all-of, in-left, in-right, in-snoc, in-map, pairwise-append, pairwise-map, pairwise-at}
-use Rattle.criterion.specs.Following.{head-follows, tail-formed, has-its-start, has-its-dequeue, number-is-new, consumer-is-free}
-use Rattle.criterion.specs.Entering.{opened, closed, asked, answered, same-enq, same-deq, enq-not-deq, enqueue-in-ended, dequeue-in-ended, dequeue-in-answered, enqueue-in-answered, enqueue-ends, dequeue-ends, ended-stays, enqueue-goes-on, dequeue-goes-on}
-use Rattle.criterion.specs.Growth.{itemOf, open-is-current}
-use Rattle.criterion.specs.Times.{At, at-most, Happened, EndBefore, before-when, when-before}
-use Rattle.criterion.specs.Tidy.{EnqueueTold, DequeueTold, enqueue-tells, dequeue-tells, enqueue-of-start, enqueue-of-end}
+use Rattle.history.specs.Calls.{Answer, item, empty, Enqueue, Dequeue, Call, enq, deq, startOf, endEnqueue, endDequeue, calls}
+use Rattle.history.specs.Form.{wellFormed}
+use Rattle.history.specs.Linearization.{Precedes}
+use Rattle.criterion.specs.Explained.{EndedBefore}
+use Rattle.criterion.specs.Members.{all-of, in-snoc, pairwise-append, pairwise-map, pairwise-at}
+use Rattle.criterion.specs.Following.{head-follows, tail-formed, number-is-new, consumer-is-free}
+use Rattle.criterion.specs.Entering.{same-enq, enq-not-deq, dequeue-in-ended, dequeue-in-answered}
+use Rattle.criterion.specs.Times.{At, at-most, before-when, when-before}
+use Rattle.criterion.specs.Tidy.{enqueue-tells, dequeue-tells, enqueue-of-start, enqueue-of-end}
 
 -- Calls have different starts, in rising order.
 pub start-at-most : (h : History) → wellFormed h ≡ true → (c : Call) → Member c (calls h) → startOf c ≤ length h

@@ -4,21 +4,21 @@ use mathlib.Core.Path.{_≡_, refl, sym, ap, subst, subst₂, _∙_}
 use mathlib.Core.Logic.{_⊎_, inl, inr, _≢_}
 use mathlib.Core.Bool.{true}
 use mathlib.Core.List.{List, [], _∷_, _++_, map, append-nil}
-use mathlib.Core.Option.{Option, none, some}
-use Prim.Native.Nat.{ℕ, suc, _≤_, _<_}
+use mathlib.Core.Option.{some}
+use Prim.Native.Nat.{ℕ, _<_}
 use native.Mathlib.Omega.{arith}
 use native.Mathlib.Decide.{decLt}
-use Rattle.history.specs.Lists.{All, Pairwise, Member}
+use Rattle.history.specs.Lists.{Pairwise, Member}
 use Rattle.history.specs.Event.{History}
 use Rattle.history.specs.Calls.{Answer, nothing, item, empty, Enqueue, Dequeue, Call, enq, deq, startOf, endOf, calls}
 use Rattle.history.specs.Form.{wellFormed}
-use Rattle.history.specs.Linearization.{Item, Queue, Precedes, dequeue, perform, run, Linearization, Linearizable}
+use Rattle.history.specs.Linearization.{Item, Queue, Precedes, dequeue, run, Linearization, Linearizable}
 use Rattle.criterion.specs.Explained.{Explained}
 use Rattle.criterion.specs.Members.{all-at, in-left, in-right, in-either, in-map, from-map, split-at, split-map, pairwise-across, pairwise-left, pairwise-right, in-gather, from-gather, pairwise-gather}
-use Rattle.criterion.specs.Entering.{same-enq, same-deq, enq-not-deq}
+use Rattle.criterion.specs.Entering.{enq-not-deq}
 use Rattle.criterion.specs.Growth.{itemOf}
 use Rattle.criterion.specs.Tidy.{enqueue-tells, dequeue-tells, Gave}
-use Rattle.criterion.specs.Apart.{same-start, same-number, one-at-a-time}
+use Rattle.criterion.specs.Apart.{same-number, one-at-a-time}
 use Rattle.criterion.specs.Orderly.{TakenBefore, FairItem, FairEmpty, Fair, Orderly, answered-ended, item-not-nothing, empty-not-nothing, orderly-is-explained}
 use Rattle.criterion.specs.Fifo.{enqueueOf, enqueuesOf, run-parts, run-first, gives-its-item, finds-nothing, RemovedBy, Gone, fifo}
 

@@ -1,20 +1,20 @@
 -- How the calls change with one event: which call of the longer history each call of the shorter one becomes, and where each
 -- call of the longer one comes from. By the clauses of `enter`.
-use mathlib.Core.Path.{_≡_, refl, sym, ap, subst, _∙_}
+use mathlib.Core.Path.{_≡_, refl, sym, _∙_}
 use mathlib.Core.Logic.{_⊎_, inl, inr, _≢_}
-use mathlib.Core.Bool.{Bool, true, false, _&&_, cond, and-eq-true-iff, true≢false}
-use mathlib.Core.List.{List, [], _∷_, _++_, map}
+use mathlib.Core.Bool.{Bool, true, false, cond, and-eq-true-iff, true≢false}
+use mathlib.Core.List.{List, _∷_, map}
 use Prim.Native.Nat.{ℕ, suc}
 use native.Mathlib.Omega.{arith}
 use lib.Dec.{eqb}
 use lib.ListN.{length}
 use borrow.Author.Tests.{eqb-true, eqb-false, eq-eqb, ne-eqb}
-use Rattle.history.specs.Lists.{All, Pairwise, Member}
+use Rattle.history.specs.Lists.{Member}
 use Rattle.history.specs.Event.{Event, History, enqueueStarted, enqueueEnded, dequeueStarted, gaveItem, gaveEmpty}
-use Rattle.history.specs.Calls.{Answer, nothing, item, empty, Enqueue, Dequeue, Call, enq, deq, startOf, endOf, endEnqueue, endDequeue, calls}
-use Rattle.history.specs.Form.{enqueues, dequeues}
+use Rattle.history.specs.Calls.{Answer, nothing, item, empty, Enqueue, Dequeue, Call, enq, deq, endOf, endEnqueue, endDequeue, calls}
+use Rattle.history.specs.Form.{enqueues}
 use Rattle.criterion.specs.Following.{is-busy, is-idle}
-use Rattle.criterion.specs.Members.{in-left, in-right, in-snoc, in-map, from-map}
+use Rattle.criterion.specs.Members.{in-left, in-map, from-map}
 
 -- an enqueue that event k started, or ended
 abbrev pub opened : (t n v k : ℕ) → Enqueue

@@ -1,17 +1,15 @@
 -- An order of enqueues and dequeues that fits: a derivation that follows the queue, and what such an order has. It holds just the
 -- calls put into it, runs on a queue, and keeps to the times.
 use mathlib.Core.Path.{_≡_, refl, sym, ap, subst, _∙_}
-use mathlib.Core.Logic.{_⊎_, inl, inr, _≢_}
-use mathlib.Core.Bool.{Bool, true, false, _&&_, cond}
+use mathlib.Core.Logic.{inl, inr, _≢_}
 use mathlib.Core.List.{List, [], _∷_, _++_, map, append-nil, append-assoc}
 use mathlib.Core.Option.{Option, none, some}
-use Prim.Native.Nat.{ℕ, _≤_, _<_}
+use Prim.Native.Nat.{_≤_, _<_}
 use native.Mathlib.Omega.{arith}
-use lib.Dec.{eqb}
 use borrow.Author.Tests.{eq-eqb}
 use Rattle.history.specs.Lists.{All, Pairwise, Member}
-use Rattle.history.specs.Calls.{Answer, nothing, item, empty, Enqueue, Dequeue, Call, enq, deq, startOf, endOf}
-use Rattle.history.specs.Linearization.{Item, Queue, Precedes, perform, dequeue, run}
+use Rattle.history.specs.Calls.{item, empty, Enqueue, Dequeue, Call, enq, deq, startOf}
+use Rattle.history.specs.Linearization.{Queue, Precedes, perform, dequeue, run}
 use Rattle.criterion.specs.Members.{all-at, all-of, all-map, in-map, from-map, pairwise-map}
 use Rattle.criterion.specs.Growth.{itemOf}
 

@@ -1,18 +1,16 @@
 -- What it says of the calls of a history that an event follows them, read off the Boolean tests of `follows`, and the other
 -- way round.
-use mathlib.Core.Path.{_≡_, refl, sym, ap, subst, _∙_}
-use mathlib.Core.Logic.{_⊎_, inl, inr, _≢_}
-use mathlib.Core.Bool.{Bool, true, false, _&&_, _||_, not, cond, and-eq-true-iff, true≢false, false≢true}
-use mathlib.Core.List.{List, [], _∷_, _++_, map}
-use Prim.Native.Nat.{ℕ, suc}
-use native.Mathlib.Omega.{arith}
+use mathlib.Core.Path.{_≡_, refl, sym, _∙_}
+use mathlib.Core.Logic.{inl, inr, _≢_}
+use mathlib.Core.Bool.{Bool, true, false, _&&_, _||_, not, and-eq-true-iff, true≢false, false≢true}
+use mathlib.Core.List.{List, [], _∷_}
+use Prim.Native.Nat.{ℕ}
 use lib.Dec.{eqb}
 use borrow.Author.Tests.{eqb-true, eqb-false, eq-eqb, ne-eqb, not-true}
-use Rattle.history.specs.Lists.{All, Pairwise, Member}
-use Rattle.history.specs.Event.{Event, History, enqueueStarted, enqueueEnded, dequeueStarted, gaveItem, gaveEmpty}
-use Rattle.history.specs.Calls.{Answer, nothing, item, empty, Enqueue, Dequeue, Call, enq, deq, startOf, endOf, endEnqueue, endDequeue, calls}
+use Rattle.history.specs.Lists.{Member}
+use Rattle.history.specs.Event.{Event, History, enqueueStarted, enqueueEnded, dequeueStarted}
+use Rattle.history.specs.Calls.{Enqueue, Dequeue, Call, enq, deq, calls}
 use Rattle.history.specs.Form.{any, enqueues, enqueuesItem, dequeues, hasNumber, follows, wellFormed}
-use Rattle.history.specs.Linearization.{Item, Settled}
 
 or-right : (a b : Bool) → b ≡ true → (a || b) ≡ true
 or-right true b e = refl

@@ -1,15 +1,15 @@
 -- What the order is made of: the answered dequeues of some calls, and the enqueues that are looked up by number.
 use mathlib.Core.Path.{_≡_, refl, sym, ap, subst, subst₂, _∙_}
-use mathlib.Core.Logic.{_⊎_, inl, inr, _≢_}
+use mathlib.Core.Logic.{inl, inr, _≢_}
 use mathlib.Core.Bool.{Bool, true, false, cond}
-use mathlib.Core.List.{List, [], _∷_, _++_, map}
+use mathlib.Core.List.{List, [], _∷_}
 use Prim.Native.Nat.{ℕ}
 use lib.Dec.{eqb}
 use borrow.Author.Tests.{eqb-true, eqb-false}
-use Rattle.history.specs.Lists.{All, Pairwise, Member}
+use Rattle.history.specs.Lists.{Pairwise, Member}
 use Rattle.history.specs.Calls.{Answer, nothing, item, empty, Enqueue, Dequeue, Call, enq, deq}
-use Rattle.criterion.specs.Members.{gather, in-gather, from-gather, pairwise-gather}
-use Rattle.criterion.specs.Entering.{same-enq, same-deq, enq-not-deq}
+use Rattle.criterion.specs.Members.{in-gather, from-gather, pairwise-gather}
+use Rattle.criterion.specs.Entering.{same-enq, enq-not-deq}
 use Rattle.criterion.specs.Order.{ifAnswered, dequeueOf, dequeuesOf, look, lookAnswer, taken}
 use Rattle.criterion.specs.Orderly.{item-not-nothing, empty-not-nothing}
 

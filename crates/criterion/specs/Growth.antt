@@ -1,25 +1,25 @@
 -- When one more event keeps a history well-formed, for each kind of event, from what is under way: `current`, `dequeuing` and
 -- `Begun` tell of the calls of a well-formed history what `follows` asks of them.
 use mathlib.Core.Path.{_≡_, refl, sym, ap, subst, _∙_}
-use mathlib.Core.Logic.{_⊎_, inl, inr, _≢_}
-use mathlib.Core.Bool.{Bool, true, false, _&&_, _||_, not, cond, and-eq-true-iff, true≢false, false≢true}
-use mathlib.Core.List.{List, [], _∷_, _++_, map}
+use mathlib.Core.Logic.{inl, inr, _≢_}
+use mathlib.Core.Bool.{Bool, true, false, cond, true≢false, false≢true}
+use mathlib.Core.List.{List, [], _∷_, map}
 use mathlib.Core.Option.{Option, none, some, Option·none-ne-some, Option·some-injective}
 use Prim.Native.Nat.{ℕ, suc}
 use native.Mathlib.Omega.{arith}
 use native.Mathlib.Decide.{ℕ-discrete}
 use lib.Dec.{eqb}
 use lib.ListN.{length}
-use borrow.Author.Tests.{eqb-true, eqb-false, eq-eqb, ne-eqb, not-true}
-use Rattle.history.specs.Lists.{All, Pairwise, Member}
-use Rattle.history.specs.Event.{Event, History, enqueueStarted, enqueueEnded, dequeueStarted, gaveItem, gaveEmpty}
-use Rattle.history.specs.Calls.{Answer, nothing, item, empty, Enqueue, Dequeue, Call, enq, deq, startOf, endOf, endEnqueue, endDequeue, calls}
-use Rattle.history.specs.Form.{any, enqueues, enqueuesItem, dequeues, hasNumber, follows, wellFormed}
+use borrow.Author.Tests.{eq-eqb, ne-eqb}
+use Rattle.history.specs.Lists.{Member}
+use Rattle.history.specs.Event.{History, enqueueStarted, enqueueEnded, dequeueStarted, gaveItem, gaveEmpty}
+use Rattle.history.specs.Calls.{Answer, item, empty, Enqueue, Dequeue, Call, enq, deq, endOf, endEnqueue, endDequeue, calls}
+use Rattle.history.specs.Form.{wellFormed}
 use Rattle.history.specs.Linearization.{Item, Settled}
 use Rattle.criterion.specs.Explained.{Begun, current, dequeuing}
-use Rattle.criterion.specs.Members.{all-at, in-left, in-right, in-snoc, in-map, from-map}
-use Rattle.criterion.specs.Following.{head-follows, tail-formed, grows, thread-is-free, consumer-is-free, has-its-dequeue, may-start, may-end, may-dequeue, may-answer}
-use Rattle.criterion.specs.Entering.{opened, closed, asked, answered, same-enq, same-deq, enq-not-deq, enqueue-in-ended, dequeue-in-ended, dequeue-in-answered, enqueue-in-answered, enqueue-stays}
+use Rattle.criterion.specs.Members.{all-at, in-left, in-right, in-snoc, in-map}
+use Rattle.criterion.specs.Following.{head-follows, tail-formed, grows, thread-is-free, may-start, may-end, may-dequeue, may-answer}
+use Rattle.criterion.specs.Entering.{opened, asked, same-enq, enq-not-deq, enqueue-in-ended, dequeue-in-ended, dequeue-in-answered, enqueue-in-answered, enqueue-stays}
 
 -- the item that an enqueue puts
 abbrev pub itemOf : Enqueue → Item

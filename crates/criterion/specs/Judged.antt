@@ -1,28 +1,24 @@
 -- The verdict of the pass is the criterion: `explains h` is true exactly when h is explained.
 use mathlib.Core.Path.{_≡_, refl, sym, ap, subst, _∙_}
-use mathlib.Core.Logic.{_⊎_, inl, inr, _≢_, _↔_}
-use mathlib.Core.Bool.{Bool, true, false, _&&_, _||_, not, and-eq-true-iff, true≢false, false≢true}
+use mathlib.Core.Logic.{inl, inr, _≢_, _↔_}
+use mathlib.Core.Bool.{true}
 use mathlib.Core.List.{List, [], _∷_, _++_, append-assoc}
-use Prim.Native.Nat.{ℕ, suc, max, _≤_, _<_}
+use Prim.Native.Nat.{ℕ, _<_}
 use native.Mathlib.Omega.{arith}
-use native.Mathlib.Decide.{decLt}
-use lib.Dec.{leb, eqb}
-use borrow.Author.Tests.{eqb-true, eqb-false, eq-eqb, ne-eqb, leb-true, leb-false, le-leb, not-true}
-use Rattle.history.specs.Lists.{All, Pairwise, Member}
+use Rattle.history.specs.Lists.{Pairwise, Member}
 use Rattle.history.specs.Event.{History}
 use Rattle.history.specs.Calls.{Answer, nothing, item, empty, Enqueue, Dequeue, Call, enq, deq, startOf, endOf, calls}
 use Rattle.history.specs.Form.{wellFormed}
 use Rattle.history.specs.Linearization.{Precedes}
 use Rattle.criterion.specs.Explained.{Explained}
 use Rattle.criterion.specs.Members.{all-at, in-left, in-right, in-either, in-snoc, pairwise-across, pairwise-right}
-use Rattle.criterion.specs.Entering.{same-enq, same-deq, enq-not-deq}
+use Rattle.criterion.specs.Entering.{same-deq, enq-not-deq}
 use Rattle.criterion.specs.Tidy.{enqueue-tells, dequeue-tells}
 use Rattle.criterion.specs.Apart.{starts-rise, same-number, one-at-a-time}
-use Rattle.criterion.specs.Orderly.{TakenBefore, FairItem, FairEmpty, Fair, Orderly, answered-ended, item-not-nothing, item-not-empty, empty-not-nothing, explained-is-orderly, orderly-is-explained}
-use Rattle.criterion.specs.Order.{look}
-use Rattle.criterion.specs.Found.{look-finds, look-is}
+use Rattle.criterion.specs.Orderly.{TakenBefore, Fair, Orderly, answered-ended, item-not-nothing, item-not-empty, empty-not-nothing, explained-is-orderly, orderly-is-explained}
+use Rattle.criterion.specs.Found.{look-finds}
 use Rattle.criterion.specs.Pass.{answering, passes, explains}
-use Rattle.criterion.specs.Marks.{Short, Marks, leaves-is, is-leaves, marks-both, Gives, giving-is, is-giving}
+use Rattle.criterion.specs.Marks.{Short, Marks, leaves-is, is-leaves, marks-both, giving-is, is-giving}
 
 -- a dequeue among some calls gave item n
 record Given (n : ℕ) (b : List Call) : Type 0 where

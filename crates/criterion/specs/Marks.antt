@@ -1,20 +1,20 @@
 -- What the tests of the pass say: which items have been given, which enqueues ended before the mark, and what giving an item
 -- asks.
-use mathlib.Core.Path.{_≡_, refl, sym, ap, subst, _∙_}
-use mathlib.Core.Logic.{_⊎_, inl, inr, _≢_, _↔_}
+use mathlib.Core.Path.{_≡_, refl, sym, subst, _∙_}
+use mathlib.Core.Logic.{_⊎_, inl, inr, _≢_}
 use mathlib.Core.Bool.{Bool, true, false, _&&_, _||_, not, and-eq-true-iff, true≢false, false≢true}
-use mathlib.Core.List.{List, [], _∷_, _++_, append-assoc}
-use Prim.Native.Nat.{ℕ, suc, max, _≤_, _<_}
+use mathlib.Core.List.{List, [], _∷_}
+use Prim.Native.Nat.{ℕ, max, _≤_, _<_}
 use native.Mathlib.Omega.{arith}
 use native.Mathlib.Decide.{decLt}
 use lib.Dec.{leb, eqb}
-use borrow.Author.Tests.{eqb-true, eqb-false, eq-eqb, ne-eqb, leb-true, leb-false, le-leb, not-true}
-use Rattle.history.specs.Lists.{All, Pairwise, Member}
-use Rattle.history.specs.Calls.{Answer, nothing, item, empty, Enqueue, Dequeue, Call, enq, deq, startOf, endOf, calls}
-use Rattle.criterion.specs.Entering.{same-enq, same-deq, enq-not-deq}
+use borrow.Author.Tests.{eqb-true, eqb-false, eq-eqb, leb-true, le-leb, not-true}
+use Rattle.history.specs.Lists.{Member}
+use Rattle.history.specs.Calls.{Enqueue, Call, enq, deq}
+use Rattle.criterion.specs.Entering.{same-enq, enq-not-deq}
 use Rattle.criterion.specs.Order.{look}
-use Rattle.criterion.specs.Found.{look-finds, look-is}
-use Rattle.criterion.specs.Pass.{has, past, leaves, giving, answering, passes, explains}
+use Rattle.criterion.specs.Found.{look-is}
+use Rattle.criterion.specs.Pass.{has, past, leaves, giving}
 
 -- the Boolean tests
 either : (a b : Bool) → (a || b) ≡ true → (a ≡ true) ⊎ (b ≡ true)

@@ -8,7 +8,7 @@ use Prim.Native.Nat.{ℕ}
 use lib.Dec.{leb, eqb}
 use Rattle.history.specs.Event.{History}
 use Rattle.history.specs.Calls.{Answer, nothing, item, empty, Enqueue, Dequeue, Call, enq, deq, calls}
-use Rattle.history.specs.Linearization.{Item, Queue}
+use Rattle.history.specs.Linearization.{Queue}
 use Rattle.criterion.specs.Members.{gather}
 
 -- the answered dequeues

@@ -1,7 +1,7 @@
 -- The criterion as the calls tell it: each answered dequeue is fair. A well-formed history is explained exactly when its calls
 -- are orderly.
 use mathlib.Core.Path.{_≡_, refl, sym, ap, subst, subst₂, _∙_}
-use mathlib.Core.Logic.{_⊎_, inl, inr, _≢_}
+use mathlib.Core.Logic.{inl, inr, _≢_}
 use mathlib.Core.Bool.{true}
 use mathlib.Core.List.{List, [], _∷_}
 use Prim.Native.Nat.{ℕ, suc, _≤_, _<_}
@@ -9,13 +9,13 @@ use native.Mathlib.Omega.{arith}
 use lib.ListN.{length}
 use Rattle.history.specs.Lists.{Member}
 use Rattle.history.specs.Event.{Event, History, enqueueStarted, enqueueEnded, dequeueStarted, gaveItem, gaveEmpty}
-use Rattle.history.specs.Calls.{Answer, nothing, item, empty, Enqueue, Dequeue, Call, enq, deq, startOf, endOf, calls}
+use Rattle.history.specs.Calls.{Answer, nothing, item, empty, Enqueue, Dequeue, Call, enq, deq, calls}
 use Rattle.history.specs.Form.{wellFormed}
 use Rattle.history.specs.Linearization.{Precedes}
-use Rattle.criterion.specs.Explained.{Started, Taken, EndedBefore, EndedBeforeDequeue, MayGive, MayBeEmpty, Explained}
-use Rattle.criterion.specs.Times.{At, at-most, at-same, _⊑_, now, later, earlier, at-later, at-earlier, length-later, Happened, EndBefore, started-when, when-started, taken-when, when-taken, startOfNumber, before-when, when-before, askedAt, before-dequeue-when, when-before-dequeue}
-use Rattle.criterion.specs.Tidy.{EnqueueTold, DequeueTold, Gave, enqueue-tells, dequeue-tells, enqueue-of-start, enqueue-of-end, dequeue-of-start, dequeue-of-end}
-use Rattle.criterion.specs.Apart.{same-number, same-start, none-meanwhile}
+use Rattle.criterion.specs.Explained.{Started, Taken, MayGive, MayBeEmpty, Explained}
+use Rattle.criterion.specs.Times.{At, at-most, at-same, _⊑_, now, later, earlier, at-later, at-earlier, EndBefore, started-when, when-started, taken-when, when-taken, startOfNumber, before-when, when-before, askedAt, before-dequeue-when, when-before-dequeue}
+use Rattle.criterion.specs.Tidy.{Gave, enqueue-tells, dequeue-tells, enqueue-of-start, enqueue-of-end, dequeue-of-start, dequeue-of-end}
+use Rattle.criterion.specs.Apart.{same-number, none-meanwhile}
 
 -- a dequeue that ended before event k gave item m
 pub record TakenBefore (m k : ℕ) (cs : List Call) : Type 0 where

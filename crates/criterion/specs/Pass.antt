@@ -5,7 +5,7 @@ use mathlib.Core.List.{List, [], _∷_}
 use Prim.Native.Nat.{ℕ, max}
 use lib.Dec.{leb, eqb}
 use Rattle.history.specs.Event.{History}
-use Rattle.history.specs.Calls.{Answer, nothing, item, empty, Enqueue, Dequeue, Call, enq, deq, calls}
+use Rattle.history.specs.Calls.{Answer, nothing, item, empty, Enqueue, Call, enq, deq, calls}
 use Rattle.criterion.specs.Order.{look}
 
 -- the item with this number has been given

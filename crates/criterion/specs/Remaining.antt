@@ -1,17 +1,17 @@
 -- One order in which items may be left: those of the enqueues that have ended and were not taken, in the order of their starts.
 use mathlib.Core.Path.{_≡_, refl, sym, ap, subst, subst₂, _∙_}
-use mathlib.Core.Logic.{_⊎_, inl, inr, _≢_}
+use mathlib.Core.Logic.{inl, _≢_}
 use mathlib.Core.Bool.{Bool, true, false, _||_, cond, true≢false, false≢true}
-use mathlib.Core.List.{List, [], _∷_, _++_, map}
-use Prim.Native.Nat.{ℕ, suc, _≤_, _<_}
+use mathlib.Core.List.{List, [], _∷_, map}
+use Prim.Native.Nat.{ℕ, _<_}
 use native.Mathlib.Omega.{arith}
 use lib.Dec.{eqb}
 use borrow.Author.Tests.{eqb-true, eqb-false, eq-eqb, ne-eqb}
-use Rattle.history.specs.Lists.{All, Pairwise, Member}
+use Rattle.history.specs.Lists.{Pairwise, Member}
 use Rattle.history.specs.Event.{History}
-use Rattle.history.specs.Calls.{Answer, nothing, item, empty, Enqueue, Dequeue, Call, enq, deq, startOf, endOf, calls}
+use Rattle.history.specs.Calls.{Answer, nothing, item, empty, Enqueue, Call, enq, deq, startOf, calls}
 use Rattle.history.specs.Form.{any, wellFormed}
-use Rattle.history.specs.Linearization.{Item, Queue}
+use Rattle.history.specs.Linearization.{Queue}
 use Rattle.criterion.specs.Explained.{Started, Ended, Taken, EndedBefore, Rest}
 use Rattle.criterion.specs.Members.{all-of, in-map, from-map, pairwise-map, pairwise-with, gather, in-gather, from-gather, pairwise-gather}
 use Rattle.criterion.specs.Following.{any-of, any-at}

@@ -1,16 +1,11 @@
 -- The judge's runs of document 01 that are proved, as one table and one statement.
 use mathlib.Core.Path.{_≡_, refl, sym, _∙_}
-use mathlib.Core.Logic.{_↔_}
 use mathlib.Core.Bool.{Bool, true, false, _&&_, Bool·beq, and-eq-true-iff, true≢false}
 use mathlib.Core.List.{List, [], _∷_}
-use Prim.Native.Nat.{ℕ}
 use Rattle.history.specs.Lists.{All}
 use Rattle.history.specs.Event.{History, enqueueStarted, enqueueEnded, dequeueStarted, gaveItem, gaveEmpty}
-use Rattle.history.specs.Calls.{Call, enq, deq, item}
 use Rattle.history.specs.Form.{wellFormed}
 use Rattle.history.specs.Linearization.{Linearizable}
-use Rattle.criterion.specs.Explained.{Explained}
-use Rattle.criterion.specs.Order.{order}
 use Rattle.criterion.specs.Pass.{explains}
 use Rattle.criterion.specs.Judged.{explains-is}
 use Rattle.criterion.specs.Criterion.{criterion}

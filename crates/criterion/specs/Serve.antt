@@ -1,16 +1,16 @@
 -- Where the dequeues serve a list of enqueues in turn, placing them as early as they may stand gives an order that fits.
 use mathlib.Core.Path.{_≡_, refl, sym, ap, subst, _∙_}
-use mathlib.Core.Logic.{_⊎_, inl, inr, _≢_}
-use mathlib.Core.Bool.{Bool, true, false, _&&_, cond, and-eq-true-iff, true≢false, false≢true}
-use mathlib.Core.List.{List, [], _∷_, _++_, map, append-nil, append-assoc}
+use mathlib.Core.Logic.{_≢_}
+use mathlib.Core.Bool.{Bool, true, false, _&&_, and-eq-true-iff, true≢false, false≢true}
+use mathlib.Core.List.{List, [], _∷_, _++_, map, append-assoc}
 use Prim.Native.Nat.{ℕ, _≤_, _<_}
 use native.Mathlib.Omega.{arith}
-use lib.Dec.{leb, eqb}
+use lib.Dec.{leb}
 use borrow.Author.Tests.{leb-true, leb-false, le-leb}
-use Rattle.history.specs.Lists.{All, Pairwise, Member}
-use Rattle.history.specs.Calls.{Answer, nothing, item, empty, Enqueue, Dequeue, Call, enq, deq, startOf, endOf}
+use Rattle.history.specs.Lists.{All, Pairwise}
+use Rattle.history.specs.Calls.{Answer, nothing, item, empty, Enqueue, Dequeue, Call, enq, deq}
 use Rattle.history.specs.Linearization.{Precedes}
-use Rattle.criterion.specs.Members.{all-at, all-of, all-map, all-right}
+use Rattle.criterion.specs.Members.{all-map, all-right}
 use Rattle.criterion.specs.Order.{isItem, clears, behind, fill, place}
 use Rattle.criterion.specs.Fits.{Fits, done, put, give, find-none, Timely, Next}
 

@@ -2,22 +2,21 @@
 use mathlib.Core.Path.{_≡_, refl, sym, ap, subst, _∙_}
 use mathlib.Core.Logic.{_⊎_, inl, inr, _≢_}
 use mathlib.Core.Bool.{true}
-use mathlib.Core.List.{List, [], _∷_, _++_, map, append-assoc}
-use mathlib.Core.Option.{Option, none, some}
+use mathlib.Core.List.{List, [], _∷_, _++_, map}
+use mathlib.Core.Option.{some}
 use Prim.Native.Nat.{ℕ, suc, _≤_, _<_}
 use native.Mathlib.Omega.{arith}
 use native.Mathlib.Decide.{ℕ-discrete}
-use lib.ListN.{length}
 use Rattle.history.specs.Lists.{All, Pairwise, Member}
-use Rattle.history.specs.Event.{Event, History, enqueueStarted, enqueueEnded, dequeueStarted, gaveItem, gaveEmpty}
+use Rattle.history.specs.Event.{History, enqueueStarted, enqueueEnded, dequeueStarted, gaveItem, gaveEmpty}
 use Rattle.history.specs.Calls.{Answer, nothing, item, empty, Enqueue, Dequeue, Call, enq, deq, startOf, endOf, calls}
 use Rattle.history.specs.Form.{wellFormed}
-use Rattle.history.specs.Linearization.{Item, Queue, Precedes, run, Linearization}
-use Rattle.criterion.specs.Explained.{Started, Ended, Taken, EndedBefore, Explained, Rest}
+use Rattle.history.specs.Linearization.{Item, Queue, Linearization}
+use Rattle.criterion.specs.Explained.{Started, Taken, EndedBefore, Explained, Rest}
 use Rattle.criterion.specs.Members.{all-at, all-of, all-map, in-left, in-right, in-either, in-map, from-map, from-gather, pairwise-both, pairwise-with, pairwise-unmap}
 use Rattle.criterion.specs.Entering.{same-enq, enq-not-deq}
 use Rattle.criterion.specs.Growth.{itemOf}
-use Rattle.criterion.specs.Times.{At, started-when, when-started, taken-when, when-taken, when-ended, when-before}
+use Rattle.criterion.specs.Times.{started-when, when-started, taken-when, when-taken, when-ended}
 use Rattle.criterion.specs.Tidy.{enqueue-tells, dequeue-tells, enqueue-of-start, dequeue-of-end, Gave}
 use Rattle.criterion.specs.Apart.{starts-rise, same-start, same-number, one-at-a-time, precedes-ends}
 use Rattle.criterion.specs.Orderly.{TakenBefore, FairItem, Fair, Orderly, answered-ended, item-not-nothing, gave-when, explained-is-orderly}

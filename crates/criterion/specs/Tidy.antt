@@ -1,21 +1,19 @@
 -- The calls of a well-formed history and its events: each call tells the times of its own start and end, and every such event
 -- has its call.
 use mathlib.Core.Path.{_≡_, refl, sym, ap, subst, _∙_}
-use mathlib.Core.Logic.{_⊎_, inl, inr, _≢_}
-use mathlib.Core.Bool.{Bool, true, false}
-use mathlib.Core.List.{List, [], _∷_, _++_, map}
-use mathlib.Core.Option.{Option, none, some, Option·some-injective}
+use mathlib.Core.Logic.{inl, inr, _≢_}
+use mathlib.Core.Bool.{true}
+use mathlib.Core.List.{_∷_, map}
 use Prim.Native.Nat.{ℕ, suc, _≤_, _<_}
 use native.Mathlib.Omega.{arith}
 use lib.ListN.{length}
-use Rattle.history.specs.Lists.{All, Pairwise, Member}
+use Rattle.history.specs.Lists.{Member}
 use Rattle.history.specs.Event.{Event, History, enqueueStarted, enqueueEnded, dequeueStarted, gaveItem, gaveEmpty}
-use Rattle.history.specs.Calls.{Answer, nothing, item, empty, Enqueue, Dequeue, Call, enq, deq, startOf, endOf, endEnqueue, endDequeue, calls}
+use Rattle.history.specs.Calls.{Answer, nothing, item, empty, Enqueue, Dequeue, enq, deq, endDequeue, calls}
 use Rattle.history.specs.Form.{any, dequeues, follows, wellFormed}
 use Rattle.history.specs.Linearization.{Item}
-use Rattle.criterion.specs.Explained.{current}
-use Rattle.criterion.specs.Members.{all-at, all-of, in-left, in-right, in-snoc, in-map, pairwise-append, pairwise-map, pairwise-at}
-use Rattle.criterion.specs.Following.{head-follows, tail-formed, has-its-start, has-its-dequeue, number-is-new, consumer-is-free}
+use Rattle.criterion.specs.Members.{in-right, in-snoc}
+use Rattle.criterion.specs.Following.{head-follows, tail-formed, has-its-start, has-its-dequeue}
 use Rattle.criterion.specs.Entering.{opened, closed, asked, answered, same-enq, same-deq, enq-not-deq, enqueue-in-ended, dequeue-in-ended, dequeue-in-answered, enqueue-in-answered, enqueue-ends, dequeue-ends, ended-stays, enqueue-goes-on, dequeue-goes-on}
 use Rattle.criterion.specs.Growth.{itemOf, open-is-current}
 use Rattle.criterion.specs.Times.{At, at-most}
