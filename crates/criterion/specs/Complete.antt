@@ -33,7 +33,9 @@ in-calls : (cs : List Call) (x : Enqueue) → Member x (enqueuesOf cs) → Membe
 in-calls cs x m = let r = from-gather enqueueOf x cs m in subst (λ c. Member c cs) (is-enqueue (r .0) x (r .2)) (r .1)
 
 pairwise-enqueues : (R : Call → Call → Type 0) (cs : List Call) → Pairwise R cs → Pairwise (λ x y. R (enq x) (enq y)) (enqueuesOf cs)
-pairwise-enqueues R cs p = pairwise-gather R (λ x y. R (enq x) (enq y)) enqueueOf cs p alone (λ a c b d r m n. subst₂ R (is-enqueue a b m) (is-enqueue c d n) r)
+pairwise-enqueues R cs p =
+    pairwise-gather R (λ x y. R (enq x) (enq y)) enqueueOf cs p alone
+    (λ a c b d r m n. subst₂ R (is-enqueue a b m) (is-enqueue c d n) r)
   where
     alone : (c : Call) → Pairwise (λ x y. R (enq x) (enq y)) (enqueueOf c)
     alone (enq x) = (tt, tt)
@@ -64,7 +66,9 @@ module _ (h : History) (w : wellFormed h ≡ true) (ord : List Call) (left : Que
   ended-first e m = go (decLt (d .start) (e .start))
     where
       go : Dec (d .start < e .start) → (e .end ≢ 0) × (e .end < d .start)
-      go (yes l) = absurd (pairwise-across _ b (deq d ∷ c) timely (deq e) (deq d) m (inl refl) (one-at-a-time h w d e own (before (deq e) m) l))
+      go (yes l) =
+          absurd
+          (pairwise-across _ b (deq d ∷ c) timely (deq e) (deq d) m (inl refl) (one-at-a-time h w d e own (before (deq e) m) l))
       go (no l) =
           let n = pairwise-across _ b (deq d ∷ c) once (deq e) (deq d) m (inl refl) in
           one-at-a-time h w e d (before (deq e) m) own (omega arith)
@@ -84,7 +88,12 @@ module _ (h : History) (w : wellFormed h ≡ true) (ord : List Call) (left : Que
 
   -- a dequeue that ended before it stands before it
   stands-first : (e : Dequeue) → Member (deq e) (calls h) → e .end ≢ 0 → e .end < d .end → Member (deq e) b
-  stands-first e m z l = elim (kept (deq e) m z) [ inl k ↦ k | inr (inl q) ↦ absurd (let s = ap endOf q in omega arith) | inr (inr k) ↦ absurd (behind k (decLt (d .start) (e .start))) ]
+  stands-first e m z l =
+      elim (kept (deq e) m z) [
+        | inl k ↦ k
+        | inr (inl q) ↦ absurd (let s = ap endOf q in omega arith)
+        | inr (inr k) ↦ absurd (behind k (decLt (d .start) (e .start)))
+      ]
     where
       behind : Member (deq e) c → Dec (d .start < e .start) → ⊥
       behind k (yes s) = let o = one-at-a-time h w d e own m s in let f = dequeue-tells h w e m .forward z in omega arith
@@ -118,12 +127,20 @@ module _ (h : History) (w : wellFormed h ≡ true) (ord : List Call) (left : Que
           pairwise-across _ xs (x ∷ ys) (in-order (λ a b. startOf a ≢ startOf b) once) (r .0) x (r .1) (inl refl) (ap (λ (y : Enqueue). y .start) same)
 
       firsts-taken : (y : Enqueue) → Member (enq y) (calls h) → Precedes (enq y) (enq x) → TakenBefore (y .number) (d .end) (calls h)
-      firsts-taken y m p = elim (kept (enq y) m (p .0)) [ inl k ↦ within (in-either y xs (x ∷ ys) (subst (Member y) parts (enqueue-in b y k))) | inr k ↦ absurd (pairwise-across _ b (deq d ∷ c) timely (enq x) (enq y) there k p) ]
+      firsts-taken y m p =
+          elim (kept (enq y) m (p .0)) [
+            | inl k ↦ within (in-either y xs (x ∷ ys) (subst (Member y) parts (enqueue-in b y k)))
+            | inr k ↦ absurd (pairwise-across _ b (deq d ∷ c) timely (enq x) (enq y) there k p)
+          ]
         where
           within : Member y xs ⊎ Member y (x ∷ ys) → TakenBefore (y .number) (d .end) (calls h)
           within (inl k) = gone-taken (itemOf y) (subst (Member (itemOf y)) firsts (in-map itemOf y xs k))
-          within (inr (inl e)) = absurd (let f = enqueue-tells h w y m .forward (p .0) in let s = ap (λ (z : Enqueue). z .start) e in let l = p .1 in omega arith)
-          within (inr (inr k)) = absurd (all-at (λ z. Precedes (enq z) (enq x) → ⊥) ys (pairwise-right _ xs (x ∷ ys) (in-order (λ a b. Precedes b a → ⊥) timely) .0) y k p)
+          within (inr (inl e)) =
+              absurd
+              (let f = enqueue-tells h w y m .forward (p .0) in let s = ap (λ (z : Enqueue). z .start) e in let l = p .1 in omega arith)
+          within (inr (inr k)) =
+              absurd
+              (all-at (λ z. Precedes (enq z) (enq x) → ⊥) ys (pairwise-right _ xs (x ∷ ys) (in-order (λ a b. Precedes b a → ⊥) timely) .0) y k p)
 
       gives-fairly : FairItem n v (d .end) (calls h)
       gives-fairly =

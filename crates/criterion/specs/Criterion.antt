@@ -21,4 +21,5 @@ pub rest-exists : (h : History) → wellFormed h ≡ true → Rest h (remaining 
 rest-exists = some-rest
 
 pub criterion : (h : History) → wellFormed h ≡ true → Explained h ↔ Linearizable h
-criterion h formed = (λ explained. (order h (remaining h), remaining h, sound h formed explained (remaining h) (rest-exists h formed)), complete h formed)
+criterion h formed =
+    (λ explained. (order h (remaining h), remaining h, sound h formed explained (remaining h) (rest-exists h formed)), complete h formed)

@@ -120,7 +120,8 @@ ended-stays gaveEmpty h (enq x) m z = in-map (endDequeue (suc (length h)) empty)
 ended-stays gaveEmpty h (deq d) m z = dequeue-stays _ empty (calls h) d m z
 
 -- An enqueue changes at most its end.
-pub enqueue-goes-on : (e : Event) (h : History) (x : Enqueue) → Member (enq x) (calls h) → (k : ℕ) × Member (enq (closed k x)) (calls (e ∷ h))
+pub enqueue-goes-on :
+    (e : Event) (h : History) (x : Enqueue) → Member (enq x) (calls h) → (k : ℕ) × Member (enq (closed k x)) (calls (e ∷ h))
 enqueue-goes-on (enqueueStarted t n v) h x m = (x .end, in-left (enq x) (calls h) _ m)
 enqueue-goes-on (enqueueEnded t n v) h x m = (_, in-map (endEnqueue t (suc (length h))) (enq x) (calls h) m)
 enqueue-goes-on dequeueStarted h x m = (x .end, in-left (enq x) (calls h) _ m)
@@ -128,7 +129,9 @@ enqueue-goes-on (gaveItem n v) h x m = (x .end, in-map (endDequeue (suc (length 
 enqueue-goes-on gaveEmpty h x m = (x .end, in-map (endDequeue (suc (length h)) empty) (enq x) (calls h) m)
 
 -- A dequeue changes at most its end and its answer.
-pub dequeue-goes-on : (e : Event) (h : History) (d : Dequeue) → Member (deq d) (calls h) → (k : ℕ) × (a : Answer) × Member (deq (answered k a d)) (calls (e ∷ h))
+pub dequeue-goes-on :
+    (e : Event) (h : History) (d : Dequeue) → Member (deq d) (calls h)
+    → (k : ℕ) × (a : Answer) × Member (deq (answered k a d)) (calls (e ∷ h))
 dequeue-goes-on (enqueueStarted t n v) h d m = (d .end, d .answer, in-left (deq d) (calls h) _ m)
 dequeue-goes-on (enqueueEnded t n v) h d m = (d .end, d .answer, in-map (endEnqueue t (suc (length h))) (deq d) (calls h) m)
 dequeue-goes-on dequeueStarted h d m = (d .end, d .answer, in-left (deq d) (calls h) _ m)

@@ -26,10 +26,14 @@ abbrev pub enqueuesOf : List Call → List Enqueue
 enqueuesOf cs = gather enqueueOf cs
 
 -- a run, one call at a time and in two parts
-pub run-first : (c : Call) (cs : List Call) (q left : Queue) → run q (c ∷ cs) ≡ some left → (r : Queue) × (perform c q ≡ some r) × (run r cs ≡ some left)
+pub run-first :
+    (c : Call) (cs : List Call) (q left : Queue) → run q (c ∷ cs) ≡ some left
+    → (r : Queue) × (perform c q ≡ some r) × (run r cs ≡ some left)
 run-first c cs q left e = go (perform c q) refl e
   where
-    go : (o : Option Queue) → perform c q ≡ o → (elim o as (λ _. Option Queue) [ none ↦ none | some r ↦ run r cs ]) ≡ some left → (r : Queue) × (perform c q ≡ some r) × (run r cs ≡ some left)
+    go :
+        (o : Option Queue) → perform c q ≡ o → (elim o as (λ _. Option Queue) [ none ↦ none | some r ↦ run r cs ]) ≡ some left
+        → (r : Queue) × (perform c q ≡ some r) × (run r cs ≡ some left)
     go none p f = absurd (Option·none-ne-some left f)
     go (some r) p f = (r, p, f)
 
@@ -45,7 +49,9 @@ pub gives-its-item : (n v : ℕ) (q r : Queue) → dequeue (item n v) q ≡ some
 gives-its-item n v [] r e = absurd (Option·none-ne-some r e)
 gives-its-item n v (x ∷ q) r e = go (eqb (x .number) n && eqb (x .value) v) refl e
   where
-    go : (b : Bool) → (eqb (x .number) n && eqb (x .value) v) ≡ b → cond b (some q) none ≡ some r → x ∷ q ≡ record { number = n; value = v } ∷ r
+    go :
+        (b : Bool) → (eqb (x .number) n && eqb (x .value) v) ≡ b → cond b (some q) none ≡ some r
+        → x ∷ q ≡ record { number = n; value = v } ∷ r
     go true p f =
         let t = and-eq-true-iff (eqb (x .number) n) (eqb (x .value) v) .0 p in
         let g = eqb-true (x .number) n (t .0) in

@@ -16,9 +16,16 @@ use Rattle.criterion.specs.Growth.{itemOf}
 -- `Fits ds q p r ord`: with q in the queue, the enqueues p and the dequeues ds make up ord, and leave r.
 pub data Fits : List Dequeue → (q p r : List Enqueue) → List Call → Type 0 where
   done : {q p : List Enqueue} → Fits [] q p (q ++ p) (map enq p)
-  put : {d : Dequeue} {ds : List Dequeue} {x : Enqueue} {q p r : List Enqueue} {ord : List Call} → x .start ≤ d .end → Fits (d ∷ ds) (q ++ (x ∷ [])) p r ord → Fits (d ∷ ds) q (x ∷ p) r (enq x ∷ ord)
-  give : {d : Dequeue} {ds : List Dequeue} {x : Enqueue} {q p r : List Enqueue} {ord : List Call} → d .answer ≡ item (x .number) (x .value) → All (λ y. Precedes (enq y) (deq d) → ⊥) p → Fits ds q p r ord → Fits (d ∷ ds) (x ∷ q) p r (deq d ∷ ord)
-  find-none : {d : Dequeue} {ds : List Dequeue} {p r : List Enqueue} {ord : List Call} → d .answer ≡ empty → All (λ y. Precedes (enq y) (deq d) → ⊥) p → Fits ds [] p r ord → Fits (d ∷ ds) [] p r (deq d ∷ ord)
+  put :
+      {d : Dequeue} {ds : List Dequeue} {x : Enqueue} {q p r : List Enqueue} {ord : List Call} → x .start ≤ d .end
+      → Fits (d ∷ ds) (q ++ (x ∷ [])) p r ord → Fits (d ∷ ds) q (x ∷ p) r (enq x ∷ ord)
+  give :
+      {d : Dequeue} {ds : List Dequeue} {x : Enqueue} {q p r : List Enqueue} {ord : List Call}
+      → d .answer ≡ item (x .number) (x .value) → All (λ y. Precedes (enq y) (deq d) → ⊥) p → Fits ds q p r ord
+      → Fits (d ∷ ds) (x ∷ q) p r (deq d ∷ ord)
+  find-none :
+      {d : Dequeue} {ds : List Dequeue} {p r : List Enqueue} {ord : List Call} → d .answer ≡ empty
+      → All (λ y. Precedes (enq y) (deq d) → ⊥) p → Fits ds [] p r ord → Fits (d ∷ ds) [] p r (deq d ∷ ord)
 
 -- It runs.
 pub run-step : (c : Call) (q r : Queue) (cs : List Call) → perform c q ≡ some r → run q (c ∷ cs) ≡ run r cs
@@ -35,7 +42,9 @@ run-enqueues : (q p : List Enqueue) → run (map itemOf q) (map enq p) ≡ some 
 run-enqueues q [] = rw append-nil
 run-enqueues q (x ∷ p) = rw (← map-snoc q x, ← append-assoc q (x ∷ []) p) (run-enqueues (q ++ (x ∷ [])) p)
 
-pub fits-runs : {ds : List Dequeue} {q p r : List Enqueue} {ord : List Call} → Fits ds q p r ord → run (map itemOf q) ord ≡ some (map itemOf r)
+pub fits-runs :
+    {ds : List Dequeue} {q p r : List Enqueue} {ord : List Call} → Fits ds q p r ord
+    → run (map itemOf q) ord ≡ some (map itemOf r)
 fits-runs (done {q = q} {p = p}) = run-enqueues q p
 fits-runs (put {x = x} {q = q} {r = r} {ord = ord} l f) = subst (λ z. run z ord ≡ some (map itemOf r)) (map-snoc q x) (fits-runs f)
 fits-runs (give {d = d} {x = x} {q = q} {ord = ord} e a f) = run-step (deq d) _ _ ord (ap (λ b. dequeue b (map itemOf (x ∷ q))) e ∙ gives-front x (map itemOf q)) ∙ fits-runs f
@@ -63,14 +72,18 @@ fits-among (give {d = d} {ds = ds} {p = p} e a f) c (inr m) = among-dequeue d ds
 fits-among (find-none {d = d} {ds = ds} {p = p} e a f) c (inl q) = subst (Among (d ∷ ds) p) (sym q) (inl refl)
 fits-among (find-none {d = d} {ds = ds} {p = p} e a f) c (inr m) = among-dequeue d ds p c (fits-among f c m)
 
-pub fits-enqueue : {ds : List Dequeue} {q p r : List Enqueue} {ord : List Call} → Fits ds q p r ord → (x : Enqueue) → Member x p → Member (enq x) ord
+pub fits-enqueue :
+    {ds : List Dequeue} {q p r : List Enqueue} {ord : List Call} → Fits ds q p r ord → (x : Enqueue) → Member x p
+    → Member (enq x) ord
 fits-enqueue (done {p = p}) x m = in-map enq x p m
 fits-enqueue (put l f) x (inl e) = inl (ap enq e)
 fits-enqueue (put l f) x (inr m) = inr (fits-enqueue f x m)
 fits-enqueue (give e a f) x m = inr (fits-enqueue f x m)
 fits-enqueue (find-none e a f) x m = inr (fits-enqueue f x m)
 
-pub fits-dequeue : {ds : List Dequeue} {q p r : List Enqueue} {ord : List Call} → Fits ds q p r ord → (d : Dequeue) → Member d ds → Member (deq d) ord
+pub fits-dequeue :
+    {ds : List Dequeue} {q p r : List Enqueue} {ord : List Call} → Fits ds q p r ord → (d : Dequeue) → Member d ds
+    → Member (deq d) ord
 fits-dequeue (put l f) d m = inr (fits-dequeue f d m)
 fits-dequeue (give e a f) d (inl q) = inl (ap deq q)
 fits-dequeue (give e a f) d (inr m) = inr (fits-dequeue f d m)
@@ -100,7 +113,9 @@ without-dequeue {p = p} s =
     record { enqueues = s .enqueues; dequeues = s .dequeues .1; forward = s .forward .1; apart = all-map _ _ p (λ x a. a .1) (s .apart) }
 
 -- the first of the calls against the others
-first-enqueue : (d : Dequeue) (ds : List Dequeue) (x : Enqueue) (p : List Enqueue) → Sorted (d ∷ ds) (x ∷ p) → x .start ≤ d .end → (c : Call) → Among (d ∷ ds) p c → Timely (enq x) c
+first-enqueue :
+    (d : Dequeue) (ds : List Dequeue) (x : Enqueue) (p : List Enqueue) → Sorted (d ∷ ds) (x ∷ p) → x .start ≤ d .end
+    → (c : Call) → Among (d ∷ ds) p c → Timely (enq x) c
 first-enqueue d ds x p s l (enq y) m = all-at _ p (s .enqueues .0) y m
 first-enqueue d ds x p s l (deq b) m = (λ r. late m r, all-at _ (d ∷ ds) (s .apart .0) b m)
   where
@@ -108,7 +123,9 @@ first-enqueue d ds x p s l (deq b) m = (λ r. late m r, all-at _ (d ∷ ds) (s .
     late (inl e) r = let q : b .end ≡ d .end = ap (λ (z : Dequeue). z .end) e in let t = r .1 in omega arith
     late (inr n) r = let t = r .1 in let u = all-at _ ds (s .dequeues .0) b n in let v = all-at _ ds (s .forward .1) b n in omega arith
 
-first-dequeue : (d : Dequeue) (ds : List Dequeue) (p : List Enqueue) → Sorted (d ∷ ds) p → All (λ y. Precedes (enq y) (deq d) → ⊥) p → (c : Call) → Among ds p c → Timely (deq d) c
+first-dequeue :
+    (d : Dequeue) (ds : List Dequeue) (p : List Enqueue) → Sorted (d ∷ ds) p → All (λ y. Precedes (enq y) (deq d) → ⊥) p
+    → (c : Call) → Among ds p c → Timely (deq d) c
 first-dequeue d ds p s a (enq y) m = (all-at _ p a y m, λ e. all-at _ p (s .apart) y m .0 (sym e))
 first-dequeue d ds p s a (deq b) m =
     let t = s .forward .0 in

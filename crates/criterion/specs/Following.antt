@@ -62,12 +62,18 @@ is-idle t x f = go (enqueues t (enq x)) refl
 
 module _ (t n v : ℕ) (cs : List Call) where
   pub thread-is-free : follows (enqueueStarted t n v) cs ≡ true → (x : Enqueue) → Member (enq x) cs → x .thread ≡ t → x .end ≡ 0 → ⊥
-  thread-is-free f x m p q = true≢false (sym (is-busy t x p q) ∙ none-at (enqueues t) cs (not-true _ (and-eq-true-iff (not (any (enqueues t) cs)) (not (any (hasNumber n) cs)) .0 f .0)) (enq x) m)
+  thread-is-free f x m p q =
+      true≢false
+      (sym (is-busy t x p q) ∙ none-at (enqueues t) cs (not-true _ (and-eq-true-iff (not (any (enqueues t) cs)) (not (any (hasNumber n) cs)) .0 f .0)) (enq x) m)
 
   pub number-is-new : follows (enqueueStarted t n v) cs ≡ true → (x : Enqueue) → Member (enq x) cs → x .number ≡ n → ⊥
-  number-is-new f x m p = true≢false (sym (eq-eqb (x .number) n p) ∙ none-at (hasNumber n) cs (not-true _ (and-eq-true-iff (not (any (enqueues t) cs)) (not (any (hasNumber n) cs)) .0 f .1)) (enq x) m)
+  number-is-new f x m p =
+      true≢false
+      (sym (eq-eqb (x .number) n p) ∙ none-at (hasNumber n) cs (not-true _ (and-eq-true-iff (not (any (enqueues t) cs)) (not (any (hasNumber n) cs)) .0 f .1)) (enq x) m)
 
-  pub may-start : ((x : Enqueue) → Member (enq x) cs → x .thread ≡ t → x .end ≢ 0) → ((x : Enqueue) → Member (enq x) cs → x .number ≢ n) → follows (enqueueStarted t n v) cs ≡ true
+  pub may-start :
+      ((x : Enqueue) → Member (enq x) cs → x .thread ≡ t → x .end ≢ 0) → ((x : Enqueue) → Member (enq x) cs → x .number ≢ n)
+      → follows (enqueueStarted t n v) cs ≡ true
   may-start f g = rw (none-of (enqueues t) cs idle, none-of (hasNumber n) cs new)
     where
       idle : (c : Call) → Member c cs → enqueues t c ≡ false
@@ -78,10 +84,14 @@ module _ (t n v : ℕ) (cs : List Call) where
       new (enq x) m = ne-eqb _ _ (g x m)
       new (deq d) m = refl
 
-  pub has-its-start : follows (enqueueEnded t n v) cs ≡ true → (x : Enqueue) × Member (enq x) cs × (x .thread ≡ t) × (x .end ≡ 0) × (x .number ≡ n) × (x .value ≡ v)
+  pub has-its-start :
+      follows (enqueueEnded t n v) cs ≡ true
+      → (x : Enqueue) × Member (enq x) cs × (x .thread ≡ t) × (x .end ≡ 0) × (x .number ≡ n) × (x .value ≡ v)
   has-its-start f = let r = any-at (enqueuesItem t n v) cs f in at (r .0) (r .1) (r .2)
     where
-      at : (c : Call) → Member c cs → enqueuesItem t n v c ≡ true → (x : Enqueue) × Member (enq x) cs × (x .thread ≡ t) × (x .end ≡ 0) × (x .number ≡ n) × (x .value ≡ v)
+      at :
+          (c : Call) → Member c cs → enqueuesItem t n v c ≡ true
+          → (x : Enqueue) × Member (enq x) cs × (x .thread ≡ t) × (x .end ≡ 0) × (x .number ≡ n) × (x .value ≡ v)
       at (enq x) m e =
           let a = and-eq-true-iff (eqb (x .thread) t && eqb (x .end) 0 && eqb (x .number) n) (eqb (x .value) v) .0 e in
           let b = and-eq-true-iff (eqb (x .thread) t && eqb (x .end) 0) (eqb (x .number) n) .0 (a .0) in
@@ -89,7 +99,9 @@ module _ (t n v : ℕ) (cs : List Call) where
           (x, m, eqb-true _ _ (c .0), eqb-true _ _ (c .1), eqb-true _ _ (b .1), eqb-true _ _ (a .1))
       at (deq d) m e = absurd (false≢true e)
 
-  pub may-end : (x : Enqueue) → Member (enq x) cs → x .thread ≡ t → x .end ≡ 0 → x .number ≡ n → x .value ≡ v → follows (enqueueEnded t n v) cs ≡ true
+  pub may-end :
+      (x : Enqueue) → Member (enq x) cs → x .thread ≡ t → x .end ≡ 0 → x .number ≡ n → x .value ≡ v
+      → follows (enqueueEnded t n v) cs ≡ true
   may-end x m p q r s = any-of (enqueuesItem t n v) cs (enq x) m (rw (eq-eqb _ _ p, eq-eqb _ _ q, eq-eqb _ _ r, eq-eqb _ _ s))
 
 module _ (cs : List Call) where

@@ -38,7 +38,9 @@ pub answered-in : (cs : List Call) (d : Dequeue) → Member (deq d) cs → d .an
 answered-in cs d m f = in-gather dequeueOf (deq d) d cs m (answered-is (d .answer) d f)
 
 pub pairwise-dequeues : (R : Call → Call → Type 0) (cs : List Call) → Pairwise R cs → Pairwise (λ d b. R (deq d) (deq b)) (dequeuesOf cs)
-pairwise-dequeues R cs p = pairwise-gather R (λ d b. R (deq d) (deq b)) dequeueOf cs p alone (λ a c b d r m n. subst₂ R (is-dequeue a b m .0) (is-dequeue c d n .0) r)
+pairwise-dequeues R cs p =
+    pairwise-gather R (λ d b. R (deq d) (deq b)) dequeueOf cs p alone
+    (λ a c b d r m n. subst₂ R (is-dequeue a b m .0) (is-dequeue c d n .0) r)
   where
     of-answer : (a : Answer) (d : Dequeue) → Pairwise (λ d b. R (deq d) (deq b)) (ifAnswered a d)
     of-answer nothing d = tt
@@ -50,10 +52,15 @@ pairwise-dequeues R cs p = pairwise-gather R (λ d b. R (deq d) (deq b)) dequeue
     alone (deq d) = of-answer (d .answer) d
 
 -- the enqueue with a number
-pub look-finds : (n : ℕ) (x : Enqueue) (cs : List Call) → Member (enq x) cs → x .number ≡ n → ((y : Enqueue) → Member (enq y) cs → y .number ≡ n → y ≡ x) → look n cs ≡ x ∷ []
+pub look-finds :
+    (n : ℕ) (x : Enqueue) (cs : List Call) → Member (enq x) cs → x .number ≡ n
+    → ((y : Enqueue) → Member (enq y) cs → y .number ≡ n → y ≡ x) → look n cs ≡ x ∷ []
 look-finds n x (enq y ∷ cs) m e u = go (eqb (y .number) n) refl m (look-finds n x cs)
   where
-    go : (b : Bool) → eqb (y .number) n ≡ b → Member (enq x) (enq y ∷ cs) → (Member (enq x) cs → x .number ≡ n → ((z : Enqueue) → Member (enq z) cs → z .number ≡ n → z ≡ x) → look n cs ≡ x ∷ []) → cond b (y ∷ []) (look n cs) ≡ x ∷ []
+    go :
+        (b : Bool) → eqb (y .number) n ≡ b → Member (enq x) (enq y ∷ cs)
+        → (Member (enq x) cs → x .number ≡ n → ((z : Enqueue) → Member (enq z) cs → z .number ≡ n → z ≡ x) → look n cs ≡ x ∷ [])
+        → cond b (y ∷ []) (look n cs) ≡ x ∷ []
     go true q m ih = ap (λ z. z ∷ []) (u y (inl refl) (eqb-true _ _ q))
     go false q (inl p) ih = absurd (eqb-false _ _ q (ap (λ (z : Enqueue). z .number) (sym (same-enq p)) ∙ e))
     go false q (inr m) ih = ih m e (λ z k. u z (inr k))
@@ -63,7 +70,9 @@ look-finds n x (deq d ∷ cs) (inr m) e u = look-finds n x cs m e (λ y k. u y (
 pub look-is : (n : ℕ) (y : Enqueue) (cs : List Call) → Member y (look n cs) → Member (enq y) cs × (y .number ≡ n)
 look-is n y (enq x ∷ cs) m = go (eqb (x .number) n) refl m (look-is n y cs)
   where
-    go : (b : Bool) → eqb (x .number) n ≡ b → Member y (cond b (x ∷ []) (look n cs)) → (Member y (look n cs) → Member (enq y) cs × (y .number ≡ n)) → Member (enq y) (enq x ∷ cs) × (y .number ≡ n)
+    go :
+        (b : Bool) → eqb (x .number) n ≡ b → Member y (cond b (x ∷ []) (look n cs))
+        → (Member y (look n cs) → Member (enq y) cs × (y .number ≡ n)) → Member (enq y) (enq x ∷ cs) × (y .number ≡ n)
     go true q (inl e) ih = (inl (ap enq e), ap (λ (z : Enqueue). z .number) e ∙ eqb-true _ _ q)
     go false q m ih = let r = ih m in (inr (r .0), r .1)
 look-is n y (deq d ∷ cs) m = let r = look-is n y cs m in (inr (r .0), r .1)
@@ -80,7 +89,11 @@ pub taken-by : (cs : List Call) (ds : List Dequeue) (y : Enqueue) → Member y (
 taken-by cs ds y m = let r = from-gather (λ d. lookAnswer cs (d .answer)) y ds m in at (r .0) (r .1) (r .0 .answer) refl (r .2)
   where
     at : (d : Dequeue) → Member d ds → (a : Answer) → d .answer ≡ a → Member y (lookAnswer cs a) → TakenBy cs ds y
-    at d k (item n v) e l = let r = look-is n y cs l in record { by = d; value = v; among = k; gives = e ∙ ap (λ i. item i v) (sym (r .1)); member = r .0 }
+    at d k (item n v) e l =
+        let r = look-is n y cs l in
+        record { by = d; value = v; among = k; gives = e ∙ ap (λ i. item i v) (sym (r .1)); member = r .0 }
 
-pub taken-has : (cs : List Call) (ds : List Dequeue) (d : Dequeue) (n v : ℕ) (x : Enqueue) → Member d ds → d .answer ≡ item n v → look n cs ≡ x ∷ [] → Member x (taken cs ds)
+pub taken-has :
+    (cs : List Call) (ds : List Dequeue) (d : Dequeue) (n v : ℕ) (x : Enqueue) → Member d ds → d .answer ≡ item n v
+    → look n cs ≡ x ∷ [] → Member x (taken cs ds)
 taken-has cs ds d n v x m e l = in-gather (λ d. lookAnswer cs (d .answer)) d x ds m (rw (e, l) (inl refl))

@@ -30,10 +30,16 @@ current-other : (t u : ℕ) (i j : Option Item) → (t ≡ u → ⊥) → cond (
 current-other t u i j f = rw (ne-eqb t u f)
 
 none-open : (a : Answer) (h : History) (d : Dequeue) → Member (deq d) (map (endDequeue (suc (length h)) a) (calls h)) → d .end ≢ 0
-none-open a h d m z = elim (dequeue-in-answered _ a (calls h) d m) [ inl l ↦ l .1 z | inr r ↦ let e : suc (length h) ≡ 0 = cc (r .3) in omega arith ]
+none-open a h d m z =
+    elim (dequeue-in-answered _ a (calls h) d m) [
+      | inl l ↦ l .1 z
+      | inr r ↦ let e : suc (length h) ≡ 0 = cc (r .3) in omega arith
+    ]
 
 -- An enqueue under way is the current one of its thread, and the other way round.
-pub open-is-current : (h : History) → wellFormed h ≡ true → (x : Enqueue) → Member (enq x) (calls h) → x .end ≡ 0 → current (x .thread) h ≡ some (itemOf x)
+pub open-is-current :
+    (h : History) → wellFormed h ≡ true → (x : Enqueue) → Member (enq x) (calls h) → x .end ≡ 0
+    → current (x .thread) h ≡ some (itemOf x)
 open-is-current (enqueueStarted t n v ∷ h) w x m z =
     elim (in-snoc (enq x) (calls h) _ m) [
       | inl l ↦ current-other t (x .thread) _ _ (λ e. thread-is-free t n v (calls h) (head-follows (enqueueStarted t n v) h w) x l (sym e) z) ∙ open-is-current h (tail-formed (enqueueStarted t n v) h w) x l z
@@ -46,7 +52,8 @@ open-is-current (enqueueEnded t n v ∷ h) w x m z =
     ]
 open-is-current (dequeueStarted ∷ h) w x m z =
     elim (in-snoc (enq x) (calls h) _ m) [ inl l ↦ open-is-current h (tail-formed dequeueStarted h w) x l z | inr e ↦ absurd (enq-not-deq e) ]
-open-is-current (gaveItem n v ∷ h) w x m z = open-is-current h (tail-formed (gaveItem n v) h w) x (enqueue-in-answered _ (item n v) (calls h) x m) z
+open-is-current (gaveItem n v ∷ h) w x m z =
+    open-is-current h (tail-formed (gaveItem n v) h w) x (enqueue-in-answered _ (item n v) (calls h) x m) z
 open-is-current (gaveEmpty ∷ h) w x m z = open-is-current h (tail-formed gaveEmpty h w) x (enqueue-in-answered _ empty (calls h) x m) z
 
 abbrev IsOpen : ℕ → Item → List Call → Type 0
@@ -57,22 +64,30 @@ current-is-open [] t i e = absurd (Option·none-ne-some i e)
 current-is-open (enqueueStarted u n v ∷ h) t i e = go (ℕ-discrete u t) (current-is-open h t i)
   where
     go : Dec (u ≡ t) → (current t h ≡ some i → IsOpen t i (calls h)) → IsOpen t i (calls (enqueueStarted u n v ∷ h))
-    go (yes p) ih = (opened u n v (suc (length h)), in-right _ (calls h) _ (inl refl), p, refl, Option·some-injective _ _ (rw (eq-eqb u t p) at e))
+    go (yes p) ih =
+        (opened u n v (suc (length h)), in-right _ (calls h) _ (inl refl), p, refl, Option·some-injective _ _ (rw (eq-eqb u t p) at e))
     go (no p) ih = let r = ih (sym (current-other u t _ _ p) ∙ e) in (r .0, in-left _ (calls h) _ (r .1), r .2, r .3, r .4)
 current-is-open (enqueueEnded u n v ∷ h) t i e = go (ℕ-discrete u t) (current-is-open h t i)
   where
     go : Dec (u ≡ t) → (current t h ≡ some i → IsOpen t i (calls h)) → IsOpen t i (calls (enqueueEnded u n v ∷ h))
     go (yes p) ih = absurd (Option·none-ne-some i (rw (eq-eqb u t p) at e))
-    go (no p) ih = let r = ih (sym (current-other u t _ _ p) ∙ e) in (r .0, enqueue-stays u _ (calls h) (r .0) (r .1) (λ q. absurd (p (cc))), r .2, r .3, r .4)
+    go (no p) ih =
+        let r = ih (sym (current-other u t _ _ p) ∙ e) in
+        (r .0, enqueue-stays u _ (calls h) (r .0) (r .1) (λ q. absurd (p (cc))), r .2, r .3, r .4)
 current-is-open (dequeueStarted ∷ h) t i e = let r = current-is-open h t i e in (r .0, in-left _ (calls h) _ (r .1), r .2, r .3, r .4)
-current-is-open (gaveItem n v ∷ h) t i e = let r = current-is-open h t i e in (r .0, in-map (endDequeue _ (item n v)) _ (calls h) (r .1), r .2, r .3, r .4)
-current-is-open (gaveEmpty ∷ h) t i e = let r = current-is-open h t i e in (r .0, in-map (endDequeue _ empty) _ (calls h) (r .1), r .2, r .3, r .4)
+current-is-open (gaveItem n v ∷ h) t i e =
+    let r = current-is-open h t i e in
+    (r .0, in-map (endDequeue _ (item n v)) _ (calls h) (r .1), r .2, r .3, r .4)
+current-is-open (gaveEmpty ∷ h) t i e =
+    let r = current-is-open h t i e in
+    (r .0, in-map (endDequeue _ empty) _ (calls h) (r .1), r .2, r .3, r .4)
 
 -- A dequeue is under way exactly when the history is dequeuing.
 pub open-is-dequeuing : (h : History) → wellFormed h ≡ true → (d : Dequeue) → Member (deq d) (calls h) → d .end ≡ 0 → dequeuing h ≡ true
 open-is-dequeuing (enqueueStarted t n v ∷ h) w d m z =
     elim (in-snoc (deq d) (calls h) _ m) [ inl l ↦ open-is-dequeuing h (tail-formed (enqueueStarted t n v) h w) d l z | inr e ↦ absurd (enq-not-deq (sym e)) ]
-open-is-dequeuing (enqueueEnded t n v ∷ h) w d m z = open-is-dequeuing h (tail-formed (enqueueEnded t n v) h w) d (dequeue-in-ended t _ (calls h) d m) z
+open-is-dequeuing (enqueueEnded t n v ∷ h) w d m z =
+    open-is-dequeuing h (tail-formed (enqueueEnded t n v) h w) d (dequeue-in-ended t _ (calls h) d m) z
 open-is-dequeuing (dequeueStarted ∷ h) w d m z = refl
 open-is-dequeuing (gaveItem n v ∷ h) w d m z = absurd (none-open (item n v) h d m z)
 open-is-dequeuing (gaveEmpty ∷ h) w d m z = absurd (none-open empty h d m z)
@@ -87,13 +102,18 @@ dequeuing-is-open (gaveEmpty ∷ h) e = absurd (false≢true e)
 
 -- An enqueue's number has begun.
 pub number-is-begun : (h : History) (x : Enqueue) → Member (enq x) (calls h) → Begun (x .number) h
-number-is-begun (enqueueStarted t n v ∷ h) x m = elim (in-snoc (enq x) (calls h) _ m) [ inl l ↦ inr (number-is-begun h x l) | inr e ↦ inl (ap (λ (y : Enqueue). y .number) (same-enq e)) ]
+number-is-begun (enqueueStarted t n v ∷ h) x m =
+    elim (in-snoc (enq x) (calls h) _ m) [
+      | inl l ↦ inr (number-is-begun h x l)
+      | inr e ↦ inl (ap (λ (y : Enqueue). y .number) (same-enq e))
+    ]
 number-is-begun (enqueueEnded t n v ∷ h) x m =
     elim (enqueue-in-ended t _ (calls h) x m) [
       | inl l ↦ number-is-begun h x (l .0)
       | inr r ↦ subst (λ k. Begun k h) (cc (r .4)) (number-is-begun h (r .0) (r .1))
     ]
-number-is-begun (dequeueStarted ∷ h) x m = elim (in-snoc (enq x) (calls h) _ m) [ inl l ↦ number-is-begun h x l | inr e ↦ absurd (enq-not-deq e) ]
+number-is-begun (dequeueStarted ∷ h) x m =
+    elim (in-snoc (enq x) (calls h) _ m) [ inl l ↦ number-is-begun h x l | inr e ↦ absurd (enq-not-deq e) ]
 number-is-begun (gaveItem n v ∷ h) x m = number-is-begun h x (enqueue-in-answered _ (item n v) (calls h) x m)
 number-is-begun (gaveEmpty ∷ h) x m = number-is-begun h x (enqueue-in-answered _ empty (calls h) x m)
 

@@ -34,10 +34,14 @@ Known given b = (n : ℕ) → (Member n given → Given n b) × (Given n b → M
 given-on : {n : ℕ} {b : List Call} (c : Call) → Given n b → Given n (b ++ (c ∷ []))
 given-on {b = b} c g = record { by = g .by; value = g .value; member = in-left _ b (c ∷ []) (g .member); gives = g .gives }
 
-gives-no-item : (d : Dequeue) (a : Answer) → d .answer ≡ a → ((n v : ℕ) → a ≡ item n v → ⊥) → (b : Dequeue) (n v : ℕ) → deq b ≡ deq d → b .answer ≡ item n v → ⊥
+gives-no-item :
+    (d : Dequeue) (a : Answer) → d .answer ≡ a → ((n v : ℕ) → a ≡ item n v → ⊥) → (b : Dequeue) (n v : ℕ) → deq b ≡ deq d
+    → b .answer ≡ item n v → ⊥
 gives-no-item d a q f b n v e p = f n v (sym q ∙ ap (λ (z : Dequeue). z .answer) (sym (same-deq e)) ∙ p)
 
-known-more : (given : List ℕ) (b : List Call) (c : Call) → ((d : Dequeue) (n v : ℕ) → deq d ≡ c → d .answer ≡ item n v → ⊥) → Known given b → Known given (b ++ (c ∷ []))
+known-more :
+    (given : List ℕ) (b : List Call) (c : Call) → ((d : Dequeue) (n v : ℕ) → deq d ≡ c → d .answer ≡ item n v → ⊥)
+    → Known given b → Known given (b ++ (c ∷ []))
 known-more given b c f k n = (
   λ m. given-on c (k n .0 m),
   λ g. elim (in-snoc (deq (g .by)) b c (g .member))
@@ -47,7 +51,9 @@ known-more given b c f k n = (
 same-number-given : (n v m w : ℕ) → item n v ≡ item m w → n ≡ m
 same-number-given n v m w e = cc
 
-known-given : (given : List ℕ) (b : List Call) (d : Dequeue) (n v : ℕ) → d .answer ≡ item n v → Known given b → Known (n ∷ given) (b ++ (deq d ∷ []))
+known-given :
+    (given : List ℕ) (b : List Call) (d : Dequeue) (n v : ℕ) → d .answer ≡ item n v → Known given b
+    → Known (n ∷ given) (b ++ (deq d ∷ []))
 known-given given b d n v a k i = (
   λ m. elim m [
     | inl e ↦ record { by = d; value = v; member = in-right _ b (deq d ∷ []) (inl refl); gives = a ∙ ap (λ j. item j v) (sym e) }
@@ -77,7 +83,11 @@ module _ (h : History) (w : wellFormed h ≡ true) where
         record { by = g .by; value = g .value; member = m; gives = g .gives; before = omega arith }
 
     taken-given : (n : ℕ) → TakenBefore n (d .end) (calls h) → Given n b
-    taken-given n t = elim (in-either (deq (t .by)) b (deq d ∷ l) (subst (Member (deq (t .by))) split (t .member))) [ inl m ↦ record { by = t .by; value = t .value; member = m; gives = t .gives } | inr m ↦ absurd (late m) ]
+    taken-given n t =
+        elim (in-either (deq (t .by)) b (deq d ∷ l) (subst (Member (deq (t .by))) split (t .member))) [
+          | inl m ↦ record { by = t .by; value = t .value; member = m; gives = t .gives }
+          | inr m ↦ absurd (late m)
+        ]
       where
         late : Member (deq (t .by)) (deq d ∷ l) → ⊥
         late (inl e) = let s = ap endOf e in let f = t .before in omega arith
@@ -95,7 +105,10 @@ module _ (h : History) (w : wellFormed h ≡ true) where
   marked (enq x ∷ l) mark given e = marked l mark given e
   marked (deq d ∷ l) mark given e = λ y m s. go y m s (d .answer) e (marked l)
     where
-      go : (y : Enqueue) → Member (enq y) (calls h) → Short mark y → (a : Answer) → answering (calls h) a (d .start) (d .end) mark given (passes (calls h) l) ≡ true → ((i : ℕ) (g : List ℕ) → passes (calls h) l i g ≡ true → Marks (calls h) i g) → Member (y .number) given
+      go :
+          (y : Enqueue) → Member (enq y) (calls h) → Short mark y → (a : Answer)
+          → answering (calls h) a (d .start) (d .end) mark given (passes (calls h) l) ≡ true
+          → ((i : ℕ) (g : List ℕ) → passes (calls h) l i g ≡ true → Marks (calls h) i g) → Member (y .number) given
       go y m s nothing e ih = ih mark given e y m s
       go y m s (item n v) e ih =
           let r = giving-is (calls h) n v (d .end) mark given (passes (calls h) l) e in
@@ -114,13 +127,19 @@ module _ (h : History) (w : wellFormed h ≡ true) where
 
   -- One answer: it is fair, and the pass goes on with what is then known.
   abbrev FairOn : (b l : List Call) → Dequeue → Answer → Type 0
-  FairOn b l d a = Fair a (d .start) (d .end) (calls h) × ((i : ℕ) × (g : List ℕ) × Known g (b ++ (deq d ∷ [])) × (passes (calls h) l i g ≡ true))
+  FairOn b l d a =
+      Fair a (d .start) (d .end) (calls h) ×
+      ((i : ℕ) × (g : List ℕ) × Known g (b ++ (deq d ∷ [])) × (passes (calls h) l i g ≡ true))
 
-  answers-fairly : (b l : List Call) (d : Dequeue) → calls h ≡ b ++ (deq d ∷ l) → (mark : ℕ) (given : List ℕ) → Known given b → answering (calls h) (d .answer) (d .start) (d .end) mark given (passes (calls h) l) ≡ true → FairOn b l d (d .answer)
+  answers-fairly :
+      (b l : List Call) (d : Dequeue) → calls h ≡ b ++ (deq d ∷ l) → (mark : ℕ) (given : List ℕ) → Known given b
+      → answering (calls h) (d .answer) (d .start) (d .end) mark given (passes (calls h) l) ≡ true → FairOn b l d (d .answer)
   answers-fairly b l d split mark given k e = go (d .answer) refl e
     where
       ended : (a : Answer) → d .answer ≡ a → a ≢ nothing → d .end ≢ 0
-      ended a q f = answered-ended h w d (subst (Member (deq d)) (sym split) (in-right (deq d) b (deq d ∷ l) (inl refl))) (λ p. f (sym q ∙ p))
+      ended a q f =
+          answered-ended h w d (subst (Member (deq d)) (sym split) (in-right (deq d) b (deq d ∷ l) (inl refl)))
+          (λ p. f (sym q ∙ p))
 
       go : (a : Answer) → d .answer ≡ a → answering (calls h) a (d .start) (d .end) mark given (passes (calls h) l) ≡ true → FairOn b l d a
       go nothing q e = (tt, (mark, given, known-more given b (deq d) (gives-no-item d nothing q (λ n v p. item-not-nothing (sym p))) k, e))
@@ -147,7 +166,9 @@ module _ (h : History) (w : wellFormed h ≡ true) where
           let z = ended empty q empty-not-nothing in
           (λ y m f s. given-taken b l d split z (y .number) (k (y .number) .0 (marked l _ _ e y m (f, omega arith))), (_, _, known-more given b (deq d) (gives-no-item d empty q (λ n v p. item-not-empty (sym p))) k, e))
 
-  fair-on : (b l : List Call) → calls h ≡ b ++ l → (mark : ℕ) (given : List ℕ) → Known given b → passes (calls h) l mark given ≡ true → (d : Dequeue) → Member (deq d) l → Fair (d .answer) (d .start) (d .end) (calls h)
+  fair-on :
+      (b l : List Call) → calls h ≡ b ++ l → (mark : ℕ) (given : List ℕ) → Known given b → passes (calls h) l mark given ≡ true
+      → (d : Dequeue) → Member (deq d) l → Fair (d .answer) (d .start) (d .end) (calls h)
   fair-on b (enq x ∷ l) split mark given k e d (inl q) = absurd (enq-not-deq (sym q))
   fair-on b (enq x ∷ l) split mark given k e d (inr m) =
       fair-on (b ++ (enq x ∷ [])) l (rw append-assoc split) mark given (known-more given b (enq x) (λ d n v q p. enq-not-deq (sym q)) k) e d m
@@ -158,11 +179,14 @@ module _ (h : History) (w : wellFormed h ≡ true) where
       fair-on (b ++ (deq c ∷ [])) l (rw append-assoc split) (r .0) (r .1) (r .2) (r .3) d m
 
   -- The other way round: where every dequeue is fair, the pass succeeds.
-  pass-on : Orderly (calls h) → (b l : List Call) → calls h ≡ b ++ l → (mark : ℕ) (given : List ℕ) → Known given b → Marks (calls h) mark given → passes (calls h) l mark given ≡ true
+  pass-on :
+      Orderly (calls h) → (b l : List Call) → calls h ≡ b ++ l → (mark : ℕ) (given : List ℕ) → Known given b
+      → Marks (calls h) mark given → passes (calls h) l mark given ≡ true
   pass-on o b [] split mark given k t = is-leaves mark given (calls h) t
   pass-on o b (enq x ∷ l) split mark given k t =
       pass-on o (b ++ (enq x ∷ [])) l (rw append-assoc split) mark given (known-more given b (enq x) (λ d n v q p. enq-not-deq (sym q)) k) t
-  pass-on o b (deq d ∷ l) split mark given k t = go (d .answer) refl (o d own-member) (pass-on o (b ++ (deq d ∷ [])) l (rw append-assoc split))
+  pass-on o b (deq d ∷ l) split mark given k t =
+      go (d .answer) refl (o d own-member) (pass-on o (b ++ (deq d ∷ [])) l (rw append-assoc split))
     where
       own-member : Member (deq d) (calls h)
       own-member = subst (Member (deq d)) (sym split) (in-right (deq d) b (deq d ∷ l) (inl refl))
@@ -170,7 +194,10 @@ module _ (h : History) (w : wellFormed h ≡ true) where
       known : (a : Answer) → d .answer ≡ a → a ≢ nothing → (n : ℕ) → TakenBefore n (d .end) (calls h) → Member n given
       known a q f n r = k n .1 (taken-given b l d split (answered-ended h w d own-member (λ p. f (sym q ∙ p))) n r)
 
-      go : (a : Answer) → d .answer ≡ a → Fair a (d .start) (d .end) (calls h) → ((i : ℕ) (g : List ℕ) → Known g (b ++ (deq d ∷ [])) → Marks (calls h) i g → passes (calls h) l i g ≡ true) → answering (calls h) a (d .start) (d .end) mark given (passes (calls h) l) ≡ true
+      go :
+          (a : Answer) → d .answer ≡ a → Fair a (d .start) (d .end) (calls h)
+          → ((i : ℕ) (g : List ℕ) → Known g (b ++ (deq d ∷ [])) → Marks (calls h) i g → passes (calls h) l i g ≡ true)
+          → answering (calls h) a (d .start) (d .end) mark given (passes (calls h) l) ≡ true
       go nothing q f ih = ih mark given (known-more given b (deq d) (gives-no-item d nothing q (λ n v p. item-not-nothing (sym p))) k) t
       go (item n v) q f ih =
           let z = answered-ended h w d own-member (λ p. item-not-nothing (sym q ∙ p)) in

@@ -48,7 +48,11 @@ abbrev pub Short : ℕ → Enqueue → Type 0
 Short mark x = (x .end ≢ 0) × (x .end < mark)
 
 pub past-is : (mark : ℕ) (x : Enqueue) → past mark x ≡ true → Short mark x → ⊥
-past-is mark x e s = elim (either (eqb (x .end) 0) (leb mark (x .end)) e) [ inl p ↦ s .0 (eqb-true _ _ p) | inr q ↦ (let l = leb-true mark (x .end) q in let r = s .1 in omega arith) ]
+past-is mark x e s =
+    elim (either (eqb (x .end) 0) (leb mark (x .end)) e) [
+      | inl p ↦ s .0 (eqb-true _ _ p)
+      | inr q ↦ (let l = leb-true mark (x .end) q in let r = s .1 in omega arith)
+    ]
 
 pub is-past : (mark : ℕ) (x : Enqueue) → (Short mark x → ⊥) → past mark x ≡ true
 is-past mark x f = go (eqb (x .end) 0) refl
@@ -76,7 +80,9 @@ leaves-is mark given (deq d ∷ cs) e y m s = elim m [ inl q ↦ absurd (enq-not
 
 pub is-leaves : (mark : ℕ) (given : List ℕ) (cs : List Call) → Marks cs mark given → leaves mark given cs ≡ true
 is-leaves mark given [] f = refl
-is-leaves mark given (enq x ∷ cs) f = and-eq-true-iff (has (x .number) given || past mark x) (leaves mark given cs) .1 (go (has (x .number) given) refl, is-leaves mark given cs (λ y m. f y (inr m)))
+is-leaves mark given (enq x ∷ cs) f =
+    and-eq-true-iff (has (x .number) given || past mark x) (leaves mark given cs) .1
+    (go (has (x .number) given) refl, is-leaves mark given cs (λ y m. f y (inr m)))
   where
     go : (b : Bool) → has (x .number) given ≡ b → (b || past mark x) ≡ true
     go true e = refl
@@ -100,10 +106,14 @@ pub record Gives (cs : List Call) (n v k mark : ℕ) (given : List ℕ) (x : Enq
   pub not-short : Short mark x → ⊥
 
 module _ (cs : List Call) (n v k mark : ℕ) (given : List ℕ) (on : ℕ → List ℕ → Bool) where
-  pub giving-is : giving n v k mark given on (look n cs) ≡ true → (x : Enqueue) × Gives cs n v k mark given x × (on (max mark (x .start)) (n ∷ given) ≡ true)
+  pub giving-is :
+      giving n v k mark given on (look n cs) ≡ true
+      → (x : Enqueue) × Gives cs n v k mark given x × (on (max mark (x .start)) (n ∷ given) ≡ true)
   giving-is e = go (look n cs) refl e
     where
-      go : (xs : List Enqueue) → look n cs ≡ xs → giving n v k mark given on xs ≡ true → (x : Enqueue) × Gives cs n v k mark given x × (on (max mark (x .start)) (n ∷ given) ≡ true)
+      go :
+          (xs : List Enqueue) → look n cs ≡ xs → giving n v k mark given on xs ≡ true
+          → (x : Enqueue) × Gives cs n v k mark given x × (on (max mark (x .start)) (n ∷ given) ≡ true)
       go [] q e = absurd (false≢true e)
       go (x ∷ xs) q e =
           let a = and-eq-true-iff (eqb (x .value) v && not (has n given) && leb (x .start) k && past mark x) (on (max mark (x .start)) (n ∷ given)) .0 e in
@@ -123,5 +133,10 @@ module _ (cs : List Call) (n v k mark : ℕ) (given : List ℕ) (on : ℕ → Li
             a .1,
           )
 
-  pub is-giving : (x : Enqueue) → look n cs ≡ x ∷ [] → Gives cs n v k mark given x → on (max mark (x .start)) (n ∷ given) ≡ true → giving n v k mark given on (look n cs) ≡ true
-  is-giving x q g e = rw (q, eq-eqb (x .value) v (g .value-is), has-not n given (g .new), le-leb (x .start) k (g .started), is-past mark x (g .not-short)) e
+  pub is-giving :
+      (x : Enqueue) → look n cs ≡ x ∷ [] → Gives cs n v k mark given x → on (max mark (x .start)) (n ∷ given) ≡ true
+      → giving n v k mark given on (look n cs) ≡ true
+  is-giving x q g e =
+      rw
+      (q, eq-eqb (x .value) v (g .value-is), has-not n given (g .new), le-leb (x .start) k (g .started), is-past mark x (g .not-short))
+      e

@@ -46,7 +46,8 @@ module _ {A : Type 0} where
 
   pub pairwise-left : (R : A → A → Type 0) (xs ys : List A) → Pairwise R (xs ++ ys) → Pairwise R xs
   pairwise-left R [] ys p = tt
-  pairwise-left R (x ∷ xs) ys p = (all-of (R x) xs (λ a m. all-at (R x) (xs ++ ys) (p .0) a (in-left a xs ys m)), pairwise-left R xs ys (p .1))
+  pairwise-left R (x ∷ xs) ys p =
+      (all-of (R x) xs (λ a m. all-at (R x) (xs ++ ys) (p .0) a (in-left a xs ys m)), pairwise-left R xs ys (p .1))
 
   pub pairwise-right : (R : A → A → Type 0) (xs ys : List A) → Pairwise R (xs ++ ys) → Pairwise R ys
   pairwise-right R [] ys p = p
@@ -57,7 +58,8 @@ module _ {A : Type 0} where
   pairwise-across R (x ∷ xs) ys p a b (inl e) n = subst (λ z. R z b) (sym e) (all-at (R x) (xs ++ ys) (p .0) b (in-right b xs ys n))
   pairwise-across R (x ∷ xs) ys p a b (inr m) n = pairwise-across R xs ys (p .1) a b m n
 
-  pub pairwise-append : (R : A → A → Type 0) (xs ys : List A) → Pairwise R xs → Pairwise R ys → All (λ a. All (R a) ys) xs → Pairwise R (xs ++ ys)
+  pub pairwise-append :
+      (R : A → A → Type 0) (xs ys : List A) → Pairwise R xs → Pairwise R ys → All (λ a. All (R a) ys) xs → Pairwise R (xs ++ ys)
   pairwise-append R [] ys p q r = q
   pairwise-append R (x ∷ xs) ys p q r = (all-append (R x) xs ys (p .0) (r .0), pairwise-append R xs ys (p .1) q (r .1))
 
@@ -70,9 +72,12 @@ module _ {A : Type 0} where
 
   pub pairwise-both : (R S : A → A → Type 0) (xs : List A) → Pairwise R xs → Pairwise S xs → Pairwise (λ a b. R a b × S a b) xs
   pairwise-both R S [] p q = tt
-  pairwise-both R S (x ∷ xs) p q = (all-of _ xs (λ a m. (all-at (R x) xs (p .0) a m, all-at (S x) xs (q .0) a m)), pairwise-both R S xs (p .1) (q .1))
+  pairwise-both R S (x ∷ xs) p q =
+      (all-of _ xs (λ a m. (all-at (R x) xs (p .0) a m, all-at (S x) xs (q .0) a m)), pairwise-both R S xs (p .1) (q .1))
 
-  pub pairwise-with : (R S : A → A → Type 0) (xs : List A) → Pairwise R xs → ((a b : A) → Member a xs → Member b xs → R a b → S a b) → Pairwise S xs
+  pub pairwise-with :
+      (R S : A → A → Type 0) (xs : List A) → Pairwise R xs → ((a b : A) → Member a xs → Member b xs → R a b → S a b)
+      → Pairwise S xs
   pairwise-with R S [] p f = tt
   pairwise-with R S (x ∷ xs) p f =
       (all-of (S x) xs (λ a m. f x a (inl refl) (inr m) (all-at (R x) xs (p .0) a m)), pairwise-with R S xs (p .1) (λ a b m n. f a b (inr m) (inr n)))
@@ -94,7 +99,9 @@ module _ {A B : Type 0} where
   from-map f b (x ∷ xs) (inl e) = (x, inl refl, e)
   from-map f b (x ∷ xs) (inr m) = let r = from-map f b xs m in (r .0, inr (r .1), r .2)
 
-  pub pairwise-map : (R : B → B → Type 0) (S : A → A → Type 0) (f : A → B) (xs : List A) → ((a b : A) → S a b → R (f a) (f b)) → Pairwise S xs → Pairwise R (map f xs)
+  pub pairwise-map :
+      (R : B → B → Type 0) (S : A → A → Type 0) (f : A → B) (xs : List A) → ((a b : A) → S a b → R (f a) (f b)) → Pairwise S xs
+      → Pairwise R (map f xs)
   pairwise-map R S f [] g p = tt
   pairwise-map R S f (x ∷ xs) g p = (later xs (p .0), pairwise-map R S f xs g (p .1))
     where
@@ -104,10 +111,13 @@ module _ {A B : Type 0} where
 
   pub pairwise-unmap : (R : B → B → Type 0) (f : A → B) (xs : List A) → Pairwise R (map f xs) → Pairwise (λ a b. R (f a) (f b)) xs
   pairwise-unmap R f [] p = tt
-  pairwise-unmap R f (x ∷ xs) p = (all-of _ xs (λ a m. all-at (R (f x)) (map f xs) (p .0) (f a) (in-map f a xs m)), pairwise-unmap R f xs (p .1))
+  pairwise-unmap R f (x ∷ xs) p =
+      (all-of _ xs (λ a m. all-at (R (f x)) (map f xs) (p .0) (f a) (in-map f a xs m)), pairwise-unmap R f xs (p .1))
 
   -- what stands where in a mapped list, stands there in the list
-  pub split-map : (f : A → B) (xs : List A) (ys : List B) (z : B) (zs : List B) → map f xs ≡ ys ++ (z ∷ zs) → (b : List A) × (a : A) × (c : List A) × (xs ≡ b ++ (a ∷ c)) × (map f b ≡ ys) × (f a ≡ z)
+  pub split-map :
+      (f : A → B) (xs : List A) (ys : List B) (z : B) (zs : List B) → map f xs ≡ ys ++ (z ∷ zs)
+      → (b : List A) × (a : A) × (c : List A) × (xs ≡ b ++ (a ∷ c)) × (map f b ≡ ys) × (f a ≡ z)
   split-map f [] [] z zs e = absurd (nil-not-cons e)
   split-map f [] (y ∷ ys) z zs e = absurd (nil-not-cons e)
   split-map f (x ∷ xs) [] z zs e = ([], x, xs, refl, refl, cc)
@@ -126,9 +136,15 @@ module _ {A B : Type 0} where
 
   pub from-gather : (f : A → List B) (b : B) (xs : List A) → Member b (gather f xs) → (a : A) × Member a xs × Member b (f a)
   from-gather f b (x ∷ xs) m =
-      elim (in-either b (f x) (gather f xs) m) [ inl l ↦ (x, inl refl, l) | inr l ↦ let r = from-gather f b xs l in (r .0, inr (r .1), r .2) ]
+      elim (in-either b (f x) (gather f xs) m) [
+        | inl l ↦ (x, inl refl, l)
+        | inr l ↦ let r =
+            from-gather f b xs l in (r .0, inr (r .1), r .2)
+      ]
 
-  pub pairwise-gather : (R : A → A → Type 0) (S : B → B → Type 0) (f : A → List B) (xs : List A) → Pairwise R xs → ((a : A) → Pairwise S (f a)) → ((a c : A) (b d : B) → R a c → Member b (f a) → Member d (f c) → S b d) → Pairwise S (gather f xs)
+  pub pairwise-gather :
+      (R : A → A → Type 0) (S : B → B → Type 0) (f : A → List B) (xs : List A) → Pairwise R xs → ((a : A) → Pairwise S (f a))
+      → ((a c : A) (b d : B) → R a c → Member b (f a) → Member d (f c) → S b d) → Pairwise S (gather f xs)
   pairwise-gather R S f [] p own across = tt
   pairwise-gather R S f (x ∷ xs) p own across =
       pairwise-append S (f x) (gather f xs) (own x) (pairwise-gather R S f xs (p .1) own across)

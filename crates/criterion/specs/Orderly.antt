@@ -61,7 +61,9 @@ item-not-empty e = let z : _≡_ {A = ℕ} 0 1 = cc in omega arith
 pub empty-not-nothing : empty ≡ nothing → ⊥
 empty-not-nothing e = let z : _≡_ {A = ℕ} 0 1 = cc in omega arith
 
-pub gave-when : (h : History) → wellFormed h ≡ true → (d : Dequeue) → Member (deq d) (calls h) → (a : Answer) → d .answer ≡ a → a ≢ nothing → Gave a (d .end) h
+pub gave-when :
+    (h : History) → wellFormed h ≡ true → (d : Dequeue) → Member (deq d) (calls h) → (a : Answer) → d .answer ≡ a → a ≢ nothing
+    → Gave a (d .end) h
 gave-when h w d m a e f = subst (λ b. Gave b (d .end) h) e (dequeue-tells h w d m .ended (answered-ended h w d m (λ q. f (sym e ∙ q))))
 
 start-no-gift : (k t n v m w : ℕ) (h : History) → At k (enqueueStarted t n v) h → At k (gaveItem m w) h → ⊥
@@ -78,7 +80,9 @@ module _ (h : History) (w : wellFormed h ≡ true) (g : History) (s : g ⊑ h) w
       record { by = d .0; value = r .which; member = d .1; gives = d .3; before = omega arith }
 
   before-taken : (m : ℕ) → TakenBefore m (suc (length g)) (calls h) → Taken m g
-  before-taken m t = when-taken _ m (t .value) g (at-earlier s _ _ (gave-when h w (t .by) (t .member) (item m (t .value)) (t .gives) item-not-nothing) (let l = t .before in omega arith))
+  before-taken m t =
+      when-taken _ m (t .value) g
+      (at-earlier s _ _ (gave-when h w (t .by) (t .member) (item m (t .value)) (t .gives) item-not-nothing) (let l = t .before in omega arith))
 
   -- an item given fairly
   gives-fairly : (n v : ℕ) → MayGive n v g → FairItem n v (suc (length g)) (calls h)
@@ -97,7 +101,8 @@ module _ (h : History) (w : wellFormed h ≡ true) (g : History) (s : g ⊑ h) w
             λ y m p.
             taken-before (y .number)
             (r .is-first (y .number)
-            (when-before (y .end) _ _ _ (a .time) _ _ _ g (at-earlier s _ _ (enqueue-tells h w y m .ended (p .0)) (let q = p .1 in omega arith)) (a .there) (p .1)));
+            (when-before (y .end) _ _ _ (a .time) _ _ _ g (at-earlier s _ _ (enqueue-tells h w y m .ended (p .0)) (let q =
+            p .1 in omega arith)) (a .there) (p .1)));
       }
 
   may-give : (n v : ℕ) → At (suc (length g)) (gaveItem n v) h → FairItem n v (suc (length g)) (calls h) → MayGive n v g
@@ -157,7 +162,9 @@ explained-before dequeueStarted h x = x
 explained-before (gaveItem n v) h x = x .1
 explained-before gaveEmpty h x = x .1
 
-explained-item : (k n v : ℕ) (h : History) → Explained h → At k (gaveItem n v) h → (g : History) × (g ⊑ h) × (k ≡ suc (length g)) × MayGive n v g
+explained-item :
+    (k n v : ℕ) (h : History) → Explained h → At k (gaveItem n v) h
+    → (g : History) × (g ⊑ h) × (k ≡ suc (length g)) × MayGive n v g
 explained-item k n v (f ∷ h) x (inl p) = (h, later now, p .0, (subst (λ e. Explained (e ∷ h) → MayGive n v h) (p .1) (λ y. y .0)) x)
 explained-item k n v (f ∷ h) x (inr a) = let r = explained-item k n v h (explained-before f h x) a in (r .0, later (r .1), r .2, r .3)
 

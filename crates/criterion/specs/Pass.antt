@@ -27,7 +27,8 @@ leaves mark given (deq d ∷ cs) = leaves mark given cs
 -- before the mark; its start moves the mark.
 abbrev pub giving : (n v k : ℕ) → (mark : ℕ) → (given : List ℕ) → (ℕ → List ℕ → Bool) → List Enqueue → Bool
 giving n v k mark given on [] = false
-giving n v k mark given on (x ∷ xs) = eqb (x .value) v && not (has n given) && leb (x .start) k && past mark x && on (max mark (x .start)) (n ∷ given)
+giving n v k mark given on (x ∷ xs) =
+    eqb (x .value) v && not (has n given) && leb (x .start) k && past mark x && on (max mark (x .start)) (n ∷ given)
 
 -- An empty answer: the dequeue's start, event s, moves the mark.
 abbrev pub answering : List Call → Answer → (s k : ℕ) → (mark : ℕ) → (given : List ℕ) → (ℕ → List ℕ → Bool) → Bool

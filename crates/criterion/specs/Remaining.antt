@@ -58,7 +58,9 @@ module _ (h : History) (w : wellFormed h ≡ true) where
     where
       at : (c : Call) → Member c (calls h) → gives n c ≡ true → Taken n h
       at (enq x) m g = absurd (false≢true g)
-      at (deq d) m g = let r = is-number n (d .answer) g in when-taken _ n (r .0) h (gave-when h w d m (item n (r .0)) (r .1) item-not-nothing)
+      at (deq d) m g =
+          let r = is-number n (d .answer) g in
+          when-taken _ n (r .0) h (gave-when h w d m (item n (r .0)) (r .1) item-not-nothing)
 
 -- an enqueue left
 abbrev IsLeft : List Call → Call → Enqueue → Type 0
@@ -70,7 +72,8 @@ is-left cs (enq y) x m = go (eqb (y .end) 0) (any (gives (y .number)) cs) refl r
     go : (a b : Bool) → eqb (y .end) 0 ≡ a → any (gives (y .number)) cs ≡ b → Member x (cond (a || b) [] (y ∷ [])) → IsLeft cs (enq y) x
     go true b p q k = absurd k
     go false true p q k = absurd k
-    go false false p q (inl e) = (ap enq (sym e), λ z. eqb-false _ _ p (ap (λ (z : Enqueue). z .end) (sym e) ∙ z), subst (λ z. any (gives (z .number)) cs ≡ false) (sym e) q)
+    go false false p q (inl e) =
+        (ap enq (sym e), λ z. eqb-false _ _ p (ap (λ (z : Enqueue). z .end) (sym e) ∙ z), subst (λ z. any (gives (z .number)) cs ≡ false) (sym e) q)
 
 is-one : (cs : List Call) (R : Enqueue → Enqueue → Type 0) (c : Call) → Pairwise R (ifLeft cs c)
 is-one cs R (enq x) = go (eqb (x .end) 0 || any (gives (x .number)) cs)

@@ -36,18 +36,27 @@ clears-nothing [] = refl
 clears-nothing (d ∷ ds) = refl
 
 -- What is not taken before the next empty answer had not ended when an earlier dequeue started.
-waits : (s : ℕ) (ds : List Dequeue) (q : List Enqueue) (x : Enqueue) (p r : List Enqueue) → All (λ d. s ≤ d .start) ds → Serves ds (q ++ (x ∷ p)) r → clears ds (q ++ (x ∷ [])) ≡ false → All (Lasts s) (x ∷ p)
+waits :
+    (s : ℕ) (ds : List Dequeue) (q : List Enqueue) (x : Enqueue) (p r : List Enqueue) → All (λ d. s ≤ d .start) ds
+    → Serves ds (q ++ (x ∷ p)) r → clears ds (q ++ (x ∷ [])) ≡ false → All (Lasts s) (x ∷ p)
 waits s [] q x p r a v c = absurd (true≢false c)
 waits s (d ∷ ds) [] x p r a v c = go (d .answer) v c
   where
-    go : (b : Answer) → Serve b (d .start) (d .end) (x ∷ p) (λ z. Serves ds z r) → (isItem b && clears ds []) ≡ false → All (Lasts s) (x ∷ p)
+    go :
+        (b : Answer) → Serve b (d .start) (d .end) (x ∷ p) (λ z. Serves ds z r) → (isItem b && clears ds []) ≡ false
+        → All (Lasts s) (x ∷ p)
     go (item n w) u e = absurd (true≢false (sym (clears-nothing ds) ∙ e))
     go empty u e = all-map _ _ (x ∷ p) (λ y f z l. f z (let b = a .0 in omega arith)) (u .0)
 waits s (d ∷ ds) (y ∷ q) x p r a v c = go (d .answer) v c (waits s ds q x p r (a .1))
   where
-    go : (b : Answer) → Serve b (d .start) (d .end) (y ∷ q ++ (x ∷ p)) (λ z. Serves ds z r) → (isItem b && clears ds (q ++ (x ∷ []))) ≡ false → (Serves ds (q ++ (x ∷ p)) r → clears ds (q ++ (x ∷ [])) ≡ false → All (Lasts s) (x ∷ p)) → All (Lasts s) (x ∷ p)
+    go :
+        (b : Answer) → Serve b (d .start) (d .end) (y ∷ q ++ (x ∷ p)) (λ z. Serves ds z r)
+        → (isItem b && clears ds (q ++ (x ∷ []))) ≡ false
+        → (Serves ds (q ++ (x ∷ p)) r → clears ds (q ++ (x ∷ [])) ≡ false → All (Lasts s) (x ∷ p)) → All (Lasts s) (x ∷ p)
     go (item n w) u e ih = ih (u .3) e
-    go empty u e ih = all-map (Lasts (d .start)) (Lasts s) (x ∷ p) (λ y f z l. f z (let b = a .0 in omega arith)) (all-right (Lasts (d .start)) (y ∷ q) (x ∷ p) (u .0))
+    go empty u e ih =
+        all-map (Lasts (d .start)) (Lasts s) (x ∷ p) (λ y f z l. f z (let b = a .0 in omega arith))
+        (all-right (Lasts (d .start)) (y ∷ q) (x ∷ p) (u .0))
 
 -- enqueues in an order that keeps to their times
 abbrev pub InLine : List Enqueue → Type 0
@@ -68,7 +77,9 @@ module _ (d : Dequeue) (ds : List Dequeue) (r : List Enqueue) where
   none-before p a = all-map (Lasts (d .start)) (λ y. Precedes (enq y) (deq d) → ⊥) p (λ y g o. g (o .0) (o .1)) a
 
   -- it comes before the enqueues p
-  goes : Sound → (q p : List Enqueue) → InLine p → Serves (d ∷ ds) (q ++ p) r → clears (d ∷ ds) q ≡ true → All (Lasts (d .start)) p → (q ≡ [] → isItem (d .answer) ≡ true → ⊥) → Fits (d ∷ ds) q p r (deq d ∷ place ds (behind q) p)
+  goes :
+      Sound → (q p : List Enqueue) → InLine p → Serves (d ∷ ds) (q ++ p) r → clears (d ∷ ds) q ≡ true → All (Lasts (d .start)) p
+      → (q ≡ [] → isItem (d .answer) ≡ true → ⊥) → Fits (d ∷ ds) q p r (deq d ∷ place ds (behind q) p)
   goes ih [] p t v c a f = go (d .answer) refl v
     where
       go : (b : Answer) → d .answer ≡ b → ServeWith b p → Fits (d ∷ ds) [] p r (deq d ∷ place ds [] p)
@@ -76,7 +87,9 @@ module _ (d : Dequeue) (ds : List Dequeue) (r : List Enqueue) where
       go empty e v = find-none e (none-before p a) (ih [] p t (v .1) (clears-nothing ds))
   goes ih (y ∷ q) p t v c a f = go (d .answer) refl v c
     where
-      go : (b : Answer) → d .answer ≡ b → ServeWith b (y ∷ (q ++ p)) → (isItem b && clears ds q) ≡ true → Fits (d ∷ ds) (y ∷ q) p r (deq d ∷ place ds q p)
+      go :
+          (b : Answer) → d .answer ≡ b → ServeWith b (y ∷ (q ++ p)) → (isItem b && clears ds q) ≡ true
+          → Fits (d ∷ ds) (y ∷ q) p r (deq d ∷ place ds q p)
       go (item n w) e v c = give {d = d} {x = y} (cc (e, v .0, v .1)) (none-before p a) (ih q p t (v .3) c)
       go empty e v c = absurd (false≢true c)
 
@@ -89,7 +102,9 @@ module _ (d : Dequeue) (ds : List Dequeue) (r : List Enqueue) where
       go empty v i = false≢true i
   finds-at-end (y ∷ q) v e i = let z : _≡_ {A = ℕ} 0 1 = cc in omega arith
 
-  finds : (q : List Enqueue) (x : Enqueue) (p : List Enqueue) → Serves (d ∷ ds) (q ++ (x ∷ p)) r → MayStand q x ≡ false → q ≡ [] → isItem (d .answer) ≡ true → ⊥
+  finds :
+      (q : List Enqueue) (x : Enqueue) (p : List Enqueue) → Serves (d ∷ ds) (q ++ (x ∷ p)) r → MayStand q x ≡ false → q ≡ []
+      → isItem (d .answer) ≡ true → ⊥
   finds [] x p v c e i = go (d .answer) v i c
     where
       go : (b : Answer) → ServeWith b (x ∷ p) → isItem b ≡ true → (leb (x .start) (d .end) && (isItem b && clears ds [])) ≡ false → ⊥
@@ -99,7 +114,9 @@ module _ (d : Dequeue) (ds : List Dequeue) (r : List Enqueue) where
 
   module _ (forward : d .start < d .end) (after : All (λ e. d .start ≤ e .start) ds) where
     -- an enqueue that may not stand before it, and those behind that one, had not ended when it started
-    lasts : (q : List Enqueue) (x : Enqueue) (p : List Enqueue) → InLine (x ∷ p) → Serves (d ∷ ds) (q ++ (x ∷ p)) r → MayStand q x ≡ false → All (Lasts (d .start)) (x ∷ p)
+    lasts :
+        (q : List Enqueue) (x : Enqueue) (p : List Enqueue) → InLine (x ∷ p) → Serves (d ∷ ds) (q ++ (x ∷ p)) r
+        → MayStand q x ≡ false → All (Lasts (d .start)) (x ∷ p)
     lasts q x p t v c = go (leb (x .start) (d .end)) refl c
       where
         go : (b : Bool) → leb (x .start) (d .end) ≡ b → (b && clears (d ∷ ds) (q ++ (x ∷ []))) ≡ false → All (Lasts (d .start)) (x ∷ p)
@@ -108,18 +125,26 @@ module _ (d : Dequeue) (ds : List Dequeue) (r : List Enqueue) where
             let l = leb-false (x .start) (d .end) e in
             (λ z o. let a = t .1 .0 z in omega arith, all-map _ (Lasts (d .start)) p (λ y g z o. g .0 (z, omega arith)) (t .0 .0))
 
-    fits-fill : Sound → (p q : List Enqueue) → InLine p → Serves (d ∷ ds) (q ++ p) r → clears (d ∷ ds) q ≡ true → Fits (d ∷ ds) q p r (fill d ds (place ds) q p)
+    fits-fill :
+        Sound → (p q : List Enqueue) → InLine p → Serves (d ∷ ds) (q ++ p) r → clears (d ∷ ds) q ≡ true
+        → Fits (d ∷ ds) q p r (fill d ds (place ds) q p)
     fits-fill ih [] q t v c = goes ih q [] t v c tt (finds-at-end q v)
-    fits-fill ih (x ∷ p) q t v c = go (MayStand q x) refl (λ e. fits-fill ih p (q ++ (x ∷ [])) (t .0 .1, t .1 .1) (rw append-assoc v) (and-eq-true-iff (leb (x .start) (d .end)) _ .0 e .1))
+    fits-fill ih (x ∷ p) q t v c =
+        go (MayStand q x) refl
+        (λ e. fits-fill ih p (q ++ (x ∷ [])) (t .0 .1, t .1 .1) (rw append-assoc v) (and-eq-true-iff (leb (x .start) (d .end)) _ .0 e .1))
       where
         go :
-            (b : Bool) → MayStand q x ≡ b → (MayStand q x ≡ true → Fits (d ∷ ds) (q ++ (x ∷ [])) p r (fill d ds (place ds) (q ++ (x ∷ [])) p))
+            (b :
+            Bool) → MayStand q x ≡ b → (MayStand q x ≡ true
+            → Fits (d ∷ ds) (q ++ (x ∷ [])) p r (fill d ds (place ds) (q ++ (x ∷ [])) p))
             → Fits (d ∷ ds) q (x ∷ p) r (elim b as (λ _. List Call) [ true ↦ enq x ∷ fill d ds (place ds) (q ++ (x ∷ [])) p | false ↦ deq d ∷ place ds (behind q) (x ∷ p) ])
         go true e next = put (leb-true _ _ (and-eq-true-iff (leb (x .start) (d .end)) _ .0 e .0)) (next e)
         go false e next = goes ih q (x ∷ p) t v c (lasts q x p t v e) (finds q x p v e)
 
 -- Where the dequeues serve the enqueues, the order fits.
-pub place-fits : (ds : List Dequeue) (q p r : List Enqueue) → Pairwise Next ds → All (λ d. (d .end ≢ 0) × (d .start < d .end)) ds → InLine p → Serves ds (q ++ p) r → clears ds q ≡ true → Fits ds q p r (place ds q p)
+pub place-fits :
+    (ds : List Dequeue) (q p r : List Enqueue) → Pairwise Next ds → All (λ d. (d .end ≢ 0) × (d .start < d .end)) ds → InLine p
+    → Serves ds (q ++ p) r → clears ds q ≡ true → Fits ds q p r (place ds q p)
 place-fits [] q p r n f t v c = subst (λ z. Fits [] q p z (map enq p)) v done
 place-fits (d ∷ ds) q p r n f t v c =
     fits-fill d ds r (f .0 .1) (all-map (Next d) _ ds (λ e l. let o = f .0 .1 in omega arith) (n .0)) (λ q p. place-fits ds q p r (n .1) (f .1)) p q t v c

@@ -68,7 +68,9 @@ module _ (h : History) (w : wellFormed h ≡ true) where
     is-rest = left-items rest (all-map _ _ rest (λ i s. s .0) (k .untaken))
 
     left-untaken : (y : Enqueue) → Member y rests → Taken (y .number) h → ⊥
-    left-untaken y m = all-at (λ i. Started (i .number) (i .value) h × (Taken (i .number) h → ⊥)) rest (k .untaken) (itemOf y) (subst (Member (itemOf y)) is-rest (in-map itemOf y rests m)) .1
+    left-untaken y m =
+        all-at (λ i. Started (i .number) (i .value) h × (Taken (i .number) h → ⊥)) rest (k .untaken) (itemOf y)
+        (subst (Member (itemOf y)) is-rest (in-map itemOf y rests m)) .1
 
     left-timely : Pairwise (λ x y. Timely (enq x) (enq y)) rests
     left-timely =
@@ -83,14 +85,20 @@ module _ (h : History) (w : wellFormed h ≡ true) where
 
     module _ (o : Orderly (calls h)) where
       from-line : (ds : List Dequeue) (y : Enqueue) → Member y (taken (calls h) ds ++ rests) → Member (enq y) (calls h)
-      from-line ds y m = elim (in-either y (taken (calls h) ds) rests m) [ inl l ↦ taken-by (calls h) ds y l .member | inr l ↦ left-from rest y l ]
+      from-line ds y m =
+          elim (in-either y (taken (calls h) ds) rests m) [
+            | inl l ↦ taken-by (calls h) ds y l .member
+            | inr l ↦ left-from rest y l
+          ]
 
       -- answered dequeues of the history, one after the other
       abbrev InTurn : List Dequeue → Type 0
       InTurn ds = All (λ d. Member (deq d) (calls h) × (d .answer ≢ nothing)) ds × Pairwise Next ds
 
       -- what is taken after dequeue d, or left, has not been taken up to then
-      untaken-yet : (d : Dequeue) (ds : List Dequeue) → InTurn (d ∷ ds) → (y : Enqueue) → Member y (taken (calls h) ds ++ rests) → TakenBefore (y .number) (suc (d .end)) (calls h) → ⊥
+      untaken-yet :
+          (d : Dequeue) (ds : List Dequeue) → InTurn (d ∷ ds) → (y : Enqueue) → Member y (taken (calls h) ds ++ rests)
+          → TakenBefore (y .number) (suc (d .end)) (calls h) → ⊥
       untaken-yet d ds t y m b =
           elim (in-either y (taken (calls h) ds) rests m)
           [ inl l ↦ later (taken-by (calls h) ds y l) | inr l ↦ left-untaken y l (taken-of _ _ b) ]
@@ -105,14 +113,18 @@ module _ (h : History) (w : wellFormed h ≡ true) where
               f .untaken (record { by = b .by; value = b .value; member = b .member; gives = b .gives; before = let l = b .before in omega arith })
 
       sooner : (m i j : ℕ) → i ≤ j → TakenBefore m i (calls h) → TakenBefore m j (calls h)
-      sooner m i j l b = record { by = b .by; value = b .value; member = b .member; gives = b .gives; before = let r = b .before in omega arith }
+      sooner m i j l b =
+          record { by = b .by; value = b .value; member = b .member; gives = b .gives; before = let r = b .before in omega arith }
 
       -- the dequeues serve the items that they give, then the rest
       serves : (ds : List Dequeue) → InTurn ds → Serves ds (taken (calls h) ds ++ rests) rests
       serves [] t = refl
       serves (d ∷ ds) t = go (d .answer) refl (o d (t .0 .0 .0)) (serves ds (t .0 .1, t .1 .1))
         where
-          go : (a : Answer) → d .answer ≡ a → Fair a (d .start) (d .end) (calls h) → Serves ds (taken (calls h) ds ++ rests) rests → Serve a (d .start) (d .end) ((lookAnswer (calls h) a ++ taken (calls h) ds) ++ rests) (λ z. Serves ds z rests)
+          go :
+              (a : Answer) → d .answer ≡ a → Fair a (d .start) (d .end) (calls h)
+              → Serves ds (taken (calls h) ds ++ rests) rests
+              → Serve a (d .start) (d .end) ((lookAnswer (calls h) a ++ taken (calls h) ds) ++ rests) (λ z. Serves ds z rests)
           go nothing e f s = absurd (t .0 .0 .1 e)
           go (item n v) e f s = rw (looks (f .given) (f .member) n (f .number-is)) (f .number-is, f .value-is, f .started, s)
           go empty e f s = (
@@ -126,7 +138,10 @@ module _ (h : History) (w : wellFormed h ≡ true) where
       timely-line [] t = left-timely
       timely-line (d ∷ ds) t = go (d .answer) refl (o d (t .0 .0 .0)) (timely-line ds (t .0 .1, t .1 .1))
         where
-          go : (a : Answer) → d .answer ≡ a → Fair a (d .start) (d .end) (calls h) → Pairwise (λ x y. Timely (enq x) (enq y)) (taken (calls h) ds ++ rests) → Pairwise (λ x y. Timely (enq x) (enq y)) ((lookAnswer (calls h) a ++ taken (calls h) ds) ++ rests)
+          go :
+              (a : Answer) → d .answer ≡ a → Fair a (d .start) (d .end) (calls h)
+              → Pairwise (λ x y. Timely (enq x) (enq y)) (taken (calls h) ds ++ rests)
+              → Pairwise (λ x y. Timely (enq x) (enq y)) ((lookAnswer (calls h) a ++ taken (calls h) ds) ++ rests)
           go nothing e f p = p
           go (item n v) e f p =
               rw (looks (f .given) (f .member) n (f .number-is)) (
@@ -198,7 +213,9 @@ module _ (h : History) (w : wellFormed h ≡ true) where
               let r = from-map itemOf (itemOf x) rests (subst (Member (itemOf x)) (sym is-rest) l) in
               in-right x (taken (calls h) dequeued) rests
               (subst (λ y. Member y rests) (same-number h w (r .0) x (left-from rest (r .0) (r .1)) m (ap (λ (i : Item). i .number) (sym (r .2)))) (r .1))
-      ended-there (deq d) m z = fits-dequeue fits d (answered-in (calls h) d m (λ e. subst (λ a. Gave a (d .end) h) e (dequeue-tells h w d m .ended z)))
+      ended-there (deq d) m z =
+          fits-dequeue fits d
+          (answered-in (calls h) d m (λ e. subst (λ a. Gave a (d .end) h) e (dequeue-tells h w d m .ended z)))
 
       they-are-calls : (c : Call) → Among dequeued line c → Member c (calls h)
       they-are-calls (enq x) m = from-line dequeued x m

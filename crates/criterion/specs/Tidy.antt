@@ -26,10 +26,13 @@ pub record EnqueueTold (x : Enqueue) (h : History) : Type 0 where
   pub within : x .end ≤ length h
 
 tells-on : {x : Enqueue} {h : History} (f : Event) → EnqueueTold x h → EnqueueTold x (f ∷ h)
-tells-on f r = record { started = inr (r .started); ended = λ z. inr (r .ended z); forward = r .forward; within = let l = r .within in omega arith }
+tells-on f r =
+    record { started = inr (r .started); ended = λ z. inr (r .ended z); forward = r .forward; within = let l = r .within in omega arith }
 
 -- the enqueue under way of a thread is the one whose end comes
-ends-its-own : (t n v : ℕ) (h : History) → wellFormed (enqueueEnded t n v ∷ h) ≡ true → (x : Enqueue) → Member (enq x) (calls h) → x .thread ≡ t → x .end ≡ 0 → (x .number ≡ n) × (x .value ≡ v)
+ends-its-own :
+    (t n v : ℕ) (h : History) → wellFormed (enqueueEnded t n v ∷ h) ≡ true → (x : Enqueue) → Member (enq x) (calls h)
+    → x .thread ≡ t → x .end ≡ 0 → (x .number ≡ n) × (x .value ≡ v)
 ends-its-own t n v h w x m p q =
     let r = has-its-start t n v (calls h) (head-follows (enqueueEnded t n v) h w) in
     let one = open-is-current h (tail-formed (enqueueEnded t n v) h w) x m q in
@@ -53,8 +56,11 @@ enqueue-tells (enqueueEnded t n v ∷ h) w x m =
     ]
 enqueue-tells (dequeueStarted ∷ h) w x m =
     elim (in-snoc (enq x) (calls h) _ m) [ inl l ↦ tells-on dequeueStarted (enqueue-tells h (tail-formed dequeueStarted h w) x l) | inr e ↦ absurd (enq-not-deq e) ]
-enqueue-tells (gaveItem n v ∷ h) w x m = tells-on (gaveItem n v) (enqueue-tells h (tail-formed (gaveItem n v) h w) x (enqueue-in-answered _ (item n v) (calls h) x m))
-enqueue-tells (gaveEmpty ∷ h) w x m = tells-on gaveEmpty (enqueue-tells h (tail-formed gaveEmpty h w) x (enqueue-in-answered _ empty (calls h) x m))
+enqueue-tells (gaveItem n v ∷ h) w x m =
+    tells-on (gaveItem n v)
+    (enqueue-tells h (tail-formed (gaveItem n v) h w) x (enqueue-in-answered _ (item n v) (calls h) x m))
+enqueue-tells (gaveEmpty ∷ h) w x m =
+    tells-on gaveEmpty (enqueue-tells h (tail-formed gaveEmpty h w) x (enqueue-in-answered _ empty (calls h) x m))
 
 -- what a dequeue tells
 abbrev pub Gave : Answer → ℕ → History → Type 0
@@ -77,7 +83,10 @@ told-on : {d : Dequeue} {h : History} (f : Event) → DequeueTold d h → Dequeu
 told-on {d} {h} f r = record { started = inr (r .started); ended = λ z. gave-on (d .answer) (d .end) f h (r .ended z); forward = r .forward; within = let l = r .within in omega arith; unanswered = r .unanswered }
 
 -- a dequeue after one has been answered
-told-answered : (a : Answer) (f : Event) (h : History) (d : Dequeue) → Gave a (suc (length h)) (f ∷ h) → ((b : Dequeue) → Member (deq b) (calls h) → DequeueTold b h) → Member (deq d) (map (endDequeue (suc (length h)) a) (calls h)) → DequeueTold d (f ∷ h)
+told-answered :
+    (a : Answer) (f : Event) (h : History) (d : Dequeue) → Gave a (suc (length h)) (f ∷ h)
+    → ((b : Dequeue) → Member (deq b) (calls h) → DequeueTold b h)
+    → Member (deq d) (map (endDequeue (suc (length h)) a) (calls h)) → DequeueTold d (f ∷ h)
 told-answered a f h d g ih m =
     elim (dequeue-in-answered _ a (calls h) d m) [
       | inl l ↦ told-on f (ih d (l .0))
@@ -89,23 +98,27 @@ told-answered a f h d g ih m =
 pub dequeue-tells : (h : History) → wellFormed h ≡ true → (d : Dequeue) → Member (deq d) (calls h) → DequeueTold d h
 dequeue-tells (enqueueStarted t n v ∷ h) w d m =
     elim (in-snoc (deq d) (calls h) _ m) [ inl l ↦ told-on (enqueueStarted t n v) (dequeue-tells h (tail-formed (enqueueStarted t n v) h w) d l) | inr e ↦ absurd (enq-not-deq (sym e)) ]
-dequeue-tells (enqueueEnded t n v ∷ h) w d m = told-on (enqueueEnded t n v) (dequeue-tells h (tail-formed (enqueueEnded t n v) h w) d (dequeue-in-ended t _ (calls h) d m))
+dequeue-tells (enqueueEnded t n v ∷ h) w d m =
+    told-on (enqueueEnded t n v) (dequeue-tells h (tail-formed (enqueueEnded t n v) h w) d (dequeue-in-ended t _ (calls h) d m))
 dequeue-tells (dequeueStarted ∷ h) w d m =
     elim (in-snoc (deq d) (calls h) _ m) [
       | inl l ↦ told-on dequeueStarted (dequeue-tells h (tail-formed dequeueStarted h w) d l)
       | inr e ↦ subst (λ y. DequeueTold y (dequeueStarted ∷ h)) (sym (same-deq e)) (record { started = inl (refl, refl); ended = λ z. absurd (z refl); forward = λ z. absurd (z refl); within = omega arith; unanswered = λ z. refl })
     ]
-dequeue-tells (gaveItem n v ∷ h) w d m = told-answered (item n v) (gaveItem n v) h d (inl (refl, refl)) (dequeue-tells h (tail-formed (gaveItem n v) h w)) m
+dequeue-tells (gaveItem n v ∷ h) w d m =
+    told-answered (item n v) (gaveItem n v) h d (inl (refl, refl)) (dequeue-tells h (tail-formed (gaveItem n v) h w)) m
 dequeue-tells (gaveEmpty ∷ h) w d m = told-answered empty gaveEmpty h d (inl (refl, refl)) (dequeue-tells h (tail-formed gaveEmpty h w)) m
 
 -- Every event has its call.
-pub enqueue-of-start : (k t n v : ℕ) (h : History) → At k (enqueueStarted t n v) h → (j : ℕ) × Member (enq (closed j (opened t n v k))) (calls h)
+pub enqueue-of-start :
+    (k t n v : ℕ) (h : History) → At k (enqueueStarted t n v) h → (j : ℕ) × Member (enq (closed j (opened t n v k))) (calls h)
 enqueue-of-start k t n v (f ∷ h) (inl p) =
     (0, subst (λ e. Member (enq (opened t n v k)) (calls (e ∷ h))) (p .1) (in-right _ (calls h) _ (inl (ap (λ j. enq (opened t n v j)) (p .0)))))
 enqueue-of-start k t n v (f ∷ h) (inr a) = let r = enqueue-of-start k t n v h a in enqueue-goes-on f h _ (r .1)
 
 pub dequeue-of-start : (k : ℕ) (h : History) → At k dequeueStarted h → (d : Dequeue) × Member (deq d) (calls h) × (d .start ≡ k)
-dequeue-of-start k (f ∷ h) (inl p) = (asked k, subst (λ e. Member (deq (asked k)) (calls (e ∷ h))) (p .1) (in-right _ (calls h) _ (inl (ap (λ j. deq (asked j)) (p .0)))), refl)
+dequeue-of-start k (f ∷ h) (inl p) =
+    (asked k, subst (λ e. Member (deq (asked k)) (calls (e ∷ h))) (p .1) (in-right _ (calls h) _ (inl (ap (λ j. deq (asked j)) (p .0)))), refl)
 dequeue-of-start k (f ∷ h) (inr a) =
     let r = dequeue-of-start k h a in
     let s = dequeue-goes-on f h (r .0) (r .1) in
@@ -130,7 +143,9 @@ abbrev DequeueEnds : ℕ → Answer → History → Type 0
 DequeueEnds k a h = (d : Dequeue) × Member (deq d) (calls h) × (d .end ≡ k) × (d .answer ≡ a)
 
 module _ (a : Answer) (f : Event) (h : History) where
-  ends-now : follows f (calls h) ≡ any dequeues (calls h) → calls (f ∷ h) ≡ map (endDequeue (suc (length h)) a) (calls h) → wellFormed (f ∷ h) ≡ true → DequeueEnds (suc (length h)) a (f ∷ h)
+  ends-now :
+      follows f (calls h) ≡ any dequeues (calls h) → calls (f ∷ h) ≡ map (endDequeue (suc (length h)) a) (calls h)
+      → wellFormed (f ∷ h) ≡ true → DequeueEnds (suc (length h)) a (f ∷ h)
   ends-now e q w =
       let r = has-its-dequeue (calls h) (sym e ∙ head-follows f h w) in
       (answered (suc (length h)) a (r .0), subst (Member _) (sym q) (dequeue-ends _ a (calls h) (r .0) (r .1) (r .2)), refl, refl)
@@ -142,7 +157,8 @@ pub dequeue-of-end : (k : ℕ) (a : Answer) (h : History) → wellFormed h ≡ t
 dequeue-of-end k (item n v) (f ∷ h) w (inl p) =
     subst (λ e. wellFormed (e ∷ h) ≡ true → DequeueEnds k (item n v) (e ∷ h)) (p .1)
     (rw (p .0) (ends-now (item n v) (gaveItem n v) h refl refl)) w
-dequeue-of-end k (item n v) (f ∷ h) w (inr g) = ended-on (item n v) f h k (at-most k _ h g .0) (dequeue-of-end k (item n v) h (tail-formed f h w) g)
+dequeue-of-end k (item n v) (f ∷ h) w (inr g) =
+    ended-on (item n v) f h k (at-most k _ h g .0) (dequeue-of-end k (item n v) h (tail-formed f h w) g)
 dequeue-of-end k empty (f ∷ h) w (inl p) =
     subst (λ e. wellFormed (e ∷ h) ≡ true → DequeueEnds k empty (e ∷ h)) (p .1) (rw (p .0) (ends-now empty gaveEmpty h refl refl)) w
 dequeue-of-end k empty (f ∷ h) w (inr g) = ended-on empty f h k (at-most k _ h g .0) (dequeue-of-end k empty h (tail-formed f h w) g)

@@ -163,8 +163,11 @@ before-on a b gaveEmpty h s = s
 at-shorter : (k : ℕ) (e f : Event) (h : History) → At k e (f ∷ h) → k < suc (length h) → At k e h
 at-shorter k e f h a l = at-earlier {h = f ∷ h} (later now) k e a (omega arith)
 
-pub when-before : (i t a v j u b w : ℕ) (h : History) → At i (enqueueEnded t a v) h → At j (enqueueStarted u b w) h → i < j → EndedBefore a b h
-when-before i t a v j u b w (f ∷ h) p (inl q) l = subst (λ e. EndedBefore a b (e ∷ h)) (q .1) (inl (refl, when-ended i t a v h (at-shorter i _ f h p (omega arith))))
+pub when-before :
+    (i t a v j u b w : ℕ) (h : History) → At i (enqueueEnded t a v) h → At j (enqueueStarted u b w) h → i < j
+    → EndedBefore a b h
+when-before i t a v j u b w (f ∷ h) p (inl q) l =
+    subst (λ e. EndedBefore a b (e ∷ h)) (q .1) (inl (refl, when-ended i t a v h (at-shorter i _ f h p (omega arith))))
 when-before i t a v j u b w (f ∷ h) p (inr q) l =
     before-on a b f h (when-before i t a v j u b w h (at-shorter i _ f h p (let c = at-most j _ h q in omega arith)) q l)
 
@@ -186,8 +189,10 @@ before-dequeue-on a dequeueStarted h e s = e
 before-dequeue-on a (gaveItem m w) h e s = s
 before-dequeue-on a gaveEmpty h e s = s
 
-pub when-before-dequeue : (i t a v j : ℕ) (h : History) → At i (enqueueEnded t a v) h → At j dequeueStarted h → i < j → EndedBeforeDequeue a h
-when-before-dequeue i t a v j (f ∷ h) p (inl q) l = subst (λ e. EndedBeforeDequeue a (e ∷ h)) (q .1) (when-ended i t a v h (at-shorter i _ f h p (omega arith)))
+pub when-before-dequeue :
+    (i t a v j : ℕ) (h : History) → At i (enqueueEnded t a v) h → At j dequeueStarted h → i < j → EndedBeforeDequeue a h
+when-before-dequeue i t a v j (f ∷ h) p (inl q) l =
+    subst (λ e. EndedBeforeDequeue a (e ∷ h)) (q .1) (when-ended i t a v h (at-shorter i _ f h p (omega arith)))
 when-before-dequeue i t a v j (f ∷ h) p (inr q) l =
     let r = at-shorter i _ f h p (let c = at-most j _ h q in omega arith) in
     before-dequeue-on a f h (when-ended i t a v h r) (when-before-dequeue i t a v j h r q l)
