@@ -12,8 +12,9 @@ use Rattle.history.specs.Lists.{All}
 use Rattle.rules.specs.Sizes.{Sizes}
 use Rattle.rules.specs.Cell.{Reader, Write, after, place, used, phase, call, value, position, held, producer}
 use Rattle.rules.specs.Range.{producerSorts}
-use Rattle.rules.specs.Free.{free}
+use Rattle.rules.specs.Free.{free, Choice}
 use Rattle.rules.specs.Rule.{going}
+use Rattle.rules.specs.Producer.{claimRecord, claimAhead}
 use Rattle.rules.specs.Request.{step}
 use Rattle.rules.specs.InRange.{InSort}
 use Rattle.model.specs.State.{Producer, State}
@@ -22,9 +23,9 @@ use Rattle.memory.specs.Memory.{rowOf, Memory, held-is}
 use Rattle.memory.specs.Frames.{OthersKept, others-kept}
 use Rattle.memory.specs.Claiming.{claimWrites, free-has, claim-keeps, not-held}
 use Rattle.ordering.specs.View.{Ghost, placesOf, placeOf, producerAt, producersOf, view, cellOf}
-use Rattle.ordering.specs.Good.{Good, Goes}
+use Rattle.ordering.specs.Good.{Good, Goes, Fine}
 use Rattle.ordering.specs.Rows.{OfSorts, row-of}
-use Rattle.ordering.specs.Steps.{producers-after, goes-on-same, seen-at}
+use Rattle.ordering.specs.Steps.{producers-after, goes-on-same, own-words, seen-at}
 use Rattle.ordering.specs.Records.{record-goes, place-same, consumer-same, threads-seen, agrees-kept}
 
 module _ (z : Sizes) (σ : Reader) (γ : Ghost) (good : Good z σ γ) (t : ℕ) (a-producer : (1 ≤ t) × (t ≤ z .P)) where
@@ -87,3 +88,21 @@ module _ (z : Sizes) (σ : Reader) (γ : Ghost) (good : Good z σ γ) (t : ℕ) 
           ∙ same-seen (σ (call t)) (σ (value t)) (σ (position t)) (placeOf (placesOf σ′) (σ (held t)))
           ∙ ap (producerAt p (σ (call t)) (σ (value t)) (σ (position t)))
           (place-same σ σ′ r places (σ (held t)) (not-held z σ (γ .shape) m t r p′ a-producer fits is-free holds-one t))
+
+  -- 4. Claim a record; to 5. Refusal 8: no record free.
+  pub claim-record-fine : σ (phase t) ≡ 4 → (c : ℕ) → Choice z σ c → Fine z σ γ (step t) (claimRecord z σ t c)
+  unfolding claimRecord
+  claim-record-fine e zero none = ((λ q. omega arith), (λ q. omega arith))
+  claim-record-fine e (suc r) one =
+      let old = own-words z σ γ good t a-producer 4 e in
+      claims 4 5 r e (omega arith) (one .0) (one .1) (λ n v L k. refl) (omega arith)
+      (old .0, (tt, (old .1 .1 .0, (old .1 .1 .1 .0, (rw self (one .0), (old .1 .1 .1 .1 .1 .0, (old .1 .1 .1 .1 .1 .1 .0, tt)))))))
+
+  -- 10. If none is free, end; else claim; to 11.
+  pub claim-ahead-fine : σ (phase t) ≡ 10 → (c : ℕ) → Choice z σ c → Fine z σ γ (step t) (claimAhead z σ t c)
+  unfolding claimAhead
+  claim-ahead-fine e zero none = ?
+  claim-ahead-fine e (suc r) one =
+      let old = own-words z σ γ good t a-producer 10 e in
+      claims 10 11 r e (omega arith) (one .0) (one .1) (λ n v L k. refl) (omega arith)
+      (old .0, (tt, (old .1 .1 .0, (old .1 .1 .1 .0, (rw self (one .0), (old .1 .1 .1 .1 .1 .0, (old .1 .1 .1 .1 .1 .1 .0, tt)))))))

@@ -5,4 +5,5 @@ pub mod Steps
 pub mod Own
 pub mod Walking
 pub mod Records
+pub mod Ends
 pub mod Claims

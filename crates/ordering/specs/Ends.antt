@@ -1,0 +1,54 @@
+-- The end of an enqueue: the event that it adds, and the producer's words, which are zero.
+use mathlib.Core.Path.{_≡_, refl, ap, sym, _∙_, subst}
+use mathlib.Core.Bool.{Bool, true, false, cond}
+use mathlib.Core.List.{List, [], _∷_, _++_}
+use mathlib.Core.Option.{Option, none, some, Option·none-ne-some, Option·some-injective}
+use Prim.Native.Nat.{ℕ, _≤_}
+use native.Mathlib.Omega.{arith}
+use lib.Dec.{eqb}
+use borrow.Author.Tests.{eq-eqb, eqb-true}
+use Rattle.history.specs.Event.{Event, History, enqueueStarted, enqueueEnded, dequeueStarted, gaveItem, gaveEmpty}
+use Rattle.history.specs.Form.{wellFormed}
+use Rattle.history.specs.Linearization.{Item}
+use Rattle.criterion.specs.Explained.{current}
+use Rattle.criterion.specs.Growth.{enqueue-may-end}
+use Rattle.rules.specs.Sizes.{Sizes}
+use Rattle.rules.specs.Cell.{Reader, producer, call, value, phase}
+use Rattle.rules.specs.Play.{endOfEnqueue}
+use Rattle.model.specs.State.{Producer, State, callOf}
+use Rattle.ordering.specs.View.{Ghost, view}
+use Rattle.ordering.specs.Good.{Good}
+
+-- The event that repeats the words of thread t's start is that of the call that it has under way.
+pub repeats-its-start : (t : ℕ) (x : Item) (h : History) → current t h ≡ some x → endOfEnqueue t h ≡ enqueueEnded t (x .number) (x .value) ∷ []
+repeats-its-start t x [] e = absurd (Option·none-ne-some x e)
+repeats-its-start t x (enqueueStarted u n v ∷ h) e = go (eqb u t) refl (repeats-its-start t x h)
+  where
+    go : (b : Bool) → eqb u t ≡ b → (current t h ≡ some x → endOfEnqueue t h ≡ enqueueEnded t (x .number) (x .value) ∷ [])
+        → elim b [ true ↦ enqueueEnded u n v ∷ [] | false ↦ endOfEnqueue t h ] ≡ enqueueEnded t (x .number) (x .value) ∷ []
+    go true q rest =
+        let i : record { number = n; value = v } ≡ x = Option·some-injective _ _ (rw q at e) in
+        λ j. enqueueEnded (eqb-true u t q j) (i j .number) (i j .value) ∷ []
+    go false q rest = rest (rw q at e)
+repeats-its-start t x (enqueueEnded u n v ∷ h) e = go (eqb u t) refl (repeats-its-start t x h)
+  where
+    go : (b : Bool) → eqb u t ≡ b → (current t h ≡ some x → endOfEnqueue t h ≡ enqueueEnded t (x .number) (x .value) ∷ [])
+        → endOfEnqueue t h ≡ enqueueEnded t (x .number) (x .value) ∷ []
+    go true q rest = absurd (Option·none-ne-some x (rw q at e))
+    go false q rest = rest (rw q at e)
+repeats-its-start t x (dequeueStarted ∷ h) e = repeats-its-start t x h e
+repeats-its-start t x (gaveItem n v ∷ h) e = repeats-its-start t x h e
+repeats-its-start t x (gaveEmpty ∷ h) e = repeats-its-start t x h e
+
+module _ (z : Sizes) (σ : Reader) (γ : Ghost) (good : Good z σ γ) (t : ℕ) where
+  -- the call that producer t has under way
+  under-way : (x : Item) → callOf (view σ γ .producer t) ≡ some x → current t (γ .history) ≡ some x
+  under-way x e = good .model .calls .of-producers t ∙ e
+
+  -- what its end adds to the history
+  pub end-formed : (x : Item) → callOf (view σ γ .producer t) ≡ some x → wellFormed (enqueueEnded t (x .number) (x .value) ∷ γ .history) ≡ true
+  end-formed x e = enqueue-may-end (γ .history) (good .formed) t (x .number) (x .value) (under-way x e)
+
+  pub end-adds : (x : Item) → callOf (view σ γ .producer t) ≡ some x
+      → enqueueEnded t (x .number) (x .value) ∷ γ .history ≡ endOfEnqueue t (γ .history) ++ γ .history
+  end-adds x e = ap (λ (h : History). h ++ γ .history) (sym (repeats-its-start t x (γ .history) (under-way x e)))
