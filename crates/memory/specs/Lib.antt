@@ -1,5 +1,6 @@
 pub mod Chain
 pub mod Memory
+pub mod Ends
 pub mod Frames
 pub mod Claiming
 pub mod Linking

@@ -6,8 +6,9 @@ use native.Mathlib.Decide.{ℕ-discrete}
 use native.Mathlib.Omega.{arith}
 use Rattle.rules.specs.Sizes.{Sizes}
 use Rattle.rules.specs.Cell.{Reader, producer, part, entry, tailRecord, headRecord, cursorRecord, foundRecord, place, next, prev, used, claimed, state, held}
-use Rattle.memory.specs.Chain.{Chain, at, at-same, at-other, last-is, chain-kept, chain-grows}
+use Rattle.memory.specs.Chain.{Chain, at, at-other, chain-kept, chain-grows}
 use Rattle.memory.specs.Memory.{Shape, Holdable, Held, Blank, Claimed, ThreadOk, rowOf, Linked, Memory, claimed-is, held-is}
+use Rattle.memory.specs.Ends.{held-last}
 use Rattle.memory.specs.Frames.{held-kept, thread-kept, Untouched, holdable-kept, blank-kept, OthersKept, every-row, outside-kept, apart-kept}
 
 -- What thread t's words are after it has let go of its claim: it holds what it held, or nothing and is idle.
@@ -100,16 +101,6 @@ module _ (z : Sizes) (σ σ′ : Reader) (g : Shape) (m : Memory z σ g) (t h c 
           outside = outside-kept z t σ σ′ a-producer kept (m .outside);
         }
 
-  -- the held record has no next, so it is the last one
-  pub held-last : σ (next h) ≡ 0 → (σ (used h) ≡ 2) × (σ (place h) ≡ g .hi) × (g .at (g .hi) ≡ h)
-  held-last none = go (held-is m t h holds)
-    where
-      go : Holdable (g .lo) σ h → (σ (used h) ≡ 2) × (σ (place h) ≡ g .hi) × (g .at (g .hi) ≡ h)
-      go (inl u) =
-          let e = last-is (omega (arith, m .head-tail, m .tail-last)) (m .chain) h u none in
-          (u, e, ap (g .at) (sym e) ∙ m .chain .only h u .2)
-      go (inr u) = absurd (u .1 none)
-
   module _ (none : σ (next h) ≡ 0)
       (place-c : σ′ (place c) ≡ suc (σ (place h))) (next-c : σ′ (next c) ≡ σ (next c))
       (prev-c : σ′ (prev c) ≡ suc h) (used-c : σ′ (used c) ≡ 2) (next-h : σ′ (next h) ≡ suc c)
@@ -128,13 +119,13 @@ module _ (z : Sizes) (σ σ′ : Reader) (g : Shape) (m : Memory z σ g) (t h c 
     link-holdable x (inl u) = inl (others x (linked-not-c x u) .2 ∙ u)
     link-holdable x (inr u) =
         let n : x ≡ c → ⊥ = held-not-c x (inr u) in
-        let l : σ (used h) ≡ 2 = held-last none .0 in
+        let l : σ (used h) ≡ 2 = held-last m t h holds none .0 in
         let k : x ≡ h → ⊥ = λ e. let w : σ (used x) ≡ σ (used h) = ap (λ (y : ℕ). σ (used y)) e in omega arith in
         inr (others x n .2 ∙ u .0, (λ e. u .1 (sym (nexts x n k) ∙ e)), rw (others x n .0) (u .2))
 
     link-blank : (x : ℕ) → (x ≡ c → ⊥) → Blank (z .N) σ x → Blank (z .N) σ′ x
     link-blank x n b =
-        let l : σ (used h) ≡ 2 = held-last none .0 in
+        let l : σ (used h) ≡ 2 = held-last m t h holds none .0 in
         let k : x ≡ h → ⊥ = λ e. let w : σ (used x) ≡ σ (used h) = ap (λ (y : ℕ). σ (used y)) e in omega (arith, b .claimed-use) in
         record {
           fits = b .fits;
@@ -151,7 +142,7 @@ module _ (z : Sizes) (σ σ′ : Reader) (g : Shape) (m : Memory z σ g) (t h c 
 
     pub link-keeps : Memory z σ′ grown
     link-keeps =
-        let l = held-last none in
+        let l = held-last m t h holds none in
         let span : g .lo ≤ g .hi = omega (arith, m .head-tail, m .tail-last) in
         record {
           head-tail = m .head-tail;

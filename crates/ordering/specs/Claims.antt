@@ -9,15 +9,17 @@ use lib.Dec.{eqb}
 use lib.ListN.{getD}
 use borrow.Author.Tests.{eq-eqb, ne-eqb}
 use Rattle.history.specs.Lists.{All}
+use Rattle.history.specs.Event.{enqueueEnded}
 use Rattle.rules.specs.Sizes.{Sizes}
-use Rattle.rules.specs.Cell.{Reader, Write, after, place, used, phase, call, value, position, held, producer}
+use Rattle.rules.specs.Cell.{Reader, Write, clearProducer, after, place, used, phase, call, value, position, held, producer}
 use Rattle.rules.specs.Range.{producerSorts}
 use Rattle.rules.specs.Free.{free, Choice}
-use Rattle.rules.specs.Rule.{going}
+use Rattle.rules.specs.Rule.{going, ended}
 use Rattle.rules.specs.Producer.{claimRecord, claimAhead}
 use Rattle.rules.specs.Request.{step}
 use Rattle.rules.specs.InRange.{InSort}
-use Rattle.model.specs.State.{Producer, State}
+use Rattle.model.specs.State.{idle, callOf}
+use Rattle.model.specs.Enqueues.{finish-keeps}
 use Rattle.model.specs.Invariant.{Invariant}
 use Rattle.memory.specs.Memory.{rowOf, Memory, held-is}
 use Rattle.memory.specs.Frames.{OthersKept, others-kept}
@@ -26,7 +28,9 @@ use Rattle.ordering.specs.View.{Ghost, placesOf, placeOf, producerAt, pr
 use Rattle.ordering.specs.Good.{Good, Goes, Fine}
 use Rattle.ordering.specs.Rows.{OfSorts, row-of}
 use Rattle.ordering.specs.Steps.{producers-after, goes-on-same, own-words, seen-at}
-use Rattle.ordering.specs.Records.{record-goes, place-same, consumer-same, threads-seen, agrees-kept}
+use Rattle.ordering.specs.Own.{producer-own}
+use Rattle.ordering.specs.Ends.{end-formed, end-adds, idle-in-range, idle-thread, idle-seen}
+use Rattle.ordering.specs.Records.{record-goes, place-same, consumer-same, seen-as, agrees-kept}
 
 module _ (z : Sizes) (σ : Reader) (γ : Ghost) (good : Good z σ γ) (t : ℕ) (a-producer : (1 ≤ t) × (t ≤ z .P)) where
   self : eqb t t ≡ true
@@ -45,7 +49,7 @@ module _ (z : Sizes) (σ : Reader) (γ : Ghost) (good : Good z σ γ) (t : ℕ) 
       (agrees-kept (z .B) (γ .shape .lo) (γ .shape .hi) (γ .shape .at) (γ .entry) (γ .content) (cellOf σ) (cellOf σ′)
       (λ k i j a b. rw (ne-eqb r (γ .shape .at (suc k)) (λ q. unlinked (rw q (m .chain .linked (suc k) a b)))) refl)
       (good .agrees))
-      (threads-seen (goes-on-same (z .B) (view σ γ) t _ seen (good .model))
+      (seen-as (goes-on-same (z .B) (view σ γ) t _ seen (good .model)) refl refl refl
       (producers-after t σ σ′ (others-kept z t σ ws in-sort)
       (λ u n. place-same σ σ′ r places (σ (held u)) (not-held z σ (γ .shape) m t r p′ a-producer fits is-free holds-one u)) _ seen′)
       (sym (consumer-same σ σ′ r (λ k. refl) places unlinked (m .cursor) (m .found))))
@@ -101,7 +105,19 @@ module _ (z : Sizes) (σ : Reader) (γ : Ghost) (good : Good z σ γ) (t : ℕ) 
   -- 10. If none is free, end; else claim; to 11.
   pub claim-ahead-fine : σ (phase t) ≡ 10 → (c : ℕ) → Choice z σ c → Fine z σ γ (step t) (claimAhead z σ t c)
   unfolding claimAhead
-  claim-ahead-fine e zero none = ?
+  claim-ahead-fine e zero none =
+      let row : (k : ℕ) → after σ (clearProducer t ∷ []) (producer t k) ≡ 0 = λ k. rw self refl in
+      let seen = seen-at z σ γ good t a-producer 10 e in
+      let is = ap callOf seen in
+      producer-own z σ γ good t a-producer ended (clearProducer t ∷ []) idle (enqueueEnded t (σ (call t)) (σ (value t)) ∷ γ .history)
+      (refl, tt)
+      (idle-in-range z (γ .shape .lo) σ (rowOf (after σ (clearProducer t ∷ [])) t) row)
+      (idle-thread z (γ .shape .lo) σ (rowOf (after σ (clearProducer t ∷ [])) t) row)
+      (row 5)
+      (idle-seen z (γ .shape .lo) σ (rowOf (after σ (clearProducer t ∷ [])) t) row (placesOf σ))
+      (finish-keeps (z .B) (view σ γ) (good .model) t _ _ _ _ seen)
+      (end-formed z σ γ good t _ is)
+      (end-adds z σ γ good t _ is)
   claim-ahead-fine e (suc r) one =
       let old = own-words z σ γ good t a-producer 10 e in
       claims 10 11 r e (omega arith) (one .0) (one .1) (λ n v L k. refl) (omega arith)

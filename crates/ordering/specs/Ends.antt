@@ -14,10 +14,14 @@ use Rattle.criterion.specs.Explained.{current}
 use Rattle.criterion.specs.Growth.{enqueue-may-end}
 use Rattle.rules.specs.Sizes.{Sizes}
 use Rattle.rules.specs.Cell.{Reader, producer, call, value, phase}
+use Rattle.rules.specs.Range.{threadInRange, producerSorts}
 use Rattle.rules.specs.Play.{endOfEnqueue}
-use Rattle.model.specs.State.{Producer, State, callOf}
-use Rattle.ordering.specs.View.{Ghost, view}
+use Rattle.model.specs.State.{idle, State, callOf}
+use Rattle.ordering.specs.View.{Ghost, placeOf, producerAt, producerOf, view}
+use Rattle.memory.specs.Memory.{ThreadOk}
 use Rattle.ordering.specs.Good.{Good}
+use Rattle.ordering.specs.Rows.{row-of}
+use Rattle.ordering.specs.Steps.{unclaimed}
 
 -- The event that repeats the words of thread t's start is that of the call that it has under way.
 pub repeats-its-start : (t : ℕ) (x : Item) (h : History) → current t h ≡ some x → endOfEnqueue t h ≡ enqueueEnded t (x .number) (x .value) ∷ []
@@ -52,3 +56,16 @@ module _ (z : Sizes) (σ : Reader) (γ : Ghost) (good : Good z σ γ) (t : ℕ) 
   pub end-adds : (x : Item) → callOf (view σ γ .producer t) ≡ some x
       → enqueueEnded t (x .number) (x .value) ∷ γ .history ≡ endOfEnqueue t (γ .history) ++ γ .history
   end-adds x e = ap (λ (h : History). h ++ γ .history) (sym (repeats-its-start t x (γ .history) (under-way x e)))
+
+-- A producer whose words are all zero is idle.
+module _ (z : Sizes) (lo : ℕ) (σ : Reader) (row : ℕ → ℕ) (none : (k : ℕ) → row k ≡ 0) where
+  pub idle-in-range : threadInRange z 11 producerSorts row ≡ true
+  idle-in-range =
+      row-of z 11 producerSorts row 0 (none 0) (omega arith) (none 1, (none 2, (none 3, (none 4, (none 5, (none 6, (none 7, tt)))))))
+
+  pub idle-thread : ThreadOk (z .N) lo σ row
+  idle-thread =
+      unclaimed (z .N) lo σ row (rw none tt) (none 5) (λ l. absurd (omega (arith, none 0))) (λ e. omega (arith, none 0)) (λ e. omega (arith, none 0))
+
+  pub idle-seen : (places : ℕ → ℕ) → producerOf places row ≡ idle
+  idle-seen places = ap (λ (p : ℕ). producerAt p (row 1) (row 2) (row 3) (placeOf places (row 4))) (none 0)

@@ -1,9 +1,11 @@
 pub mod View
 pub mod Good
 pub mod Rows
+pub mod Limits
 pub mod Steps
 pub mod Own
 pub mod Walking
 pub mod Records
 pub mod Ends
 pub mod Claims
+pub mod Links

@@ -108,7 +108,7 @@ consumer-writes σ [] h c n = refl
 consumer-writes σ (w ∷ ws) h c n = consumer-writes (update σ w) ws (h .1) c n ∙ consumer-write σ w (h .0) c n
 
 -- Such writes are in range and there.
-producer-sorted : (z : Sizes) (t : ℕ) → (1 ≤ t) × (t ≤ z .P) → (w : Write) → OfProducer t w → InSort z t w × WriteThere z w
+pub producer-sorted : (z : Sizes) (t : ℕ) → (1 ≤ t) × (t ≤ z .P) → (w : Write) → OfProducer t w → InSort z t w × WriteThere z w
 producer-sorted z t a (content k := v) h = absurd h
 producer-sorted z t a (consumer k := v) h = absurd h
 producer-sorted z t a (producer u k := v) h =
@@ -119,7 +119,7 @@ producer-sorted z t a clearConsumer h = absurd h
 producer-sorted z t a (clearProducer u) h = (h, subst (λ (x : ℕ). (1 ≤ x) × (x ≤ z .P)) h a)
 producer-sorted z t a (wipe r) h = absurd h
 
-consumer-sorted : (z : Sizes) (w : Write) → OfConsumer w → InSort z 0 w × WriteThere z w
+pub consumer-sorted : (z : Sizes) (w : Write) → OfConsumer w → InSort z 0 w × WriteThere z w
 consumer-sorted z (content k := v) h = absurd h
 consumer-sorted z (consumer k := v) h = (refl, h)
 consumer-sorted z (producer u k := v) h = absurd h
@@ -129,7 +129,7 @@ consumer-sorted z clearConsumer h = (refl, tt)
 consumer-sorted z (clearProducer u) h = absurd h
 consumer-sorted z (wipe r) h = absurd h
 
-all-map : {A : Type 0} (P Q : A → Type 0) → ((x : A) → P x → Q x) → (xs : List A) → All P xs → All Q xs
+pub all-map : {A : Type 0} (P Q : A → Type 0) → ((x : A) → P x → Q x) → (xs : List A) → All P xs → All Q xs
 all-map P Q f [] h = tt
 all-map P Q f (x ∷ xs) h = (f x (h .0), all-map P Q f xs (h .1))
 

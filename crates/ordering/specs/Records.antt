@@ -71,16 +71,16 @@ consumer-same σ σ′ c row same n cursor found =
     ap (placeOf (placesOf σ′)) (row 3) ∙ place-same σ σ′ c same (σ foundRecord) (not-linked-there σ c (σ foundRecord) n found) in
     λ i. consumerAt (row 0 i) (row 2 i) (k i) (row 4 i) (g i) (record { number = row 5 i; value = row 6 i })
 
--- a state with its threads seen another way
-abbrev pub withThreads : State → (ℕ → Producer) → Consumer → State
-withThreads s f c =
+-- a state with what is read off the store seen another way
+abbrev pub withSeen : State → (tail hp starts : ℕ) → (ℕ → Producer) → Consumer → State
+withSeen s tail hp starts f c =
     record {
-      tail = s .tail;
-      hp = s .hp;
+      tail = tail;
+      hp = hp;
       lo = s .lo;
       tp = s .tp;
       hi = s .hi;
-      starts = s .starts;
+      starts = starts;
       entry = s .entry;
       owner = s .owner;
       content = s .content;
@@ -89,9 +89,9 @@ withThreads s f c =
       history = s .history;
     }
 
-pub threads-seen : {B : ℕ} {s : State} {f : ℕ → Producer} {c : Consumer} → Invariant B s → s .producer ≡ f → s .consumer ≡ c
-    → Invariant B (withThreads s f c)
-threads-seen {B} {s} i p q = subst (Invariant B) (λ j. withThreads s (p j) (q j)) i
+pub seen-as : {B : ℕ} {s : State} {tail hp starts : ℕ} {f : ℕ → Producer} {c : Consumer} → Invariant B s
+    → s .tail ≡ tail → s .hp ≡ hp → s .starts ≡ starts → s .producer ≡ f → s .consumer ≡ c → Invariant B (withSeen s tail hp starts f c)
+seen-as {B} {s} i a b d p q = subst (Invariant B) (λ j. withSeen s (a j) (b j) (d j) (p j) (q j)) i
 
 -- Entries stay where those of the linked records do.
 pub agrees-kept : (B lo hi : ℕ) (at : ℕ → ℕ) (entry : ℕ → Entry) (content : ℕ → Item) (cell cell′ : ℕ → ℕ → ℕ → ℕ)

@@ -4,7 +4,6 @@ use mathlib.Core.Logic.{_⊎_, inl, inr, ⊎-elim, _≢_}
 use mathlib.Core.Bool.{Bool, true, false, cond}
 use mathlib.Core.List.{List, [], _∷_, _++_}
 use Prim.Native.Nat.{ℕ, zero, suc, _+_, _*_, _≤_, _<_}
-use native.Mathlib.Decide.{ℕ-discrete}
 use native.Mathlib.Omega.{arith}
 use lib.Dec.{leb, ltb, eqb}
 use lib.ListN.{length, getD}
@@ -23,24 +22,13 @@ use Rattle.model.specs.Moves.{withProducer, chosen}
 use Rattle.model.specs.Walking.{producer-clause, pass-on, load-tail, go-back, shift-tail, leave-tail}
 use Rattle.model.specs.Bounds.{behind-past-first}
 use Rattle.memory.specs.Memory.{Shape, Holdable, Held, ThreadOk, rowOf, Memory, held-is}
+use Rattle.memory.specs.Ends.{held-before-last}
 use Rattle.memory.specs.Frames.{others-kept}
 use Rattle.ordering.specs.View.{Ghost, placesOf, placeOf, producerAt, producersOf, view}
 use Rattle.ordering.specs.Good.{Good, Goes, Fine, by-need, by-cond}
 use Rattle.ordering.specs.Rows.{OfSorts, of-sort, has-sort, row-of}
 use Rattle.ordering.specs.Steps.{as-seen, producers-after, goes-on-same, unclaimed, own-words, seen-at, producer-goes}
 use Rattle.ordering.specs.Own.{OfProducer, producer-writes, producer-own}
-
--- A record that may be held and has a next is not the last one.
-pub next-below-last : {z : Sizes} {σ : Reader} {g : Shape} → Memory z σ g → (r : ℕ) → Holdable (g .lo) σ r → σ (next r) ≢ 0 → σ (place r) < g .hi
-next-below-last {z} {σ} {g} m r (inl u) n = go (ℕ-discrete (σ (place r)) (g .hi))
-  where
-    o : (g .lo ≤ σ (place r)) × (σ (place r) ≤ g .hi) × (g .at (σ (place r)) ≡ r)
-    o = m .chain .only r u
-
-    go : Dec (σ (place r) ≡ g .hi) → σ (place r) < g .hi
-    go (yes e) = absurd (n (ap (λ (x : ℕ). σ (next x)) (sym (o .2) ∙ ap (g .at) e) ∙ m .chain .last))
-    go (no l) = omega (arith, o .1)
-next-below-last {z} {σ} {g} m r (inr u) n = omega (arith, u .2, m .head-tail, m .tail-last)
 
 module _ (z : Sizes) (σ : Reader) (γ : Ghost) (good : Good z σ γ) (t : ℕ) (a-producer : (1 ≤ t) × (t ≤ z .P)) where
   self : eqb t t ≡ true
@@ -137,7 +125,7 @@ module _ (z : Sizes) (σ : Reader) (γ : Ghost) (good : Good z σ γ) (t : ℕ) 
           phase-alone 3 4 _ e (omega arith) refl refl (omega arith) (λ x. omega arith) refl
           (goes-on-same (z .B) (view σ γ) t _ seen (good .model))
       each h q false n =
-          let l : σ (place h) < γ .shape .hi = next-below-last (good .memory) h (held-is (good .memory) t h q) (eqb-false (σ (next h)) 0 n) in
+          let l : σ (place h) < γ .shape .hi = held-before-last (good .memory) t h q (eqb-false (σ (next h)) 0 n) in
           phase-alone 3 6 _ e (omega arith) refl refl (omega arith) (λ x. omega arith) refl
           (pass-on (z .B) (view σ γ) (good .model) t _ _ _ _ seen (rw q l))
 

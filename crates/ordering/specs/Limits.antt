@@ -1,0 +1,35 @@
+-- The sizes' limits, and that no number of a store that only the engine has written leaves its range.
+use mathlib.Core.Path.{_≡_}
+use mathlib.Core.Bool.{true, _&&_}
+use Prim.Native.Nat.{ℕ, zero, suc, _+_, _*_, _≤_, _<_}
+use native.Mathlib.Nat.{mul-le-mul-right}
+use native.Mathlib.Omega.{arith}
+use lib.Dec.{leb}
+use borrow.Author.Tests.{leb-true}
+use Rattle.rules.specs.Sizes.{Sizes, between, sizesInRange, mostPlace}
+use Rattle.rules.specs.Address.{both}
+
+pub record Limits (z : Sizes) : Type 0 where
+  pub two-entries : 2 ≤ z .B
+  pub two-records : 2 ≤ z .N
+  pub one-producer : 1 ≤ z .P
+  pub one-start : 1 ≤ z .M
+  pub most-starts : z .M ≤ 1000000
+
+pub limits : (z : Sizes) → sizesInRange z ≡ true → Limits z
+limits z e =
+    let p = both (between 2 64 (z .B) && between 2 64 (z .N) && between 1 16 (z .P)) (between 1 1000000 (z .M)) e in
+    let q = both (between 2 64 (z .B) && between 2 64 (z .N)) (between 1 16 (z .P)) (p .0) in
+    let r = both (between 2 64 (z .B)) (between 2 64 (z .N)) (q .0) in
+    record {
+      two-entries = leb-true 2 (z .B) (both (leb 2 (z .B)) (leb (z .B) 64) (r .0) .0);
+      two-records = leb-true 2 (z .N) (both (leb 2 (z .N)) (leb (z .N) 64) (r .1) .0);
+      one-producer = leb-true 1 (z .P) (both (leb 1 (z .P)) (leb (z .P) 16) (q .1) .0);
+      one-start = leb-true 1 (z .M) (both (leb 1 (z .M)) (leb (z .M) 1000000) (p .1) .0);
+      most-starts = leb-true (z .M) 1000000 (both (leb 1 (z .M)) (leb (z .M) 1000000) (p .1) .1);
+    }
+
+-- A record up to whose end a taken position reaches has a place below the limit, and so has the next.
+pub place-fits : (z : Sizes) → Limits z → (k L : ℕ) → z .B * k ≤ L + z .B → L < z .M → suc k ≤ mostPlace
+place-fits z l zero L h a = omega arith
+place-fits z l (suc k) L h a = omega (arith, l .most-starts, mul-le-mul-right k (l .two-entries))
