@@ -14,13 +14,14 @@ use Rattle.history.specs.Calls.{Answer, nothing, item, empty, Enqueue, Dequeue,
 use Rattle.history.specs.Form.{wellFormed}
 use Rattle.history.specs.Linearization.{Item, Queue, Precedes, dequeue, run, Linearization, Linearizable}
 use Rattle.criterion.specs.Explained.{Explained}
+use Rattle.criterion.specs.Parts.{itemOf, enqueueOf, enqueuesOf}
 use Rattle.criterion.specs.Members.{all-at, in-left, in-right, in-either, in-map, from-map, split-at, split-map, pairwise-across, pairwise-left, pairwise-right, in-gather, from-gather, pairwise-gather}
 use Rattle.criterion.specs.Entering.{enq-not-deq}
-use Rattle.criterion.specs.Growth.{itemOf}
 use Rattle.criterion.specs.Tidy.{enqueue-tells, dequeue-tells, Gave}
 use Rattle.criterion.specs.Apart.{same-number, one-at-a-time}
-use Rattle.criterion.specs.Orderly.{TakenBefore, FairItem, FairEmpty, Fair, Orderly, answered-ended, item-not-nothing, empty-not-nothing, orderly-is-explained}
-use Rattle.criterion.specs.Fifo.{enqueueOf, enqueuesOf, run-parts, run-first, gives-its-item, finds-nothing, RemovedBy, Gone, fifo}
+use Rattle.criterion.specs.Fair.{TakenBefore, FairItem, FairEmpty, Fair, Orderly}
+use Rattle.criterion.specs.Orderly.{answered-ended, item-not-nothing, empty-not-nothing, orderly-is-explained}
+use Rattle.criterion.specs.Fifo.{run-parts, run-first, gives-its-item, finds-nothing, RemovedBy, Gone, fifo}
 
 -- an enqueue among some calls
 is-enqueue : (c : Call) (x : Enqueue) → Member x (enqueueOf c) → c ≡ enq x

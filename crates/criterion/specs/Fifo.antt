@@ -9,21 +9,13 @@ use Prim.Native.Nat.{ℕ}
 use lib.Dec.{eqb}
 use borrow.Author.Tests.{eqb-true}
 use Rattle.history.specs.Lists.{All, Member}
-use Rattle.history.specs.Calls.{Answer, nothing, item, empty, Enqueue, Dequeue, Call, enq, deq}
+use Rattle.history.specs.Calls.{Answer, nothing, item, empty, Dequeue, Call, enq, deq}
 use Rattle.history.specs.Linearization.{Item, Queue, dequeue, perform, run}
-use Rattle.criterion.specs.Members.{all-map, all-append, in-left, in-right, gather}
+use Rattle.criterion.specs.Parts.{itemOf, enqueuesOf}
+use Rattle.criterion.specs.Members.{all-map, all-append, in-left, in-right}
 use Rattle.criterion.specs.Entering.{enq-not-deq, same-deq}
-use Rattle.criterion.specs.Growth.{itemOf}
 use Rattle.criterion.specs.Orderly.{item-not-nothing, item-not-empty}
 use Rattle.criterion.specs.Fits.{run-step}
-
--- the enqueues among some calls
-abbrev pub enqueueOf : Call → List Enqueue
-enqueueOf (enq x) = x ∷ []
-enqueueOf (deq d) = []
-
-abbrev pub enqueuesOf : List Call → List Enqueue
-enqueuesOf cs = gather enqueueOf cs
 
 -- a run, one call at a time and in two parts
 pub run-first :

@@ -10,8 +10,8 @@ use borrow.Author.Tests.{eq-eqb}
 use Rattle.history.specs.Lists.{All, Pairwise, Member}
 use Rattle.history.specs.Calls.{item, empty, Enqueue, Dequeue, Call, enq, deq, startOf}
 use Rattle.history.specs.Linearization.{Queue, Precedes, perform, dequeue, run}
+use Rattle.criterion.specs.Parts.{itemOf}
 use Rattle.criterion.specs.Members.{all-at, all-of, all-map, in-map, from-map, pairwise-map}
-use Rattle.criterion.specs.Growth.{itemOf}
 
 -- `Fits ds q p r ord`: with q in the queue, the enqueues p and the dequeues ds make up ord, and leave r.
 pub data Fits : List Dequeue → (q p r : List Enqueue) → List Call → Type 0 where

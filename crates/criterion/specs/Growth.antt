@@ -17,13 +17,10 @@ use Rattle.history.specs.Calls.{Answer, item, empty, Enqueue, Dequeue, Call, en
 use Rattle.history.specs.Form.{wellFormed}
 use Rattle.history.specs.Linearization.{Item, Settled}
 use Rattle.criterion.specs.Explained.{Begun, current, dequeuing}
+use Rattle.criterion.specs.Parts.{itemOf}
 use Rattle.criterion.specs.Members.{all-at, in-left, in-right, in-snoc, in-map}
 use Rattle.criterion.specs.Following.{head-follows, tail-formed, grows, thread-is-free, may-start, may-end, may-dequeue, may-answer}
 use Rattle.criterion.specs.Entering.{opened, asked, same-enq, enq-not-deq, enqueue-in-ended, dequeue-in-ended, dequeue-in-answered, enqueue-in-answered, enqueue-stays}
-
--- the item that an enqueue puts
-abbrev pub itemOf : Enqueue → Item
-itemOf x = record { number = x .number; value = x .value }
 
 -- a test of two numbers, decided
 current-other : (t u : ℕ) (i j : Option Item) → (t ≡ u → ⊥) → cond (eqb t u) i j ≡ j

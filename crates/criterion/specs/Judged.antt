@@ -15,7 +15,8 @@ use Rattle.criterion.specs.Members.{all-at, in-left, in-right, in-either
 use Rattle.criterion.specs.Entering.{same-deq, enq-not-deq}
 use Rattle.criterion.specs.Tidy.{enqueue-tells, dequeue-tells}
 use Rattle.criterion.specs.Apart.{starts-rise, same-number, one-at-a-time}
-use Rattle.criterion.specs.Orderly.{TakenBefore, Fair, Orderly, answered-ended, item-not-nothing, item-not-empty, empty-not-nothing, explained-is-orderly, orderly-is-explained}
+use Rattle.criterion.specs.Fair.{TakenBefore, Fair, Orderly}
+use Rattle.criterion.specs.Orderly.{answered-ended, item-not-nothing, item-not-empty, empty-not-nothing, explained-is-orderly, orderly-is-explained}
 use Rattle.criterion.specs.Found.{look-finds}
 use Rattle.criterion.specs.Pass.{answering, passes, explains}
 use Rattle.criterion.specs.Marks.{Short, Marks, leaves-is, is-leaves, marks-both, giving-is, is-giving}

@@ -11,8 +11,8 @@ use lib.Dec.{leb, eqb}
 use borrow.Author.Tests.{eqb-true, eqb-false, eq-eqb, leb-true, le-leb, not-true}
 use Rattle.history.specs.Lists.{Member}
 use Rattle.history.specs.Calls.{Enqueue, Call, enq, deq}
+use Rattle.criterion.specs.Parts.{look}
 use Rattle.criterion.specs.Entering.{same-enq, enq-not-deq}
-use Rattle.criterion.specs.Order.{look}
 use Rattle.criterion.specs.Found.{look-is}
 use Rattle.criterion.specs.Pass.{has, past, leaves, giving}
 

@@ -1,52 +1,21 @@
--- The criterion as the calls tell it: each answered dequeue is fair. A well-formed history is explained exactly when its calls
--- are orderly.
+-- A well-formed history is explained exactly when its calls are orderly: the facts of each moment of the history, and the calls
+-- of the whole.
 use mathlib.Core.Path.{_≡_, refl, sym, ap, subst, subst₂, _∙_}
 use mathlib.Core.Logic.{inl, inr, _≢_}
 use mathlib.Core.Bool.{true}
-use mathlib.Core.List.{List, [], _∷_}
+use mathlib.Core.List.{[], _∷_}
 use Prim.Native.Nat.{ℕ, suc, _≤_, _<_}
 use native.Mathlib.Omega.{arith}
 use lib.ListN.{length}
 use Rattle.history.specs.Lists.{Member}
 use Rattle.history.specs.Event.{Event, History, enqueueStarted, enqueueEnded, dequeueStarted, gaveItem, gaveEmpty}
-use Rattle.history.specs.Calls.{Answer, nothing, item, empty, Enqueue, Dequeue, Call, enq, deq, calls}
+use Rattle.history.specs.Calls.{Answer, nothing, item, empty, Enqueue, Dequeue, deq, calls}
 use Rattle.history.specs.Form.{wellFormed}
-use Rattle.history.specs.Linearization.{Precedes}
 use Rattle.criterion.specs.Explained.{Started, Taken, MayGive, MayBeEmpty, Explained}
+use Rattle.criterion.specs.Fair.{TakenBefore, FairItem, FairEmpty, Fair, Orderly}
 use Rattle.criterion.specs.Times.{At, at-most, at-same, _⊑_, now, later, earlier, at-later, at-earlier, EndBefore, started-when, when-started, taken-when, when-taken, startOfNumber, before-when, when-before, askedAt, before-dequeue-when, when-before-dequeue}
 use Rattle.criterion.specs.Tidy.{Gave, enqueue-tells, dequeue-tells, enqueue-of-start, enqueue-of-end, dequeue-of-start, dequeue-of-end}
 use Rattle.criterion.specs.Apart.{same-number, none-meanwhile}
-
--- a dequeue that ended before event k gave item m
-pub record TakenBefore (m k : ℕ) (cs : List Call) : Type 0 where
-  pub by : Dequeue
-  pub value : ℕ
-  pub member : Member (deq by) cs
-  pub gives : by .answer ≡ item m value
-  pub before : by .end < k
-
--- A dequeue that ended at event k gave an item fairly: it was started by then, with that number and value, it was not taken, and
--- whatever ended before it started was taken.
-pub record FairItem (n v k : ℕ) (cs : List Call) : Type 0 where
-  pub given : Enqueue
-  pub member : Member (enq given) cs
-  pub number-is : given .number ≡ n
-  pub value-is : given .value ≡ v
-  pub started : given .start ≤ k
-  pub untaken : TakenBefore n k cs → ⊥
-  pub first : (y : Enqueue) → Member (enq y) cs → Precedes (enq y) (enq given) → TakenBefore (y .number) k cs
-
--- One that started at event s and ended at event k found nothing, fairly: whatever ended before it started was taken.
-abbrev pub FairEmpty : (s k : ℕ) → List Call → Type 0
-FairEmpty s k cs = (y : Enqueue) → Member (enq y) cs → y .end ≢ 0 → y .end < s → TakenBefore (y .number) k cs
-
-abbrev pub Fair : Answer → (s k : ℕ) → List Call → Type 0
-Fair nothing s k cs = Unit
-Fair (item n v) s k cs = FairItem n v k cs
-Fair empty s k cs = FairEmpty s k cs
-
-abbrev pub Orderly : List Call → Type 0
-Orderly cs = (d : Dequeue) → Member (deq d) cs → Fair (d .answer) (d .start) (d .end) cs
 
 -- an answered dequeue has ended
 pub answered-ended : (h : History) → wellFormed h ≡ true → (d : Dequeue) → Member (deq d) (calls h) → d .answer ≢ nothing → d .end ≢ 0

@@ -11,35 +11,15 @@ use Rattle.history.specs.Lists.{Pairwise, Member}
 use Rattle.history.specs.Event.{History}
 use Rattle.history.specs.Calls.{Answer, nothing, item, empty, Enqueue, Call, enq, deq, startOf, calls}
 use Rattle.history.specs.Form.{any, wellFormed}
-use Rattle.history.specs.Linearization.{Queue}
 use Rattle.criterion.specs.Explained.{Started, Ended, Taken, EndedBefore, Rest}
-use Rattle.criterion.specs.Members.{all-of, in-map, from-map, pairwise-map, pairwise-with, gather, in-gather, from-gather, pairwise-gather}
+use Rattle.criterion.specs.Parts.{itemOf, isNumber, gives}
+use Rattle.criterion.specs.Members.{all-of, in-map, from-map, pairwise-map, pairwise-with, in-gather, from-gather, pairwise-gather}
 use Rattle.criterion.specs.Following.{any-of, any-at}
-use Rattle.criterion.specs.Growth.{itemOf}
 use Rattle.criterion.specs.Times.{at-most, started-when, when-started, ended-when, taken-when, when-taken}
 use Rattle.criterion.specs.Tidy.{enqueue-tells, enqueue-of-start, enqueue-of-end, dequeue-of-end}
 use Rattle.criterion.specs.Apart.{starts-rise, same-number, ends-precedes}
+use Rattle.criterion.specs.Order.{ifLeft, remain, remaining}
 use Rattle.criterion.specs.Orderly.{gave-when, item-not-nothing}
-
--- a call that gave the item with this number
-abbrev pub isNumber : ℕ → Answer → Bool
-isNumber n nothing = false
-isNumber n (item m v) = eqb m n
-isNumber n empty = false
-
-abbrev pub gives : ℕ → Call → Bool
-gives n (enq x) = false
-gives n (deq d) = isNumber n (d .answer)
-
-abbrev pub ifLeft : List Call → Call → List Enqueue
-ifLeft cs (enq x) = cond (eqb (x .end) 0 || any (gives (x .number)) cs) [] (x ∷ [])
-ifLeft cs (deq d) = []
-
-abbrev pub remain : List Call → List Enqueue
-remain cs = gather (ifLeft cs) cs
-
-unfoldable pub remaining : History → Queue
-remaining h = map itemOf (remain (calls h))
 
 is-number : (n : ℕ) (a : Answer) → isNumber n a ≡ true → (v : ℕ) × (a ≡ item n v)
 is-number n nothing e = absurd (false≢true e)

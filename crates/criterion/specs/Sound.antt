@@ -13,14 +13,15 @@ use Rattle.history.specs.Calls.{Answer, nothing, item, empty, Enqueue, Dequeue,
 use Rattle.history.specs.Form.{wellFormed}
 use Rattle.history.specs.Linearization.{Item, Queue, Linearization}
 use Rattle.criterion.specs.Explained.{Started, Taken, EndedBefore, Explained, Rest}
+use Rattle.criterion.specs.Parts.{itemOf, dequeuesOf, look}
 use Rattle.criterion.specs.Members.{all-at, all-of, all-map, in-left, in-right, in-either, in-map, from-map, from-gather, pairwise-both, pairwise-with, pairwise-unmap}
 use Rattle.criterion.specs.Entering.{same-enq, enq-not-deq}
-use Rattle.criterion.specs.Growth.{itemOf}
 use Rattle.criterion.specs.Times.{started-when, when-started, taken-when, when-taken, when-ended}
 use Rattle.criterion.specs.Tidy.{enqueue-tells, dequeue-tells, enqueue-of-start, dequeue-of-end, Gave}
 use Rattle.criterion.specs.Apart.{starts-rise, same-start, same-number, one-at-a-time, precedes-ends}
-use Rattle.criterion.specs.Orderly.{TakenBefore, FairItem, Fair, Orderly, answered-ended, item-not-nothing, gave-when, explained-is-orderly}
-use Rattle.criterion.specs.Order.{dequeuesOf, look, lookAnswer, taken, left, place, order}
+use Rattle.criterion.specs.Fair.{TakenBefore, FairItem, Fair, Orderly}
+use Rattle.criterion.specs.Orderly.{answered-ended, item-not-nothing, gave-when, explained-is-orderly}
+use Rattle.criterion.specs.Order.{lookAnswer, taken, left, place, order}
 use Rattle.criterion.specs.Fits.{Fits, Among, Timely, Next, Sorted, fits-runs, fits-among, fits-enqueue, fits-dequeue, fits-timely}
 use Rattle.criterion.specs.Serve.{Lasts, Serve, Serves, InLine, clears-nothing, place-fits}
 use Rattle.criterion.specs.Found.{of-calls, answered-in, pairwise-dequeues, look-finds, look-is, TakenBy, taken-by, taken-has}

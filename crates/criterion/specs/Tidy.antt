@@ -12,10 +12,11 @@ use Rattle.history.specs.Event.{Event, History, enqueueStarted, enqueueEnded, d
 use Rattle.history.specs.Calls.{Answer, nothing, item, empty, Enqueue, Dequeue, enq, deq, endDequeue, calls}
 use Rattle.history.specs.Form.{any, dequeues, follows, wellFormed}
 use Rattle.history.specs.Linearization.{Item}
+use Rattle.criterion.specs.Parts.{itemOf}
 use Rattle.criterion.specs.Members.{in-right, in-snoc}
 use Rattle.criterion.specs.Following.{head-follows, tail-formed, has-its-start, has-its-dequeue}
 use Rattle.criterion.specs.Entering.{opened, closed, asked, answered, same-enq, same-deq, enq-not-deq, enqueue-in-ended, dequeue-in-ended, dequeue-in-answered, enqueue-in-answered, enqueue-ends, dequeue-ends, ended-stays, enqueue-goes-on, dequeue-goes-on}
-use Rattle.criterion.specs.Growth.{itemOf, open-is-current}
+use Rattle.criterion.specs.Growth.{open-is-current}
 use Rattle.criterion.specs.Times.{At, at-most}
 
 -- what an enqueue tells
