@@ -73,7 +73,13 @@ no-item a q f n v e = absurd (f n v e)
 
 removed : (a : Answer) (q r : Queue) → dequeue a q ≡ some r → Removed a q r
 removed nothing [] r e =
-    record { items = []; in-turn = Option·some-injective [] r e; removes = tt; given = no-item nothing [] (λ n v p. item-not-nothing (sym p)) }
+    record {
+      items = [];
+      in-turn = Option·some-injective [] r e;
+      removes = tt;
+      given = no-item nothing []
+          (λ n v p. item-not-nothing (sym p));
+    }
 removed nothing (x ∷ q) r e =
     record {
       items = x ∷ [];
@@ -124,7 +130,8 @@ fifo (deq d ∷ cs) q left e =
           ∙ sym (append-assoc (m .items) (r .gone) left);
       removed-by =
           all-append (RemovedBy (deq d ∷ cs)) (m .items) (r .gone)
-          (all-map (Removes (d .answer)) (RemovedBy (deq d ∷ cs)) (m .items) (λ g a. record { by = d; member = inl refl; removes = a }) (m .removes))
+          (all-map (Removes (d .answer)) (RemovedBy (deq d ∷ cs)) (m .items)
+          (λ g a. record { by = d; member = inl refl; removes = a }) (m .removes))
           (all-map (RemovedBy cs) (RemovedBy (deq d ∷ cs)) (r .gone) (by-later (deq d) cs) (r .removed-by));
       given =
           λ b n v k p.

@@ -64,12 +64,14 @@ module _ (t n v : ℕ) (cs : List Call) where
   pub thread-is-free : follows (enqueueStarted t n v) cs ≡ true → (x : Enqueue) → Member (enq x) cs → x .thread ≡ t → x .end ≡ 0 → ⊥
   thread-is-free f x m p q =
       true≢false
-      (sym (is-busy t x p q) ∙ none-at (enqueues t) cs (not-true _ (and-eq-true-iff (not (any (enqueues t) cs)) (not (any (hasNumber n) cs)) .0 f .0)) (enq x) m)
+      (sym (is-busy t x p q) ∙ none-at (enqueues t) cs
+      (not-true _ (and-eq-true-iff (not (any (enqueues t) cs)) (not (any (hasNumber n) cs)) .0 f .0)) (enq x) m)
 
   pub number-is-new : follows (enqueueStarted t n v) cs ≡ true → (x : Enqueue) → Member (enq x) cs → x .number ≡ n → ⊥
   number-is-new f x m p =
       true≢false
-      (sym (eq-eqb (x .number) n p) ∙ none-at (hasNumber n) cs (not-true _ (and-eq-true-iff (not (any (enqueues t) cs)) (not (any (hasNumber n) cs)) .0 f .1)) (enq x) m)
+      (sym (eq-eqb (x .number) n p) ∙ none-at (hasNumber n) cs
+      (not-true _ (and-eq-true-iff (not (any (enqueues t) cs)) (not (any (hasNumber n) cs)) .0 f .1)) (enq x) m)
 
   pub may-start :
       ((x : Enqueue) → Member (enq x) cs → x .thread ≡ t → x .end ≢ 0) → ((x : Enqueue) → Member (enq x) cs → x .number ≢ n)

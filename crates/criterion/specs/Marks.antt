@@ -116,7 +116,8 @@ module _ (cs : List Call) (n v k mark : ℕ) (given : List ℕ) (on : ℕ → Li
           → (x : Enqueue) × Gives cs n v k mark given x × (on (max mark (x .start)) (n ∷ given) ≡ true)
       go [] q e = absurd (false≢true e)
       go (x ∷ xs) q e =
-          let a = and-eq-true-iff (eqb (x .value) v && not (has n given) && leb (x .start) k && past mark x) (on (max mark (x .start)) (n ∷ given)) .0 e in
+          let a = and-eq-true-iff (eqb (x .value) v && not (has n given) && leb (x .start) k && past mark x)
+          (on (max mark (x .start)) (n ∷ given)) .0 e in
           let b = and-eq-true-iff (eqb (x .value) v && not (has n given) && leb (x .start) k) (past mark x) .0 (a .0) in
           let c = and-eq-true-iff (eqb (x .value) v && not (has n given)) (leb (x .start) k) .0 (b .0) in
           let f = and-eq-true-iff (eqb (x .value) v) (not (has n given)) .0 (c .0) in

@@ -80,8 +80,11 @@ module _ {A : Type 0} where
       (R S : A → A → Type 0) (xs : List A) → Pairwise R xs → ((a b : A) → Member a xs → Member b xs → R a b → S a b)
       → Pairwise S xs
   pairwise-with R S [] p f = tt
-  pairwise-with R S (x ∷ xs) p f =
-      (all-of (S x) xs (λ a m. f x a (inl refl) (inr m) (all-at (R x) xs (p .0) a m)), pairwise-with R S xs (p .1) (λ a b m n. f a b (inr m) (inr n)))
+  pairwise-with R S (x ∷ xs) p f = (
+    all-of (S x) xs (λ a m. f x a (inl refl) (inr m) (all-at (R x) xs (p .0) a m)),
+    pairwise-with R S xs (p .1)
+        (λ a b m n. f a b (inr m) (inr n)),
+  )
 
   pub nil-not-cons : {x : A} {xs : List A} → [] ≡ x ∷ xs → ⊥
   nil-not-cons e = let z : _≡_ {A = ℕ} 0 1 = cc in omega arith

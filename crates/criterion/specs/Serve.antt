@@ -137,7 +137,8 @@ module _ (d : Dequeue) (ds : List Dequeue) (r : List Enqueue) where
             (b :
             Bool) → MayStand q x ≡ b → (MayStand q x ≡ true
             → Fits (d ∷ ds) (q ++ (x ∷ [])) p r (fill d ds (place ds) (q ++ (x ∷ [])) p))
-            → Fits (d ∷ ds) q (x ∷ p) r (elim b as (λ _. List Call) [ true ↦ enq x ∷ fill d ds (place ds) (q ++ (x ∷ [])) p | false ↦ deq d ∷ place ds (behind q) (x ∷ p) ])
+            → Fits (d ∷ ds) q (x ∷ p) r (elim b as
+            (λ _. List Call) [ true ↦ enq x ∷ fill d ds (place ds) (q ++ (x ∷ [])) p | false ↦ deq d ∷ place ds (behind q) (x ∷ p) ])
         go true e next = put (leb-true _ _ (and-eq-true-iff (leb (x .start) (d .end)) _ .0 e .0)) (next e)
         go false e next = goes ih q (x ∷ p) t v c (lasts q x p t v e) (finds q x p v e)
 
@@ -147,4 +148,5 @@ pub place-fits :
     → Serves ds (q ++ p) r → clears ds q ≡ true → Fits ds q p r (place ds q p)
 place-fits [] q p r n f t v c = subst (λ z. Fits [] q p z (map enq p)) v done
 place-fits (d ∷ ds) q p r n f t v c =
-    fits-fill d ds r (f .0 .1) (all-map (Next d) _ ds (λ e l. let o = f .0 .1 in omega arith) (n .0)) (λ q p. place-fits ds q p r (n .1) (f .1)) p q t v c
+    fits-fill d ds r (f .0 .1) (all-map (Next d) _ ds (λ e l. let o = f .0 .1 in omega arith) (n .0))
+    (λ q p. place-fits ds q p r (n .1) (f .1)) p q t v c

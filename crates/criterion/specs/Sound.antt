@@ -77,8 +77,10 @@ module _ (h : History) (w : wellFormed h ≡ true) where
     left-timely =
         pairwise-with (λ x y. (x .number ≢ y .number) × (EndedBefore (y .number) (x .number) h → ⊥)) (λ x y. Timely (enq x) (enq y)) rests
         (pairwise-both _ _ rests
-        (pairwise-unmap (λ x y. x .number ≢ y .number) itemOf rests (subst (Pairwise (λ x y. x .number ≢ y .number)) (sym is-rest) (k .distinct)))
-        (pairwise-unmap (λ x y. EndedBefore (y .number) (x .number) h → ⊥) itemOf rests (subst (Pairwise (λ x y. EndedBefore (y .number) (x .number) h → ⊥)) (sym is-rest) (k .in-order))))
+        (pairwise-unmap (λ x y. x .number ≢ y .number) itemOf rests
+        (subst (Pairwise (λ x y. x .number ≢ y .number)) (sym is-rest) (k .distinct)))
+        (pairwise-unmap (λ x y. EndedBefore (y .number) (x .number) h → ⊥) itemOf rests
+        (subst (Pairwise (λ x y. EndedBefore (y .number) (x .number) h → ⊥)) (sym is-rest) (k .in-order))))
         (λ x y m n r.
         let a = left-from rest x m in
         let b = left-from rest y n in
@@ -108,7 +110,8 @@ module _ (h : History) (w : wellFormed h ≡ true) where
           later r =
               let e = r .by in
               let i = all-at _ ds (t .0 .1) e (r .among) in
-              let f : FairItem (y .number) (r .value) (e .end) (calls h) = subst (λ a. Fair a (e .start) (e .end) (calls h)) (r .gives) (o e (i .0)) in
+              let f : FairItem (y .number) (r .value) (e .end) (calls h) = subst (λ a. Fair a (e .start) (e .end) (calls h))
+              (r .gives) (o e (i .0)) in
               let n = all-at (Next d) ds (t .1 .0) e (r .among) in
               let g = dequeue-tells h w e (i .0) .forward (answered-ended h w e (i .0) (i .1)) in
               f .untaken (record { by = b .by; value = b .value; member = b .member; gives = b .gives; before = let l = b .before in omega arith })
@@ -153,7 +156,14 @@ module _ (h : History) (w : wellFormed h ≡ true) where
                       numbers-apart (f .given) y (f .member) b
                           (λ q.
                           untaken-yet d ds t y m
-                          (record { by = d; value = v; member = t .0 .0 .0; gives = e ∙ ap (λ k. item k v) (sym (f .number-is) ∙ q); before = omega arith })),
+                          (record {
+                            by = d;
+                            value = v;
+                            member = t .0 .0 .0;
+                            gives = e ∙ ap (λ k. item k v)
+                                (sym (f .number-is) ∙ q);
+                            before = omega arith;
+                          })),
                     )),
                 p,
               )
@@ -168,7 +178,8 @@ module _ (h : History) (w : wellFormed h ≡ true) where
       in-turn : InTurn dequeued
       in-turn = (
         all-of _ dequeued (of-calls (calls h)),
-        pairwise-with (λ d b. d .start < b .start) Next dequeued (pairwise-dequeues (λ a b. startOf a < startOf b) (calls h) (starts-rise h w))
+        pairwise-with (λ d b. d .start < b .start) Next dequeued
+            (pairwise-dequeues (λ a b. startOf a < startOf b) (calls h) (starts-rise h w))
             (λ d b m n l. one-at-a-time h w d b (of-calls (calls h) d m .0) (of-calls (calls h) b n .0) l .1),
       )
 
@@ -207,13 +218,15 @@ module _ (h : History) (w : wellFormed h ≡ true) where
               let r = taken-when (x .number) h t in
               let d = dequeue-of-end (r .time) (item (x .number) (r .which)) h w (r .there) in
               in-left x (taken (calls h) dequeued) rests
-              (taken-has (calls h) dequeued (d .0) (x .number) (r .which) x (answered-in (calls h) (d .0) (d .1) (λ e. item-not-nothing (sym (d .3) ∙ e))) (d .3) (looks x m (x .number) refl))
+              (taken-has (calls h) dequeued (d .0) (x .number) (r .which) x
+              (answered-in (calls h) (d .0) (d .1) (λ e. item-not-nothing (sym (d .3) ∙ e))) (d .3) (looks x m (x .number) refl))
           go (no f) =
               let e = enqueue-tells h w x m in
               let l = k .complete (x .number) (x .value) (when-started _ _ _ _ h (e .started)) (when-ended _ _ _ _ h (e .ended z)) f in
               let r = from-map itemOf (itemOf x) rests (subst (Member (itemOf x)) (sym is-rest) l) in
               in-right x (taken (calls h) dequeued) rests
-              (subst (λ y. Member y rests) (same-number h w (r .0) x (left-from rest (r .0) (r .1)) m (ap (λ (i : Item). i .number) (sym (r .2)))) (r .1))
+              (subst (λ y. Member y rests) (same-number h w (r .0) x (left-from rest (r .0) (r .1)) m
+              (ap (λ (i : Item). i .number) (sym (r .2)))) (r .1))
       ended-there (deq d) m z =
           fits-dequeue fits d
           (answered-in (calls h) d m (λ e. subst (λ a. Gave a (d .end) h) e (dequeue-tells h w d m .ended z)))
