@@ -22,10 +22,11 @@ use Rattle.criterion.specs.Members.{all-at, in-left, in-right, in-snoc, 
 use Rattle.criterion.specs.Following.{head-follows, tail-formed, grows, thread-is-free, may-start, may-end, may-dequeue, may-answer}
 use Rattle.criterion.specs.Entering.{opened, asked, same-enq, enq-not-deq, enqueue-in-ended, dequeue-in-ended, dequeue-in-answered, enqueue-in-answered, enqueue-stays}
 
--- a test of two numbers, decided
+-- an event of another thread leaves the current enqueue as it is
 current-other : (t u : ℕ) (i j : Option Item) → (t ≡ u → ⊥) → cond (eqb t u) i j ≡ j
 current-other t u i j f = rw (ne-eqb t u f)
 
+-- no dequeue is under way after an answer
 none-open : (a : Answer) (h : History) (d : Dequeue) → Member (deq d) (map (endDequeue (suc (length h)) a) (calls h)) → d .end ≢ 0
 none-open a h d m z =
     elim (dequeue-in-answered _ a (calls h) d m) [

@@ -13,6 +13,7 @@ use Rattle.history.specs.Lists.{Member}
 use Rattle.history.specs.Calls.{Enqueue, Call, enq, deq}
 use Rattle.criterion.specs.Parts.{look}
 use Rattle.criterion.specs.Entering.{same-enq, enq-not-deq}
+use Rattle.criterion.specs.Following.{or-right}
 use Rattle.criterion.specs.Found.{look-is}
 use Rattle.criterion.specs.Pass.{has, past, leaves, giving}
 
@@ -24,17 +25,13 @@ either false b e = inr e
 left-true : (a b : Bool) → a ≡ true → (a || b) ≡ true
 left-true a b e = rw e
 
-right-true : (a b : Bool) → b ≡ true → (a || b) ≡ true
-right-true true b e = refl
-right-true false b e = e
-
 pub has-is : (n : ℕ) (given : List ℕ) → has n given ≡ true → Member n given
 has-is n [] e = absurd (false≢true e)
 has-is n (k ∷ given) e = elim (either (eqb k n) (has n given) e) [ inl p ↦ inl (sym (eqb-true k n p)) | inr q ↦ inr (has-is n given q) ]
 
 pub is-has : (n : ℕ) (given : List ℕ) → Member n given → has n given ≡ true
 is-has n (k ∷ given) (inl e) = left-true (eqb k n) (has n given) (eq-eqb k n (sym e))
-is-has n (k ∷ given) (inr m) = right-true (eqb k n) (has n given) (is-has n given m)
+is-has n (k ∷ given) (inr m) = or-right (eqb k n) (has n given) (is-has n given m)
 
 pub has-not : (n : ℕ) (given : List ℕ) → (Member n given → ⊥) → has n given ≡ false
 has-not n given f = go (has n given) refl

@@ -98,6 +98,10 @@ module _ (h : History) (w : wellFormed h ≡ true) where
       abbrev InTurn : List Dequeue → Type 0
       InTurn ds = All (λ d. Member (deq d) (calls h) × (d .answer ≢ nothing)) ds × Pairwise Next ds
 
+      sooner : (m i j : ℕ) → i ≤ j → TakenBefore m i (calls h) → TakenBefore m j (calls h)
+      sooner m i j l b =
+          record { by = b .by; value = b .value; member = b .member; gives = b .gives; before = let r = b .before in omega arith }
+
       -- what is taken after dequeue d, or left, has not been taken up to then
       untaken-yet :
           (d : Dequeue) (ds : List Dequeue) → InTurn (d ∷ ds) → (y : Enqueue) → Member y (taken (calls h) ds ++ rests)
@@ -114,11 +118,7 @@ module _ (h : History) (w : wellFormed h ≡ true) where
               (r .gives) (o e (i .0)) in
               let n = all-at (Next d) ds (t .1 .0) e (r .among) in
               let g = dequeue-tells h w e (i .0) .forward (answered-ended h w e (i .0) (i .1)) in
-              f .untaken (record { by = b .by; value = b .value; member = b .member; gives = b .gives; before = let l = b .before in omega arith })
-
-      sooner : (m i j : ℕ) → i ≤ j → TakenBefore m i (calls h) → TakenBefore m j (calls h)
-      sooner m i j l b =
-          record { by = b .by; value = b .value; member = b .member; gives = b .gives; before = let r = b .before in omega arith }
+              f .untaken (sooner _ _ _ (omega arith) b)
 
       -- the dequeues serve the items that they give, then the rest
       serves : (ds : List Dequeue) → InTurn ds → Serves ds (taken (calls h) ds ++ rests) rests
