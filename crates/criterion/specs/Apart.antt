@@ -83,7 +83,9 @@ pub same-number :
     → x .number ≡ y .number → x ≡ y
 same-number h w x y m n e =
     same-enq (same-start h w (enq x) (enq y) m n
-    (number-starts-once _ _ _ _ _ _ _ h w (subst (λ k. At (x .start) (enqueueStarted (x .thread) k (x .value)) h) e (enqueue-tells h w x m .started)) (enqueue-tells h w y n .started)))
+    (number-starts-once _ _ _ _ _ _ _ h w
+    (subst (λ k. At (x .start) (enqueueStarted (x .thread) k (x .value)) h) e (enqueue-tells h w x m .started))
+    (enqueue-tells h w y n .started)))
 
 -- One dequeue has ended before the next starts.
 abbrev EndedBy : ℕ → Dequeue → Type 0
@@ -118,7 +120,10 @@ ended-by-next :
 ended-by-next (f ∷ h) w d m j (inl p) l =
     rw (p .0) (starts-next h (rw (← (p .1)) at w) d (rw (← (p .1)) at m) (rw (p .0) at l))
 ended-by-next (enqueueStarted t n v ∷ h) w d m j (inr a) l =
-    elim (in-snoc (deq d) (calls h) _ m) [ inl b ↦ ended-by-next h (tail-formed (enqueueStarted t n v) h w) d b j a l | inr e ↦ absurd (enq-not-deq (sym e)) ]
+    elim (in-snoc (deq d) (calls h) _ m) [
+      | inl b ↦ ended-by-next h (tail-formed (enqueueStarted t n v) h w) d b j a l
+      | inr e ↦ absurd (enq-not-deq (sym e))
+    ]
 ended-by-next (enqueueEnded t n v ∷ h) w d m j (inr a) l =
     ended-by-next h (tail-formed (enqueueEnded t n v) h w) d (dequeue-in-ended t _ (calls h) d m) j a l
 ended-by-next (dequeueStarted ∷ h) w d m j (inr a) l =

@@ -14,13 +14,14 @@ use Rattle.history.specs.Calls.{Answer, nothing, item, empty, Enqueue, Dequeue,
 use Rattle.history.specs.Form.{wellFormed}
 use Rattle.history.specs.Linearization.{Item, Queue, Precedes, dequeue, run, Linearization, Linearizable}
 use Rattle.criterion.specs.Explained.{Explained}
+use Rattle.criterion.specs.Parts.{itemOf, enqueueOf, enqueuesOf}
 use Rattle.criterion.specs.Members.{all-at, in-left, in-right, in-either, in-map, from-map, split-at, split-map, pairwise-across, pairwise-left, pairwise-right, in-gather, from-gather, pairwise-gather}
 use Rattle.criterion.specs.Entering.{enq-not-deq}
-use Rattle.criterion.specs.Growth.{itemOf}
 use Rattle.criterion.specs.Tidy.{enqueue-tells, dequeue-tells, Gave}
 use Rattle.criterion.specs.Apart.{same-number, one-at-a-time}
-use Rattle.criterion.specs.Orderly.{TakenBefore, FairItem, FairEmpty, Fair, Orderly, answered-ended, item-not-nothing, empty-not-nothing, orderly-is-explained}
-use Rattle.criterion.specs.Fifo.{enqueueOf, enqueuesOf, run-parts, run-first, gives-its-item, finds-nothing, RemovedBy, Gone, fifo}
+use Rattle.criterion.specs.Fair.{TakenBefore, FairItem, FairEmpty, Fair, Orderly}
+use Rattle.criterion.specs.Orderly.{answered-ended, item-not-nothing, empty-not-nothing, orderly-is-explained}
+use Rattle.criterion.specs.Fifo.{run-parts, run-first, gives-its-item, finds-nothing, RemovedBy, Gone, fifo}
 
 -- an enqueue among some calls
 is-enqueue : (c : Call) (x : Enqueue) → Member x (enqueueOf c) → c ≡ enq x
@@ -42,7 +43,8 @@ pairwise-enqueues R cs p =
     alone (deq d) = tt
 
 -- A linearization, split where dequeue d stands.
-module _ (h : History) (w : wellFormed h ≡ true) (ord : List Call) (left : Queue) (lin : Linearization h ord left) (d : Dequeue) (b c : List Call) (split : ord ≡ b ++ (deq d ∷ c)) (ended : d .end ≢ 0) where
+module _ (h : History) (w : wellFormed h ≡ true) (ord : List Call) (left : Queue) (lin : Linearization h ord left)
+    (d : Dequeue) (b c : List Call) (split : ord ≡ b ++ (deq d ∷ c)) (ended : d .end ≢ 0) where
   theirs : (a : Call) → Member a (b ++ (deq d ∷ c)) → Member a (calls h)
   theirs a m = all-at (λ a. Member a (calls h)) ord (lin .theirs) a (subst (Member a) (sym split) m)
 
@@ -78,7 +80,12 @@ module _ (h : History) (w : wellFormed h ≡ true) (ord : List Call) (left : Que
   removed-taken g r =
       let f = ended-first (r .by) (r .member) in
       let t = dequeue-tells h w d own .forward ended in
-      let a : r .by .answer ≡ item (g .number) (g .value) = elim (r .removes) [ inl e ↦ e | inr e ↦ absurd (subst (λ a. Gave a (r .by .end) h) e (dequeue-tells h w (r .by) (before (deq (r .by)) (r .member)) .ended (f .0))) ] in
+      let a : r .by .answer ≡ item (g .number) (g .value) = elim
+      (r .removes) [
+        | inl e ↦ e
+        | inr e ↦ absurd
+            (subst (λ a. Gave a (r .by .end) h) e (dequeue-tells h w (r .by) (before (deq (r .by)) (r .member)) .ended (f .0)))
+      ] in
       record { by = r .by; value = g .value; member = before (deq (r .by)) (r .member); gives = a; before = omega arith }
 
   -- an enqueue that stands after it did not end before it started
@@ -99,7 +106,8 @@ module _ (h : History) (w : wellFormed h ≡ true) (ord : List Call) (left : Que
       behind k (yes s) = let o = one-at-a-time h w d e own m s in let f = dequeue-tells h w e m .forward z in omega arith
       behind k (no s) =
           let n = all-at (λ a. d .start ≢ startOf a) c (pairwise-right _ b (deq d ∷ c) once .0) (deq e) k in
-          all-at (λ a. Precedes a (deq d) → ⊥) c (pairwise-right _ b (deq d ∷ c) timely .0) (deq e) k (one-at-a-time h w e d m own (omega arith))
+          all-at (λ a. Precedes a (deq d) → ⊥) c (pairwise-right _ b (deq d ∷ c) timely .0) (deq e) k
+          (one-at-a-time h w e d m own (omega arith))
 
   -- The run up to it, where q is what it finds.
   module _ (q : Queue) (turn : Gone [] b q) where
@@ -107,7 +115,8 @@ module _ (h : History) (w : wellFormed h ≡ true) (ord : List Call) (left : Que
     gone-taken g m = removed-taken g (all-at (RemovedBy b) (turn .gone) (turn .removed-by) g m)
 
     -- It gives the item of enqueue x; xs are the enqueues before that one, and their items are gone.
-    module _ (n v : ℕ) (xs : List Enqueue) (x : Enqueue) (ys : List Enqueue) (parts : enqueuesOf b ≡ xs ++ (x ∷ ys)) (firsts : map itemOf xs ≡ turn .gone) (is : itemOf x ≡ record { number = n; value = v }) where
+    module _ (n v : ℕ) (xs : List Enqueue) (x : Enqueue) (ys : List Enqueue) (parts : enqueuesOf b ≡ xs ++ (x ∷ ys))
+        (firsts : map itemOf xs ≡ turn .gone) (is : itemOf x ≡ record { number = n; value = v }) where
       stands : (y : Enqueue) → Member y (xs ++ (x ∷ ys)) → Member (enq y) b
       stands y m = in-calls b y (subst (Member y) (sym parts) m)
 
@@ -123,8 +132,10 @@ module _ (h : History) (w : wellFormed h ≡ true) (ord : List Call) (left : Que
           let m = stands-first e (t .member) (answered-ended h w e (t .member) (λ q. item-not-nothing (sym (t .gives) ∙ q))) (t .before) in
           let r = from-map itemOf _ xs (subst (Member _) (sym firsts) (turn .given e n (t .value) m (t .gives))) in
           let k : Member (r .0) (xs ++ (x ∷ ys)) = in-left (r .0) xs (x ∷ ys) (r .1) in
-          let same = same-number h w (r .0) x (before _ (stands (r .0) k)) (before _ there) (ap (λ (i : Item). i .number) (sym (r .2)) ∙ ap (λ (i : Item). i .number) (sym is)) in
-          pairwise-across _ xs (x ∷ ys) (in-order (λ a b. startOf a ≢ startOf b) once) (r .0) x (r .1) (inl refl) (ap (λ (y : Enqueue). y .start) same)
+          let same = same-number h w (r .0) x (before _ (stands (r .0) k)) (before _ there)
+          (ap (λ (i : Item). i .number) (sym (r .2)) ∙ ap (λ (i : Item). i .number) (sym is)) in
+          pairwise-across _ xs (x ∷ ys) (in-order (λ a b. startOf a ≢ startOf b) once) (r .0) x (r .1) (inl refl)
+          (ap (λ (y : Enqueue). y .start) same)
 
       firsts-taken : (y : Enqueue) → Member (enq y) (calls h) → Precedes (enq y) (enq x) → TakenBefore (y .number) (d .end) (calls h)
       firsts-taken y m p =
@@ -140,7 +151,8 @@ module _ (h : History) (w : wellFormed h ≡ true) (ord : List Call) (left : Que
               (let f = enqueue-tells h w y m .forward (p .0) in let s = ap (λ (z : Enqueue). z .start) e in let l = p .1 in omega arith)
           within (inr (inr k)) =
               absurd
-              (all-at (λ z. Precedes (enq z) (enq x) → ⊥) ys (pairwise-right _ xs (x ∷ ys) (in-order (λ a b. Precedes b a → ⊥) timely) .0) y k p)
+              (all-at (λ z. Precedes (enq z) (enq x) → ⊥) ys
+              (pairwise-right _ xs (x ∷ ys) (in-order (λ a b. Precedes b a → ⊥) timely) .0) y k p)
 
       gives-fairly : FairItem n v (d .end) (calls h)
       gives-fairly =
@@ -159,7 +171,9 @@ module _ (h : History) (w : wellFormed h ≡ true) (ord : List Call) (left : Que
     finds-none-fairly : q ≡ [] → FairEmpty (d .start) (d .end) (calls h)
     finds-none-fairly e y m z l =
         elim (kept (enq y) m z) [
-          | inl k ↦ gone-taken (itemOf y) (subst (Member (itemOf y)) (turn .in-turn ∙ ap (λ r. turn .gone ++ r) e ∙ append-nil (turn .gone)) (in-map itemOf y (enqueuesOf b) (enqueue-in b y k)))
+          | inl k ↦ gone-taken (itemOf y)
+              (subst (Member (itemOf y)) (turn .in-turn ∙ ap (λ r. turn .gone ++ r) e ∙ append-nil (turn .gone))
+              (in-map itemOf y (enqueuesOf b) (enqueue-in b y k)))
           | inr k ↦ absurd (not-behind y (z, l) k)
         ]
 

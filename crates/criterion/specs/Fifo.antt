@@ -9,21 +9,13 @@ use Prim.Native.Nat.{ℕ}
 use lib.Dec.{eqb}
 use borrow.Author.Tests.{eqb-true}
 use Rattle.history.specs.Lists.{All, Member}
-use Rattle.history.specs.Calls.{Answer, nothing, item, empty, Enqueue, Dequeue, Call, enq, deq}
+use Rattle.history.specs.Calls.{Answer, nothing, item, empty, Dequeue, Call, enq, deq}
 use Rattle.history.specs.Linearization.{Item, Queue, dequeue, perform, run}
-use Rattle.criterion.specs.Members.{all-map, all-append, in-left, in-right, gather}
+use Rattle.criterion.specs.Parts.{itemOf, enqueuesOf}
+use Rattle.criterion.specs.Members.{all-map, all-append, in-left, in-right}
 use Rattle.criterion.specs.Entering.{enq-not-deq, same-deq}
-use Rattle.criterion.specs.Growth.{itemOf}
 use Rattle.criterion.specs.Orderly.{item-not-nothing, item-not-empty}
 use Rattle.criterion.specs.Fits.{run-step}
-
--- the enqueues among some calls
-abbrev pub enqueueOf : Call → List Enqueue
-enqueueOf (enq x) = x ∷ []
-enqueueOf (deq d) = []
-
-abbrev pub enqueuesOf : List Call → List Enqueue
-enqueuesOf cs = gather enqueueOf cs
 
 -- a run, one call at a time and in two parts
 pub run-first :
@@ -81,7 +73,13 @@ no-item a q f n v e = absurd (f n v e)
 
 removed : (a : Answer) (q r : Queue) → dequeue a q ≡ some r → Removed a q r
 removed nothing [] r e =
-    record { items = []; in-turn = Option·some-injective [] r e; removes = tt; given = no-item nothing [] (λ n v p. item-not-nothing (sym p)) }
+    record {
+      items = [];
+      in-turn = Option·some-injective [] r e;
+      removes = tt;
+      given = no-item nothing []
+          (λ n v p. item-not-nothing (sym p));
+    }
 removed nothing (x ∷ q) r e =
     record {
       items = x ∷ [];
@@ -132,7 +130,8 @@ fifo (deq d ∷ cs) q left e =
           ∙ sym (append-assoc (m .items) (r .gone) left);
       removed-by =
           all-append (RemovedBy (deq d ∷ cs)) (m .items) (r .gone)
-          (all-map (Removes (d .answer)) (RemovedBy (deq d ∷ cs)) (m .items) (λ g a. record { by = d; member = inl refl; removes = a }) (m .removes))
+          (all-map (Removes (d .answer)) (RemovedBy (deq d ∷ cs)) (m .items)
+          (λ g a. record { by = d; member = inl refl; removes = a }) (m .removes))
           (all-map (RemovedBy cs) (RemovedBy (deq d ∷ cs)) (r .gone) (by-later (deq d) cs) (r .removed-by));
       given =
           λ b n v k p.

@@ -10,8 +10,8 @@ use borrow.Author.Tests.{eq-eqb}
 use Rattle.history.specs.Lists.{All, Pairwise, Member}
 use Rattle.history.specs.Calls.{item, empty, Enqueue, Dequeue, Call, enq, deq, startOf}
 use Rattle.history.specs.Linearization.{Queue, Precedes, perform, dequeue, run}
+use Rattle.criterion.specs.Parts.{itemOf}
 use Rattle.criterion.specs.Members.{all-at, all-of, all-map, in-map, from-map, pairwise-map}
-use Rattle.criterion.specs.Growth.{itemOf}
 
 -- `Fits ds q p r ord`: with q in the queue, the enqueues p and the dequeues ds make up ord, and leave r.
 pub data Fits : List Dequeue → (q p r : List Enqueue) → List Call → Type 0 where
@@ -47,7 +47,8 @@ pub fits-runs :
     → run (map itemOf q) ord ≡ some (map itemOf r)
 fits-runs (done {q = q} {p = p}) = run-enqueues q p
 fits-runs (put {x = x} {q = q} {r = r} {ord = ord} l f) = subst (λ z. run z ord ≡ some (map itemOf r)) (map-snoc q x) (fits-runs f)
-fits-runs (give {d = d} {x = x} {q = q} {ord = ord} e a f) = run-step (deq d) _ _ ord (ap (λ b. dequeue b (map itemOf (x ∷ q))) e ∙ gives-front x (map itemOf q)) ∙ fits-runs f
+fits-runs (give {d = d} {x = x} {q = q} {ord = ord} e a f) = run-step (deq d) _ _ ord
+    (ap (λ b. dequeue b (map itemOf (x ∷ q))) e ∙ gives-front x (map itemOf q)) ∙ fits-runs f
 fits-runs (find-none e a f) = rw e (fits-runs f)
 
 -- It holds just those calls.
@@ -135,6 +136,18 @@ first-dequeue d ds p s a (deq b) m =
 
 pub fits-timely : {ds : List Dequeue} {q p r : List Enqueue} {ord : List Call} → Fits ds q p r ord → Sorted ds p → Pairwise Timely ord
 fits-timely (done {p = p}) s = pairwise-map Timely (λ x y. Timely (enq x) (enq y)) enq p (λ a b t. t) (s .enqueues)
-fits-timely (put {d = d} {ds = ds} {x = x} {p = p} {ord = ord} l f) s = (all-of _ ord (λ c m. first-enqueue d ds x p s l c (fits-among f c m)), fits-timely f (without-enqueue s))
-fits-timely (give {d = d} {ds = ds} {p = p} {ord = ord} e a f) s = (all-of _ ord (λ c m. first-dequeue d ds p s a c (fits-among f c m)), fits-timely f (without-dequeue s))
-fits-timely (find-none {d = d} {ds = ds} {p = p} {ord = ord} e a f) s = (all-of _ ord (λ c m. first-dequeue d ds p s a c (fits-among f c m)), fits-timely f (without-dequeue s))
+fits-timely (put {d = d} {ds = ds} {x = x} {p = p} {ord = ord} l f) s = (
+  all-of _ ord
+      (λ c m. first-enqueue d ds x p s l c (fits-among f c m)),
+  fits-timely f (without-enqueue s),
+)
+fits-timely (give {d = d} {ds = ds} {p = p} {ord = ord} e a f) s = (
+  all-of _ ord
+      (λ c m. first-dequeue d ds p s a c (fits-among f c m)),
+  fits-timely f (without-dequeue s),
+)
+fits-timely (find-none {d = d} {ds = ds} {p = p} {ord = ord} e a f) s = (
+  all-of _ ord
+      (λ c m. first-dequeue d ds p s a c (fits-among f c m)),
+  fits-timely f (without-dequeue s),
+)

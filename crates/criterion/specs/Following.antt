@@ -12,7 +12,7 @@ use Rattle.history.specs.Event.{Event, History, enqueueStarted, enqueueEnded, d
 use Rattle.history.specs.Calls.{Enqueue, Dequeue, Call, enq, deq, calls}
 use Rattle.history.specs.Form.{any, enqueues, enqueuesItem, dequeues, hasNumber, follows, wellFormed}
 
-or-right : (a b : Bool) → b ≡ true → (a || b) ≡ true
+pub or-right : (a b : Bool) → b ≡ true → (a || b) ≡ true
 or-right true b e = refl
 or-right false b e = e
 
@@ -25,7 +25,9 @@ pub any-at : (p : Call → Bool) (cs : List Call) → any p cs ≡ true → (c :
 any-at p [] e = absurd (false≢true e)
 any-at p (b ∷ cs) e = go (p b) refl (any-at p cs)
   where
-    go : (t : Bool) → p b ≡ t → (any p cs ≡ true → (c : Call) × Member c cs × (p c ≡ true)) → (c : Call) × Member c (b ∷ cs) × (p c ≡ true)
+    go :
+        (t : Bool) → p b ≡ t → (any p cs ≡ true → (c : Call) × Member c cs × (p c ≡ true))
+        → (c : Call) × Member c (b ∷ cs) × (p c ≡ true)
     go true q r = (b, inl refl, q)
     go false q r = let s = r (rw q at e) in (s .0, inr (s .1), s .2)
 
@@ -61,15 +63,16 @@ is-idle t x f = go (enqueues t (enq x)) refl
     go false q = refl
 
 module _ (t n v : ℕ) (cs : List Call) where
-  pub thread-is-free : follows (enqueueStarted t n v) cs ≡ true → (x : Enqueue) → Member (enq x) cs → x .thread ≡ t → x .end ≡ 0 → ⊥
-  thread-is-free f x m p q =
-      true≢false
-      (sym (is-busy t x p q) ∙ none-at (enqueues t) cs (not-true _ (and-eq-true-iff (not (any (enqueues t) cs)) (not (any (hasNumber n) cs)) .0 f .0)) (enq x) m)
+  both-tests : follows (enqueueStarted t n v) cs ≡ true → (any (enqueues t) cs ≡ false) × (any (hasNumber n) cs ≡ false)
+  both-tests f =
+      let r = and-eq-true-iff (not (any (enqueues t) cs)) (not (any (hasNumber n) cs)) .0 f in
+      (not-true _ (r .0), not-true _ (r .1))
 
-  pub number-is-new : follows (enqueueStarted t n v) cs ≡ true → (x : Enqueue) → Member (enq x) cs → x .number ≡ n → ⊥
-  number-is-new f x m p =
-      true≢false
-      (sym (eq-eqb (x .number) n p) ∙ none-at (hasNumber n) cs (not-true _ (and-eq-true-iff (not (any (enqueues t) cs)) (not (any (hasNumber n) cs)) .0 f .1)) (enq x) m)
+  pub thread-is-free : follows (enqueueStarted t n v) cs ≡ true → (x : Enqueue) → Member (enq x) cs → x .thread ≡ t → x .end ≢ 0
+  thread-is-free f x m p q = true≢false (sym (is-busy t x p q) ∙ none-at (enqueues t) cs (both-tests f .0) (enq x) m)
+
+  pub number-is-new : follows (enqueueStarted t n v) cs ≡ true → (x : Enqueue) → Member (enq x) cs → x .number ≢ n
+  number-is-new f x m p = true≢false (sym (eq-eqb (x .number) n p) ∙ none-at (hasNumber n) cs (both-tests f .1) (enq x) m)
 
   pub may-start :
       ((x : Enqueue) → Member (enq x) cs → x .thread ≡ t → x .end ≢ 0) → ((x : Enqueue) → Member (enq x) cs → x .number ≢ n)

@@ -8,9 +8,10 @@ use lib.Dec.{eqb}
 use borrow.Author.Tests.{eqb-true, eqb-false}
 use Rattle.history.specs.Lists.{Pairwise, Member}
 use Rattle.history.specs.Calls.{Answer, nothing, item, empty, Enqueue, Dequeue, Call, enq, deq}
+use Rattle.criterion.specs.Parts.{ifAnswered, dequeueOf, dequeuesOf, look}
 use Rattle.criterion.specs.Members.{in-gather, from-gather, pairwise-gather}
 use Rattle.criterion.specs.Entering.{same-enq, enq-not-deq}
-use Rattle.criterion.specs.Order.{ifAnswered, dequeueOf, dequeuesOf, look, lookAnswer, taken}
+use Rattle.criterion.specs.Order.{lookAnswer, taken}
 use Rattle.criterion.specs.Orderly.{item-not-nothing, empty-not-nothing}
 
 -- the answered dequeues

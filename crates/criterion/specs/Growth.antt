@@ -17,18 +17,16 @@ use Rattle.history.specs.Calls.{Answer, item, empty, Enqueue, Dequeue, Call, en
 use Rattle.history.specs.Form.{wellFormed}
 use Rattle.history.specs.Linearization.{Item, Settled}
 use Rattle.criterion.specs.Explained.{Begun, current, dequeuing}
+use Rattle.criterion.specs.Parts.{itemOf}
 use Rattle.criterion.specs.Members.{all-at, in-left, in-right, in-snoc, in-map}
 use Rattle.criterion.specs.Following.{head-follows, tail-formed, grows, thread-is-free, may-start, may-end, may-dequeue, may-answer}
 use Rattle.criterion.specs.Entering.{opened, asked, same-enq, enq-not-deq, enqueue-in-ended, dequeue-in-ended, dequeue-in-answered, enqueue-in-answered, enqueue-stays}
 
--- the item that an enqueue puts
-abbrev pub itemOf : Enqueue → Item
-itemOf x = record { number = x .number; value = x .value }
-
--- a test of two numbers, decided
+-- an event of another thread leaves the current enqueue as it is
 current-other : (t u : ℕ) (i j : Option Item) → (t ≡ u → ⊥) → cond (eqb t u) i j ≡ j
 current-other t u i j f = rw (ne-eqb t u f)
 
+-- no dequeue is under way after an answer
 none-open : (a : Answer) (h : History) (d : Dequeue) → Member (deq d) (map (endDequeue (suc (length h)) a) (calls h)) → d .end ≢ 0
 none-open a h d m z =
     elim (dequeue-in-answered _ a (calls h) d m) [
@@ -42,7 +40,9 @@ pub open-is-current :
     → current (x .thread) h ≡ some (itemOf x)
 open-is-current (enqueueStarted t n v ∷ h) w x m z =
     elim (in-snoc (enq x) (calls h) _ m) [
-      | inl l ↦ current-other t (x .thread) _ _ (λ e. thread-is-free t n v (calls h) (head-follows (enqueueStarted t n v) h w) x l (sym e) z) ∙ open-is-current h (tail-formed (enqueueStarted t n v) h w) x l z
+      | inl l ↦ current-other t (x .thread) _ _
+          (λ e. thread-is-free t n v (calls h) (head-follows (enqueueStarted t n v) h w) x l (sym e) z) ∙ open-is-current h
+          (tail-formed (enqueueStarted t n v) h w) x l z
       | inr e ↦ rw (same-enq e, eq-eqb t t refl)
     ]
 open-is-current (enqueueEnded t n v ∷ h) w x m z =
@@ -51,7 +51,10 @@ open-is-current (enqueueEnded t n v ∷ h) w x m z =
       | inr r ↦ absurd (let e : suc (length h) ≡ 0 = cc (r .4) in omega arith)
     ]
 open-is-current (dequeueStarted ∷ h) w x m z =
-    elim (in-snoc (enq x) (calls h) _ m) [ inl l ↦ open-is-current h (tail-formed dequeueStarted h w) x l z | inr e ↦ absurd (enq-not-deq e) ]
+    elim (in-snoc (enq x) (calls h) _ m) [
+      | inl l ↦ open-is-current h (tail-formed dequeueStarted h w) x l z
+      | inr e ↦ absurd (enq-not-deq e)
+    ]
 open-is-current (gaveItem n v ∷ h) w x m z =
     open-is-current h (tail-formed (gaveItem n v) h w) x (enqueue-in-answered _ (item n v) (calls h) x m) z
 open-is-current (gaveEmpty ∷ h) w x m z = open-is-current h (tail-formed gaveEmpty h w) x (enqueue-in-answered _ empty (calls h) x m) z
@@ -85,7 +88,10 @@ current-is-open (gaveEmpty ∷ h) t i e =
 -- A dequeue is under way exactly when the history is dequeuing.
 pub open-is-dequeuing : (h : History) → wellFormed h ≡ true → (d : Dequeue) → Member (deq d) (calls h) → d .end ≡ 0 → dequeuing h ≡ true
 open-is-dequeuing (enqueueStarted t n v ∷ h) w d m z =
-    elim (in-snoc (deq d) (calls h) _ m) [ inl l ↦ open-is-dequeuing h (tail-formed (enqueueStarted t n v) h w) d l z | inr e ↦ absurd (enq-not-deq (sym e)) ]
+    elim (in-snoc (deq d) (calls h) _ m) [
+      | inl l ↦ open-is-dequeuing h (tail-formed (enqueueStarted t n v) h w) d l z
+      | inr e ↦ absurd (enq-not-deq (sym e))
+    ]
 open-is-dequeuing (enqueueEnded t n v ∷ h) w d m z =
     open-is-dequeuing h (tail-formed (enqueueEnded t n v) h w) d (dequeue-in-ended t _ (calls h) d m) z
 open-is-dequeuing (dequeueStarted ∷ h) w d m z = refl
@@ -130,7 +136,8 @@ module _ (h : History) (w : wellFormed h ≡ true) where
   pub enqueue-may-end : (t n v : ℕ) → current t h ≡ some (record { number = n; value = v }) → wellFormed (enqueueEnded t n v ∷ h) ≡ true
   enqueue-may-end t n v c =
       let r = current-is-open h t _ c in
-      grows (enqueueEnded t n v) h (may-end t n v (calls h) (r .0) (r .1) (r .2) (r .3) (ap (λ (i : Item). i .number) (r .4)) (ap (λ (i : Item). i .value) (r .4))) w
+      grows (enqueueEnded t n v) h (may-end t n v (calls h) (r .0) (r .1) (r .2) (r .3) (ap (λ (i : Item). i .number) (r .4))
+      (ap (λ (i : Item). i .value) (r .4))) w
 
   pub dequeue-may-start : dequeuing h ≡ false → wellFormed (dequeueStarted ∷ h) ≡ true
   dequeue-may-start e = grows dequeueStarted h (may-dequeue (calls h) (λ d m z. true≢false (sym (open-is-dequeuing h w d m z) ∙ e))) w

@@ -15,7 +15,8 @@ use Rattle.criterion.specs.Members.{all-at, in-left, in-right, in-either
 use Rattle.criterion.specs.Entering.{same-deq, enq-not-deq}
 use Rattle.criterion.specs.Tidy.{enqueue-tells, dequeue-tells}
 use Rattle.criterion.specs.Apart.{starts-rise, same-number, one-at-a-time}
-use Rattle.criterion.specs.Orderly.{TakenBefore, Fair, Orderly, answered-ended, item-not-nothing, item-not-empty, empty-not-nothing, explained-is-orderly, orderly-is-explained}
+use Rattle.criterion.specs.Fair.{TakenBefore, Fair, Orderly}
+use Rattle.criterion.specs.Orderly.{answered-ended, item-not-nothing, item-not-empty, empty-not-nothing, explained-is-orderly, orderly-is-explained}
 use Rattle.criterion.specs.Found.{look-finds}
 use Rattle.criterion.specs.Pass.{answering, passes, explains}
 use Rattle.criterion.specs.Marks.{Short, Marks, leaves-is, is-leaves, marks-both, giving-is, is-giving}
@@ -44,8 +45,11 @@ known-more :
     → Known given b → Known given (b ++ (c ∷ []))
 known-more given b c f k n = (
   λ m. given-on c (k n .0 m),
-  λ g. elim (in-snoc (deq (g .by)) b c (g .member))
-      [ inl m ↦ k n .1 (record { by = g .by; value = g .value; member = m; gives = g .gives }) | inr e ↦ absurd (f (g .by) n (g .value) e (g .gives)) ],
+  λ g. elim (in-snoc (deq (g .by)) b c (g .member)) [
+    | inl m ↦ k n .1 (record { by = g .by; value = g .value; member = m; gives = g .gives })
+    | inr e ↦ absurd
+        (f (g .by) n (g .value) e (g .gives))
+  ],
 )
 
 same-number-given : (n v m w : ℕ) → item n v ≡ item m w → n ≡ m
@@ -113,7 +117,8 @@ module _ (h : History) (w : wellFormed h ≡ true) where
       go y m s (item n v) e ih =
           let r = giving-is (calls h) n v (d .end) mark given (passes (calls h) l) e in
           elim (ih _ _ (r .2) y m (s .0, let q = s .1 in omega arith)) [
-            | inl q ↦ absurd (r .1 .not-short (subst (Short mark) (same-number h w y (r .0) m (r .1 .member) (q ∙ sym (r .1 .number-is))) s))
+            | inl q ↦ absurd (r .1 .not-short
+                (subst (Short mark) (same-number h w y (r .0) m (r .1 .member) (q ∙ sym (r .1 .number-is))) s))
             | inr k ↦ k
           ]
       go y m s empty e ih = ih _ _ e y m (s .0, let q = s .1 in omega arith)
@@ -163,15 +168,18 @@ module _ (h : History) (w : wellFormed h ≡ true) where
             (_, _, known-given given b d n v q k, r .2),
           )
       go empty q e =
-          let z = ended empty q empty-not-nothing in
-          (λ y m f s. given-taken b l d split z (y .number) (k (y .number) .0 (marked l _ _ e y m (f, omega arith))), (_, _, known-more given b (deq d) (gives-no-item d empty q (λ n v p. item-not-empty (sym p))) k, e))
+          let z = ended empty q empty-not-nothing in (
+            λ y m f s. given-taken b l d split z (y .number) (k (y .number) .0 (marked l _ _ e y m (f, omega arith))),
+            (_, _, known-more given b (deq d) (gives-no-item d empty q (λ n v p. item-not-empty (sym p))) k, e),
+          )
 
   fair-on :
       (b l : List Call) → calls h ≡ b ++ l → (mark : ℕ) (given : List ℕ) → Known given b → passes (calls h) l mark given ≡ true
       → (d : Dequeue) → Member (deq d) l → Fair (d .answer) (d .start) (d .end) (calls h)
   fair-on b (enq x ∷ l) split mark given k e d (inl q) = absurd (enq-not-deq (sym q))
   fair-on b (enq x ∷ l) split mark given k e d (inr m) =
-      fair-on (b ++ (enq x ∷ [])) l (rw append-assoc split) mark given (known-more given b (enq x) (λ d n v q p. enq-not-deq (sym q)) k) e d m
+      fair-on (b ++ (enq x ∷ [])) l (rw append-assoc split) mark given
+      (known-more given b (enq x) (λ d n v q p. enq-not-deq (sym q)) k) e d m
   fair-on b (deq c ∷ l) split mark given k e d (inl q) =
       subst (λ z. Fair (z .answer) (z .start) (z .end) (calls h)) (sym (same-deq q)) (answers-fairly b l c split mark given k e .0)
   fair-on b (deq c ∷ l) split mark given k e d (inr m) =
@@ -203,7 +211,8 @@ module _ (h : History) (w : wellFormed h ≡ true) where
           let z = answered-ended h w d own-member (λ p. item-not-nothing (sym q ∙ p)) in
           let new : Member n given → ⊥ = λ m. f .untaken (given-taken b l d split z n (k n .0 m)) in
           is-giving (calls h) n v (d .end) mark given (passes (calls h) l) (f .given)
-          (look-finds n (f .given) (calls h) (f .member) (f .number-is) (λ y m e. same-number h w y (f .given) m (f .member) (e ∙ sym (f .number-is))))
+          (look-finds n (f .given) (calls h) (f .member) (f .number-is)
+          (λ y m e. same-number h w y (f .given) m (f .member) (e ∙ sym (f .number-is))))
           (record {
             member = f .member;
             number-is = f .number-is;
@@ -213,7 +222,8 @@ module _ (h : History) (w : wellFormed h ≡ true) where
             not-short = λ s. new (subst (λ i. Member i given) (f .number-is) (t (f .given) (f .member) s));
           })
           (ih _ _ (known-given given b d n v q k)
-          (marks-both (calls h) mark (f .given .start) (n ∷ given) (λ y m s. inr (t y m s)) (λ y m s. inr (known (item n v) q item-not-nothing (y .number) (f .first y m s)))))
+          (marks-both (calls h) mark (f .given .start) (n ∷ given) (λ y m s. inr (t y m s))
+          (λ y m s. inr (known (item n v) q item-not-nothing (y .number) (f .first y m s)))))
       go empty q f ih = ih _ _ (known-more given b (deq d) (gives-no-item d empty q (λ n v p. item-not-empty (sym p))) k)
           (marks-both (calls h) mark (d .start) given t (λ y m s. known empty q empty-not-nothing (y .number) (f y m (s .0) (s .1))))
 

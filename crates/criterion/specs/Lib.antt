@@ -1,4 +1,8 @@
 pub mod Explained
+pub mod Parts
+pub mod Order
+pub mod Fair
+pub mod Pass
 pub mod Members
 pub mod Following
 pub mod Entering
@@ -7,7 +11,6 @@ pub mod Times
 pub mod Tidy
 pub mod Apart
 pub mod Orderly
-pub mod Order
 pub mod Fits
 pub mod Serve
 pub mod Found
@@ -15,8 +18,7 @@ pub mod Sound
 pub mod Fifo
 pub mod Complete
 pub mod Remaining
-pub mod Criterion
-pub mod Pass
 pub mod Marks
 pub mod Judged
+pub mod Criterion
 pub mod Runs

@@ -11,8 +11,9 @@ use lib.Dec.{leb, eqb}
 use borrow.Author.Tests.{eqb-true, eqb-false, eq-eqb, leb-true, le-leb, not-true}
 use Rattle.history.specs.Lists.{Member}
 use Rattle.history.specs.Calls.{Enqueue, Call, enq, deq}
+use Rattle.criterion.specs.Parts.{look}
 use Rattle.criterion.specs.Entering.{same-enq, enq-not-deq}
-use Rattle.criterion.specs.Order.{look}
+use Rattle.criterion.specs.Following.{or-right}
 use Rattle.criterion.specs.Found.{look-is}
 use Rattle.criterion.specs.Pass.{has, past, leaves, giving}
 
@@ -24,17 +25,13 @@ either false b e = inr e
 left-true : (a b : Bool) → a ≡ true → (a || b) ≡ true
 left-true a b e = rw e
 
-right-true : (a b : Bool) → b ≡ true → (a || b) ≡ true
-right-true true b e = refl
-right-true false b e = e
-
 pub has-is : (n : ℕ) (given : List ℕ) → has n given ≡ true → Member n given
 has-is n [] e = absurd (false≢true e)
 has-is n (k ∷ given) e = elim (either (eqb k n) (has n given) e) [ inl p ↦ inl (sym (eqb-true k n p)) | inr q ↦ inr (has-is n given q) ]
 
 pub is-has : (n : ℕ) (given : List ℕ) → Member n given → has n given ≡ true
 is-has n (k ∷ given) (inl e) = left-true (eqb k n) (has n given) (eq-eqb k n (sym e))
-is-has n (k ∷ given) (inr m) = right-true (eqb k n) (has n given) (is-has n given m)
+is-has n (k ∷ given) (inr m) = or-right (eqb k n) (has n given) (is-has n given m)
 
 pub has-not : (n : ℕ) (given : List ℕ) → (Member n given → ⊥) → has n given ≡ false
 has-not n given f = go (has n given) refl
@@ -116,7 +113,8 @@ module _ (cs : List Call) (n v k mark : ℕ) (given : List ℕ) (on : ℕ → Li
           → (x : Enqueue) × Gives cs n v k mark given x × (on (max mark (x .start)) (n ∷ given) ≡ true)
       go [] q e = absurd (false≢true e)
       go (x ∷ xs) q e =
-          let a = and-eq-true-iff (eqb (x .value) v && not (has n given) && leb (x .start) k && past mark x) (on (max mark (x .start)) (n ∷ given)) .0 e in
+          let a = and-eq-true-iff (eqb (x .value) v && not (has n given) && leb (x .start) k && past mark x)
+          (on (max mark (x .start)) (n ∷ given)) .0 e in
           let b = and-eq-true-iff (eqb (x .value) v && not (has n given) && leb (x .start) k) (past mark x) .0 (a .0) in
           let c = and-eq-true-iff (eqb (x .value) v && not (has n given)) (leb (x .start) k) .0 (b .0) in
           let f = and-eq-true-iff (eqb (x .value) v) (not (has n given)) .0 (c .0) in

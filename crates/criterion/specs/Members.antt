@@ -5,6 +5,7 @@ use mathlib.Core.Logic.{_⊎_, inl, inr}
 use mathlib.Core.List.{List, [], _∷_, _++_, map}
 use Prim.Native.Nat.{ℕ}
 use native.Mathlib.Omega.{arith}
+use Rattle.criterion.specs.Parts.{gather}
 use Rattle.history.specs.Lists.{All, Pairwise, Member}
 
 module _ {A : Type 0} where
@@ -79,8 +80,11 @@ module _ {A : Type 0} where
       (R S : A → A → Type 0) (xs : List A) → Pairwise R xs → ((a b : A) → Member a xs → Member b xs → R a b → S a b)
       → Pairwise S xs
   pairwise-with R S [] p f = tt
-  pairwise-with R S (x ∷ xs) p f =
-      (all-of (S x) xs (λ a m. f x a (inl refl) (inr m) (all-at (R x) xs (p .0) a m)), pairwise-with R S xs (p .1) (λ a b m n. f a b (inr m) (inr n)))
+  pairwise-with R S (x ∷ xs) p f = (
+    all-of (S x) xs (λ a m. f x a (inl refl) (inr m) (all-at (R x) xs (p .0) a m)),
+    pairwise-with R S xs (p .1)
+        (λ a b m n. f a b (inr m) (inr n)),
+  )
 
   pub nil-not-cons : {x : A} {xs : List A} → [] ≡ x ∷ xs → ⊥
   nil-not-cons e = let z : _≡_ {A = ℕ} 0 1 = cc in omega arith
@@ -124,11 +128,6 @@ module _ {A B : Type 0} where
   split-map f (x ∷ xs) (y ∷ ys) z zs e =
       let r = split-map f xs ys z zs (cc) in
       (x ∷ r .0, r .1, r .2, cc (r .3), cc (e, r .4), r .5)
-
-  -- the lists that the elements give, one after the other
-  abbrev pub gather : (A → List B) → List A → List B
-  gather f [] = []
-  gather f (x ∷ xs) = f x ++ gather f xs
 
   pub in-gather : (f : A → List B) (a : A) (b : B) (xs : List A) → Member a xs → Member b (f a) → Member b (gather f xs)
   in-gather f a b (x ∷ xs) (inl e) m = in-left b (f x) (gather f xs) (subst (λ z. Member b (f z)) e m)

@@ -2,33 +2,14 @@
 -- to be left. Enqueues stand in the order in which their items are taken, then those of the items left; each stands as early as
 -- it may: before the first dequeue that did not end before it started, except that an item not taken before the next empty
 -- answer waits until that answer.
-use mathlib.Core.Bool.{Bool, true, false, _&&_, cond}
+use mathlib.Core.Bool.{Bool, true, false, _&&_, _||_, cond}
 use mathlib.Core.List.{List, [], _∷_, _++_, map}
-use Prim.Native.Nat.{ℕ}
 use lib.Dec.{leb, eqb}
 use Rattle.history.specs.Event.{History}
 use Rattle.history.specs.Calls.{Answer, nothing, item, empty, Enqueue, Dequeue, Call, enq, deq, calls}
 use Rattle.history.specs.Linearization.{Queue}
-use Rattle.criterion.specs.Members.{gather}
-
--- the answered dequeues
-abbrev pub ifAnswered : Answer → Dequeue → List Dequeue
-ifAnswered nothing d = []
-ifAnswered (item n v) d = d ∷ []
-ifAnswered empty d = d ∷ []
-
-abbrev pub dequeueOf : Call → List Dequeue
-dequeueOf (enq x) = []
-dequeueOf (deq d) = ifAnswered (d .answer) d
-
-abbrev pub dequeuesOf : List Call → List Dequeue
-dequeuesOf cs = gather dequeueOf cs
-
--- the enqueue with this number, if there is one
-abbrev pub look : ℕ → List Call → List Enqueue
-look n [] = []
-look n (enq x ∷ cs) = cond (eqb (x .number) n) (x ∷ []) (look n cs)
-look n (deq d ∷ cs) = look n cs
+use Rattle.history.specs.Form.{any}
+use Rattle.criterion.specs.Parts.{gather, itemOf, dequeuesOf, look, gives}
 
 -- the enqueues of the items that the dequeues gave, and of the items of a queue
 abbrev pub lookAnswer : List Call → Answer → List Enqueue
@@ -71,3 +52,14 @@ place (d ∷ ds) q p = fill d ds (place ds) q p
 
 unfoldable pub order : History → Queue → List Call
 order h rest = let cs = calls h in let ds = dequeuesOf cs in place ds [] (taken cs ds ++ left cs rest)
+
+-- One order in which items may be left: those of the enqueues that have ended and were not taken, in the order of their starts.
+abbrev pub ifLeft : List Call → Call → List Enqueue
+ifLeft cs (enq x) = cond (eqb (x .end) 0 || any (gives (x .number)) cs) [] (x ∷ [])
+ifLeft cs (deq d) = []
+
+abbrev pub remain : List Call → List Enqueue
+remain cs = gather (ifLeft cs) cs
+
+unfoldable pub remaining : History → Queue
+remaining h = map itemOf (remain (calls h))

@@ -1,52 +1,21 @@
--- The criterion as the calls tell it: each answered dequeue is fair. A well-formed history is explained exactly when its calls
--- are orderly.
+-- A well-formed history is explained exactly when its calls are orderly: the facts of each moment of the history, and the calls
+-- of the whole.
 use mathlib.Core.Path.{_≡_, refl, sym, ap, subst, subst₂, _∙_}
 use mathlib.Core.Logic.{inl, inr, _≢_}
 use mathlib.Core.Bool.{true}
-use mathlib.Core.List.{List, [], _∷_}
+use mathlib.Core.List.{[], _∷_}
 use Prim.Native.Nat.{ℕ, suc, _≤_, _<_}
 use native.Mathlib.Omega.{arith}
 use lib.ListN.{length}
 use Rattle.history.specs.Lists.{Member}
 use Rattle.history.specs.Event.{Event, History, enqueueStarted, enqueueEnded, dequeueStarted, gaveItem, gaveEmpty}
-use Rattle.history.specs.Calls.{Answer, nothing, item, empty, Enqueue, Dequeue, Call, enq, deq, calls}
+use Rattle.history.specs.Calls.{Answer, nothing, item, empty, Enqueue, Dequeue, deq, calls}
 use Rattle.history.specs.Form.{wellFormed}
-use Rattle.history.specs.Linearization.{Precedes}
 use Rattle.criterion.specs.Explained.{Started, Taken, MayGive, MayBeEmpty, Explained}
+use Rattle.criterion.specs.Fair.{TakenBefore, FairItem, FairEmpty, Fair, Orderly}
 use Rattle.criterion.specs.Times.{At, at-most, at-same, _⊑_, now, later, earlier, at-later, at-earlier, EndBefore, started-when, when-started, taken-when, when-taken, startOfNumber, before-when, when-before, askedAt, before-dequeue-when, when-before-dequeue}
 use Rattle.criterion.specs.Tidy.{Gave, enqueue-tells, dequeue-tells, enqueue-of-start, enqueue-of-end, dequeue-of-start, dequeue-of-end}
 use Rattle.criterion.specs.Apart.{same-number, none-meanwhile}
-
--- a dequeue that ended before event k gave item m
-pub record TakenBefore (m k : ℕ) (cs : List Call) : Type 0 where
-  pub by : Dequeue
-  pub value : ℕ
-  pub member : Member (deq by) cs
-  pub gives : by .answer ≡ item m value
-  pub before : by .end < k
-
--- A dequeue that ended at event k gave an item fairly: it was started by then, with that number and value, it was not taken, and
--- whatever ended before it started was taken.
-pub record FairItem (n v k : ℕ) (cs : List Call) : Type 0 where
-  pub given : Enqueue
-  pub member : Member (enq given) cs
-  pub number-is : given .number ≡ n
-  pub value-is : given .value ≡ v
-  pub started : given .start ≤ k
-  pub untaken : TakenBefore n k cs → ⊥
-  pub first : (y : Enqueue) → Member (enq y) cs → Precedes (enq y) (enq given) → TakenBefore (y .number) k cs
-
--- One that started at event s and ended at event k found nothing, fairly: whatever ended before it started was taken.
-abbrev pub FairEmpty : (s k : ℕ) → List Call → Type 0
-FairEmpty s k cs = (y : Enqueue) → Member (enq y) cs → y .end ≢ 0 → y .end < s → TakenBefore (y .number) k cs
-
-abbrev pub Fair : Answer → (s k : ℕ) → List Call → Type 0
-Fair nothing s k cs = Unit
-Fair (item n v) s k cs = FairItem n v k cs
-Fair empty s k cs = FairEmpty s k cs
-
-abbrev pub Orderly : List Call → Type 0
-Orderly cs = (d : Dequeue) → Member (deq d) cs → Fair (d .answer) (d .start) (d .end) cs
 
 -- an answered dequeue has ended
 pub answered-ended : (h : History) → wellFormed h ≡ true → (d : Dequeue) → Member (deq d) (calls h) → d .answer ≢ nothing → d .end ≢ 0
@@ -82,7 +51,8 @@ module _ (h : History) (w : wellFormed h ≡ true) (g : History) (s : g ⊑ h) w
   before-taken : (m : ℕ) → TakenBefore m (suc (length g)) (calls h) → Taken m g
   before-taken m t =
       when-taken _ m (t .value) g
-      (at-earlier s _ _ (gave-when h w (t .by) (t .member) (item m (t .value)) (t .gives) item-not-nothing) (let l = t .before in omega arith))
+      (at-earlier s _ _ (gave-when h w (t .by) (t .member) (item m (t .value)) (t .gives) item-not-nothing)
+      (let l = t .before in omega arith))
 
   -- an item given fairly
   gives-fairly : (n v : ℕ) → MayGive n v g → FairItem n v (suc (length g)) (calls h)
@@ -108,12 +78,14 @@ module _ (h : History) (w : wellFormed h ≡ true) (g : History) (s : g ⊑ h) w
   may-give : (n v : ℕ) → At (suc (length g)) (gaveItem n v) h → FairItem n v (suc (length g)) (calls h) → MayGive n v g
   may-give n v e r =
       let x = enqueue-tells h w (r .given) (r .member) in
-      let apart : r .given .start ≢ suc (length g) = λ q. start-no-gift _ _ _ _ _ _ h (x .started) (subst (λ k. At k (gaveItem n v) h) (sym q) e) in
+      let apart : r .given .start ≢ suc (length g) = λ q. start-no-gift _ _ _ _ _ _ h (x .started)
+      (subst (λ k. At k (gaveItem n v) h) (sym q) e) in
       let l = r .started in
       record {
         is-started =
             subst (λ k. Started k v g) (r .number-is)
-            (subst (λ k. Started (r .given .number) k g) (r .value-is) (when-started _ _ _ _ g (at-earlier s _ _ (x .started) (omega arith))));
+            (subst (λ k. Started (r .given .number) k g) (r .value-is)
+            (when-started _ _ _ _ g (at-earlier s _ _ (x .started) (omega arith))));
         is-untaken = λ t. r .untaken (taken-before n t);
         is-first = λ m q. first m (before-when m n g q);
       }
@@ -127,7 +99,8 @@ module _ (h : History) (w : wellFormed h ≡ true) (g : History) (s : g ⊑ h) w
           let b = at-most _ _ g (q .first .there) in
           let l = q .in-order in
           let ends = y .2 in
-          before-taken m (subst (λ k. TakenBefore k (suc (length g)) (calls h)) (y .3) (r .first (y .0) (y .1) (λ o. omega arith, omega arith)))
+          before-taken m (subst (λ k. TakenBefore k (suc (length g)) (calls h)) (y .3)
+          (r .first (y .0) (y .1) (λ o. omega arith, omega arith)))
 
   -- a dequeue that found nothing, fairly, with its record
   module _ (d : Dequeue) (member : Member (deq d) (calls h)) (ends : d .end ≡ suc (length g)) where
@@ -137,7 +110,8 @@ module _ (h : History) (w : wellFormed h ≡ true) (g : History) (s : g ⊑ h) w
         let f : d .start < d .end = b .forward (λ o. omega arith) in
         taken-before (y .number)
         (r (y .number)
-        (when-before-dequeue (y .end) _ _ _ (d .start) g (at-earlier s _ _ (enqueue-tells h w y m .ended z) (omega arith)) (at-earlier s _ _ (b .started) (omega arith)) l))
+        (when-before-dequeue (y .end) _ _ _ (d .start) g (at-earlier s _ _ (enqueue-tells h w y m .ended z) (omega arith))
+        (at-earlier s _ _ (b .started) (omega arith)) l))
 
     may-be-empty : FairEmpty (d .start) (suc (length g)) (calls h) → MayBeEmpty g
     may-be-empty r m q = at (before-dequeue-when m g q)
@@ -192,12 +166,18 @@ module _ (h : History) (w : wellFormed h ≡ true) where
   explained-up-to o (dequeueStarted ∷ g) s = explained-up-to o g (earlier s)
   explained-up-to o (gaveItem n v ∷ g) s =
       let e = at-later s (suc (length g)) (gaveItem n v) (inl (refl, refl)) in
-      let d = dequeue-of-end _ (item n v) h w e in
-      (may-give h w g (earlier s) n v e (subst₂ (λ a k. Fair a (d .0 .start) k (calls h)) (d .3) (d .2) (o (d .0) (d .1))), explained-up-to o g (earlier s))
+      let d = dequeue-of-end _ (item n v) h w e in (
+        may-give h w g (earlier s) n v e
+            (subst₂ (λ a k. Fair a (d .0 .start) k (calls h)) (d .3) (d .2) (o (d .0) (d .1))),
+        explained-up-to o g (earlier s),
+      )
   explained-up-to o (gaveEmpty ∷ g) s =
       let e = at-later s (suc (length g)) gaveEmpty (inl (refl, refl)) in
-      let d = dequeue-of-end _ empty h w e in
-      (may-be-empty h w g (earlier s) (d .0) (d .1) (d .2) (subst₂ (λ a k. Fair a (d .0 .start) k (calls h)) (d .3) (d .2) (o (d .0) (d .1))), explained-up-to o g (earlier s))
+      let d = dequeue-of-end _ empty h w e in (
+        may-be-empty h w g (earlier s) (d .0) (d .1) (d .2)
+            (subst₂ (λ a k. Fair a (d .0 .start) k (calls h)) (d .3) (d .2) (o (d .0) (d .1))),
+        explained-up-to o g (earlier s),
+      )
 
   pub orderly-is-explained : Orderly (calls h) → Explained h
   orderly-is-explained o = explained-up-to o h now

@@ -6,7 +6,7 @@ use Prim.Native.Nat.{ℕ, max}
 use lib.Dec.{leb, eqb}
 use Rattle.history.specs.Event.{History}
 use Rattle.history.specs.Calls.{Answer, nothing, item, empty, Enqueue, Call, enq, deq, calls}
-use Rattle.criterion.specs.Order.{look}
+use Rattle.criterion.specs.Parts.{look}
 
 -- the item with this number has been given
 abbrev pub has : ℕ → List ℕ → Bool

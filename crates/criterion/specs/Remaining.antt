@@ -11,35 +11,15 @@ use Rattle.history.specs.Lists.{Pairwise, Member}
 use Rattle.history.specs.Event.{History}
 use Rattle.history.specs.Calls.{Answer, nothing, item, empty, Enqueue, Call, enq, deq, startOf, calls}
 use Rattle.history.specs.Form.{any, wellFormed}
-use Rattle.history.specs.Linearization.{Queue}
 use Rattle.criterion.specs.Explained.{Started, Ended, Taken, EndedBefore, Rest}
-use Rattle.criterion.specs.Members.{all-of, in-map, from-map, pairwise-map, pairwise-with, gather, in-gather, from-gather, pairwise-gather}
+use Rattle.criterion.specs.Parts.{itemOf, isNumber, gives}
+use Rattle.criterion.specs.Members.{all-of, in-map, from-map, pairwise-map, pairwise-with, in-gather, from-gather, pairwise-gather}
 use Rattle.criterion.specs.Following.{any-of, any-at}
-use Rattle.criterion.specs.Growth.{itemOf}
 use Rattle.criterion.specs.Times.{at-most, started-when, when-started, ended-when, taken-when, when-taken}
 use Rattle.criterion.specs.Tidy.{enqueue-tells, enqueue-of-start, enqueue-of-end, dequeue-of-end}
 use Rattle.criterion.specs.Apart.{starts-rise, same-number, ends-precedes}
+use Rattle.criterion.specs.Order.{ifLeft, remain, remaining}
 use Rattle.criterion.specs.Orderly.{gave-when, item-not-nothing}
-
--- a call that gave the item with this number
-abbrev pub isNumber : ℕ → Answer → Bool
-isNumber n nothing = false
-isNumber n (item m v) = eqb m n
-isNumber n empty = false
-
-abbrev pub gives : ℕ → Call → Bool
-gives n (enq x) = false
-gives n (deq d) = isNumber n (d .answer)
-
-abbrev pub ifLeft : List Call → Call → List Enqueue
-ifLeft cs (enq x) = cond (eqb (x .end) 0 || any (gives (x .number)) cs) [] (x ∷ [])
-ifLeft cs (deq d) = []
-
-abbrev pub remain : List Call → List Enqueue
-remain cs = gather (ifLeft cs) cs
-
-unfoldable pub remaining : History → Queue
-remaining h = map itemOf (remain (calls h))
 
 is-number : (n : ℕ) (a : Answer) → isNumber n a ≡ true → (v : ℕ) × (a ≡ item n v)
 is-number n nothing e = absurd (false≢true e)
@@ -72,8 +52,12 @@ is-left cs (enq y) x m = go (eqb (y .end) 0) (any (gives (y .number)) cs) refl r
     go : (a b : Bool) → eqb (y .end) 0 ≡ a → any (gives (y .number)) cs ≡ b → Member x (cond (a || b) [] (y ∷ [])) → IsLeft cs (enq y) x
     go true b p q k = absurd k
     go false true p q k = absurd k
-    go false false p q (inl e) =
-        (ap enq (sym e), λ z. eqb-false _ _ p (ap (λ (z : Enqueue). z .end) (sym e) ∙ z), subst (λ z. any (gives (z .number)) cs ≡ false) (sym e) q)
+    go false false p q (inl e) = (
+      ap enq (sym e),
+      λ z. eqb-false _ _ p (ap (λ (z : Enqueue). z .end) (sym e) ∙ z),
+      subst
+          (λ z. any (gives (z .number)) cs ≡ false) (sym e) q,
+    )
 
 is-one : (cs : List Call) (R : Enqueue → Enqueue → Type 0) (c : Call) → Pairwise R (ifLeft cs c)
 is-one cs R (enq x) = go (eqb (x .end) 0 || any (gives (x .number)) cs)
@@ -102,7 +86,8 @@ module _ (h : History) (w : wellFormed h ≡ true) where
 
   by-start : Pairwise (λ x y. x .start < y .start) lefts
   by-start =
-      pairwise-gather (λ a b. startOf a < startOf b) (λ x y. x .start < y .start) (ifLeft (calls h)) (calls h) (starts-rise h w) (is-one (calls h) (λ x y. x .start < y .start))
+      pairwise-gather (λ a b. startOf a < startOf b) (λ x y. x .start < y .start) (ifLeft (calls h)) (calls h)
+      (starts-rise h w) (is-one (calls h) (λ x y. x .start < y .start))
       (λ a c x y l m n. subst₂ (λ a c. startOf a < startOf c) (is-left (calls h) a x m .0) (is-left (calls h) c y n .0) l)
 
   -- every ended one that was not taken is there
@@ -127,14 +112,17 @@ module _ (h : History) (w : wellFormed h ≡ true) where
             (λ i m.
             let r = from-map itemOf i lefts m in
             let l = lefts-from (r .0) (r .1) in
-            subst (λ j. Started (j .number) (j .value) h × (Taken (j .number) h → ⊥)) (sym (r .2)) (when-started _ _ _ _ h (enqueue-tells h w (r .0) (l .0) .started), l .2));
+            subst (λ j. Started (j .number) (j .value) h × (Taken (j .number) h → ⊥)) (sym (r .2))
+            (when-started _ _ _ _ h (enqueue-tells h w (r .0) (l .0) .started), l .2));
         complete = has-all;
         distinct =
             pairwise-map (λ i j. i .number ≢ j .number) (λ x y. x .number ≢ y .number) itemOf lefts (λ x y f. f)
             (pairwise-with (λ x y. x .start < y .start) _ lefts by-start
-            (λ x y m n l e. let same = ap (λ (z : Enqueue). z .start) (same-number h w x y (lefts-from x m .0) (lefts-from y n .0) e) in omega arith));
+            (λ x y m n l e. let same = ap (λ (z : Enqueue). z .start)
+            (same-number h w x y (lefts-from x m .0) (lefts-from y n .0) e) in omega arith));
         in-order =
-            pairwise-map (λ i j. EndedBefore (j .number) (i .number) h → ⊥) (λ x y. EndedBefore (y .number) (x .number) h → ⊥) itemOf lefts (λ x y f. f)
+            pairwise-map (λ i j. EndedBefore (j .number) (i .number) h → ⊥)
+            (λ x y. EndedBefore (y .number) (x .number) h → ⊥) itemOf lefts (λ x y f. f)
             (pairwise-with (λ x y. x .start < y .start) _ lefts by-start
             (λ x y m n l e.
             let a = lefts-from y n in

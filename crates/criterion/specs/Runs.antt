@@ -7,8 +7,7 @@ use Rattle.history.specs.Event.{History, enqueueStarted, enqueueEnded, dequeueS
 use Rattle.history.specs.Form.{wellFormed}
 use Rattle.history.specs.Linearization.{Linearizable}
 use Rattle.criterion.specs.Pass.{explains}
-use Rattle.criterion.specs.Judged.{explains-is}
-use Rattle.criterion.specs.Criterion.{criterion}
+use Rattle.criterion.specs.Criterion.{verdict}
 
 pub record JudgeRun : Type 0 where
   pub history : History
@@ -33,8 +32,8 @@ Says true h = Linearizable h
 Says false h = Linearizable h → ⊥
 
 pub verdict-says : (h : History) → wellFormed h ≡ true → (b : Bool) → explains h ≡ b → Says b h
-verdict-says h w true e = criterion h w .0 (explains-is h w .0 e)
-verdict-says h w false e = λ l. true≢false (sym (explains-is h w .1 (criterion h w .1 l)) ∙ e)
+verdict-says h w true e = verdict h w .0 e
+verdict-says h w false e = λ l. true≢false (sym (verdict h w .1 l) ∙ e)
 
 -- What each run of a table must show, and a test that computes it.
 abbrev pub Passes : JudgeRun → Type 0

@@ -64,8 +64,8 @@ InLine p = Pairwise (λ x y. Timely (enq x) (enq y)) p × All (λ x. x .end ≢ 
 
 -- A dequeue in its turn, with what holds of the dequeues after it.
 module _ (d : Dequeue) (ds : List Dequeue) (r : List Enqueue) where
-  abbrev Sound : Type 0
-  Sound = (q p : List Enqueue) → InLine p → Serves ds (q ++ p) r → clears ds q ≡ true → Fits ds q p r (place ds q p)
+  abbrev FitsOn : Type 0
+  FitsOn = (q p : List Enqueue) → InLine p → Serves ds (q ++ p) r → clears ds q ≡ true → Fits ds q p r (place ds q p)
 
   abbrev ServeWith : Answer → List Enqueue → Type 0
   ServeWith b p = Serve b (d .start) (d .end) p (λ z. Serves ds z r)
@@ -78,7 +78,7 @@ module _ (d : Dequeue) (ds : List Dequeue) (r : List Enqueue) where
 
   -- it comes before the enqueues p
   goes :
-      Sound → (q p : List Enqueue) → InLine p → Serves (d ∷ ds) (q ++ p) r → clears (d ∷ ds) q ≡ true → All (Lasts (d .start)) p
+      FitsOn → (q p : List Enqueue) → InLine p → Serves (d ∷ ds) (q ++ p) r → clears (d ∷ ds) q ≡ true → All (Lasts (d .start)) p
       → (q ≡ [] → isItem (d .answer) ≡ true → ⊥) → Fits (d ∷ ds) q p r (deq d ∷ place ds (behind q) p)
   goes ih [] p t v c a f = go (d .answer) refl v
     where
@@ -126,7 +126,7 @@ module _ (d : Dequeue) (ds : List Dequeue) (r : List Enqueue) where
             (λ z o. let a = t .1 .0 z in omega arith, all-map _ (Lasts (d .start)) p (λ y g z o. g .0 (z, omega arith)) (t .0 .0))
 
     fits-fill :
-        Sound → (p q : List Enqueue) → InLine p → Serves (d ∷ ds) (q ++ p) r → clears (d ∷ ds) q ≡ true
+        FitsOn → (p q : List Enqueue) → InLine p → Serves (d ∷ ds) (q ++ p) r → clears (d ∷ ds) q ≡ true
         → Fits (d ∷ ds) q p r (fill d ds (place ds) q p)
     fits-fill ih [] q t v c = goes ih q [] t v c tt (finds-at-end q v)
     fits-fill ih (x ∷ p) q t v c =
@@ -137,7 +137,8 @@ module _ (d : Dequeue) (ds : List Dequeue) (r : List Enqueue) where
             (b :
             Bool) → MayStand q x ≡ b → (MayStand q x ≡ true
             → Fits (d ∷ ds) (q ++ (x ∷ [])) p r (fill d ds (place ds) (q ++ (x ∷ [])) p))
-            → Fits (d ∷ ds) q (x ∷ p) r (elim b as (λ _. List Call) [ true ↦ enq x ∷ fill d ds (place ds) (q ++ (x ∷ [])) p | false ↦ deq d ∷ place ds (behind q) (x ∷ p) ])
+            → Fits (d ∷ ds) q (x ∷ p) r (elim b as
+            (λ _. List Call) [ true ↦ enq x ∷ fill d ds (place ds) (q ++ (x ∷ [])) p | false ↦ deq d ∷ place ds (behind q) (x ∷ p) ])
         go true e next = put (leb-true _ _ (and-eq-true-iff (leb (x .start) (d .end)) _ .0 e .0)) (next e)
         go false e next = goes ih q (x ∷ p) t v c (lasts q x p t v e) (finds q x p v e)
 
@@ -147,4 +148,5 @@ pub place-fits :
     → Serves ds (q ++ p) r → clears ds q ≡ true → Fits ds q p r (place ds q p)
 place-fits [] q p r n f t v c = subst (λ z. Fits [] q p z (map enq p)) v done
 place-fits (d ∷ ds) q p r n f t v c =
-    fits-fill d ds r (f .0 .1) (all-map (Next d) _ ds (λ e l. let o = f .0 .1 in omega arith) (n .0)) (λ q p. place-fits ds q p r (n .1) (f .1)) p q t v c
+    fits-fill d ds r (f .0 .1) (all-map (Next d) _ ds (λ e l. let o = f .0 .1 in omega arith) (n .0))
+    (λ q p. place-fits ds q p r (n .1) (f .1)) p q t v c

@@ -13,14 +13,15 @@ use Rattle.history.specs.Calls.{Answer, nothing, item, empty, Enqueue, Dequeue,
 use Rattle.history.specs.Form.{wellFormed}
 use Rattle.history.specs.Linearization.{Item, Queue, Linearization}
 use Rattle.criterion.specs.Explained.{Started, Taken, EndedBefore, Explained, Rest}
+use Rattle.criterion.specs.Parts.{itemOf, dequeuesOf, look}
 use Rattle.criterion.specs.Members.{all-at, all-of, all-map, in-left, in-right, in-either, in-map, from-map, from-gather, pairwise-both, pairwise-with, pairwise-unmap}
 use Rattle.criterion.specs.Entering.{same-enq, enq-not-deq}
-use Rattle.criterion.specs.Growth.{itemOf}
 use Rattle.criterion.specs.Times.{started-when, when-started, taken-when, when-taken, when-ended}
 use Rattle.criterion.specs.Tidy.{enqueue-tells, dequeue-tells, enqueue-of-start, dequeue-of-end, Gave}
 use Rattle.criterion.specs.Apart.{starts-rise, same-start, same-number, one-at-a-time, precedes-ends}
-use Rattle.criterion.specs.Orderly.{TakenBefore, FairItem, Fair, Orderly, answered-ended, item-not-nothing, gave-when, explained-is-orderly}
-use Rattle.criterion.specs.Order.{dequeuesOf, look, lookAnswer, taken, left, place, order}
+use Rattle.criterion.specs.Fair.{TakenBefore, FairItem, Fair, Orderly}
+use Rattle.criterion.specs.Orderly.{answered-ended, item-not-nothing, gave-when, explained-is-orderly}
+use Rattle.criterion.specs.Order.{lookAnswer, taken, left, place, order}
 use Rattle.criterion.specs.Fits.{Fits, Among, Timely, Next, Sorted, fits-runs, fits-among, fits-enqueue, fits-dequeue, fits-timely}
 use Rattle.criterion.specs.Serve.{Lasts, Serve, Serves, InLine, clears-nothing, place-fits}
 use Rattle.criterion.specs.Found.{of-calls, answered-in, pairwise-dequeues, look-finds, look-is, TakenBy, taken-by, taken-has}
@@ -76,8 +77,10 @@ module _ (h : History) (w : wellFormed h ≡ true) where
     left-timely =
         pairwise-with (λ x y. (x .number ≢ y .number) × (EndedBefore (y .number) (x .number) h → ⊥)) (λ x y. Timely (enq x) (enq y)) rests
         (pairwise-both _ _ rests
-        (pairwise-unmap (λ x y. x .number ≢ y .number) itemOf rests (subst (Pairwise (λ x y. x .number ≢ y .number)) (sym is-rest) (k .distinct)))
-        (pairwise-unmap (λ x y. EndedBefore (y .number) (x .number) h → ⊥) itemOf rests (subst (Pairwise (λ x y. EndedBefore (y .number) (x .number) h → ⊥)) (sym is-rest) (k .in-order))))
+        (pairwise-unmap (λ x y. x .number ≢ y .number) itemOf rests
+        (subst (Pairwise (λ x y. x .number ≢ y .number)) (sym is-rest) (k .distinct)))
+        (pairwise-unmap (λ x y. EndedBefore (y .number) (x .number) h → ⊥) itemOf rests
+        (subst (Pairwise (λ x y. EndedBefore (y .number) (x .number) h → ⊥)) (sym is-rest) (k .in-order))))
         (λ x y m n r.
         let a = left-from rest x m in
         let b = left-from rest y n in
@@ -95,6 +98,10 @@ module _ (h : History) (w : wellFormed h ≡ true) where
       abbrev InTurn : List Dequeue → Type 0
       InTurn ds = All (λ d. Member (deq d) (calls h) × (d .answer ≢ nothing)) ds × Pairwise Next ds
 
+      sooner : (m i j : ℕ) → i ≤ j → TakenBefore m i (calls h) → TakenBefore m j (calls h)
+      sooner m i j l b =
+          record { by = b .by; value = b .value; member = b .member; gives = b .gives; before = let r = b .before in omega arith }
+
       -- what is taken after dequeue d, or left, has not been taken up to then
       untaken-yet :
           (d : Dequeue) (ds : List Dequeue) → InTurn (d ∷ ds) → (y : Enqueue) → Member y (taken (calls h) ds ++ rests)
@@ -107,14 +114,11 @@ module _ (h : History) (w : wellFormed h ≡ true) where
           later r =
               let e = r .by in
               let i = all-at _ ds (t .0 .1) e (r .among) in
-              let f : FairItem (y .number) (r .value) (e .end) (calls h) = subst (λ a. Fair a (e .start) (e .end) (calls h)) (r .gives) (o e (i .0)) in
+              let f : FairItem (y .number) (r .value) (e .end) (calls h) = subst (λ a. Fair a (e .start) (e .end) (calls h))
+              (r .gives) (o e (i .0)) in
               let n = all-at (Next d) ds (t .1 .0) e (r .among) in
               let g = dequeue-tells h w e (i .0) .forward (answered-ended h w e (i .0) (i .1)) in
-              f .untaken (record { by = b .by; value = b .value; member = b .member; gives = b .gives; before = let l = b .before in omega arith })
-
-      sooner : (m i j : ℕ) → i ≤ j → TakenBefore m i (calls h) → TakenBefore m j (calls h)
-      sooner m i j l b =
-          record { by = b .by; value = b .value; member = b .member; gives = b .gives; before = let r = b .before in omega arith }
+              f .untaken (sooner _ _ _ (omega arith) b)
 
       -- the dequeues serve the items that they give, then the rest
       serves : (ds : List Dequeue) → InTurn ds → Serves ds (taken (calls h) ds ++ rests) rests
@@ -152,7 +156,14 @@ module _ (h : History) (w : wellFormed h ≡ true) where
                       numbers-apart (f .given) y (f .member) b
                           (λ q.
                           untaken-yet d ds t y m
-                          (record { by = d; value = v; member = t .0 .0 .0; gives = e ∙ ap (λ k. item k v) (sym (f .number-is) ∙ q); before = omega arith })),
+                          (record {
+                            by = d;
+                            value = v;
+                            member = t .0 .0 .0;
+                            gives = e ∙ ap (λ k. item k v)
+                                (sym (f .number-is) ∙ q);
+                            before = omega arith;
+                          })),
                     )),
                 p,
               )
@@ -167,7 +178,8 @@ module _ (h : History) (w : wellFormed h ≡ true) where
       in-turn : InTurn dequeued
       in-turn = (
         all-of _ dequeued (of-calls (calls h)),
-        pairwise-with (λ d b. d .start < b .start) Next dequeued (pairwise-dequeues (λ a b. startOf a < startOf b) (calls h) (starts-rise h w))
+        pairwise-with (λ d b. d .start < b .start) Next dequeued
+            (pairwise-dequeues (λ a b. startOf a < startOf b) (calls h) (starts-rise h w))
             (λ d b m n l. one-at-a-time h w d b (of-calls (calls h) d m .0) (of-calls (calls h) b n .0) l .1),
       )
 
@@ -206,13 +218,15 @@ module _ (h : History) (w : wellFormed h ≡ true) where
               let r = taken-when (x .number) h t in
               let d = dequeue-of-end (r .time) (item (x .number) (r .which)) h w (r .there) in
               in-left x (taken (calls h) dequeued) rests
-              (taken-has (calls h) dequeued (d .0) (x .number) (r .which) x (answered-in (calls h) (d .0) (d .1) (λ e. item-not-nothing (sym (d .3) ∙ e))) (d .3) (looks x m (x .number) refl))
+              (taken-has (calls h) dequeued (d .0) (x .number) (r .which) x
+              (answered-in (calls h) (d .0) (d .1) (λ e. item-not-nothing (sym (d .3) ∙ e))) (d .3) (looks x m (x .number) refl))
           go (no f) =
               let e = enqueue-tells h w x m in
               let l = k .complete (x .number) (x .value) (when-started _ _ _ _ h (e .started)) (when-ended _ _ _ _ h (e .ended z)) f in
               let r = from-map itemOf (itemOf x) rests (subst (Member (itemOf x)) (sym is-rest) l) in
               in-right x (taken (calls h) dequeued) rests
-              (subst (λ y. Member y rests) (same-number h w (r .0) x (left-from rest (r .0) (r .1)) m (ap (λ (i : Item). i .number) (sym (r .2)))) (r .1))
+              (subst (λ y. Member y rests) (same-number h w (r .0) x (left-from rest (r .0) (r .1)) m
+              (ap (λ (i : Item). i .number) (sym (r .2)))) (r .1))
       ended-there (deq d) m z =
           fits-dequeue fits d
           (answered-in (calls h) d m (λ e. subst (λ a. Gave a (d .end) h) e (dequeue-tells h w d m .ended z)))

@@ -12,10 +12,11 @@ use Rattle.history.specs.Event.{Event, History, enqueueStarted, enqueueEnded, d
 use Rattle.history.specs.Calls.{Answer, nothing, item, empty, Enqueue, Dequeue, enq, deq, endDequeue, calls}
 use Rattle.history.specs.Form.{any, dequeues, follows, wellFormed}
 use Rattle.history.specs.Linearization.{Item}
+use Rattle.criterion.specs.Parts.{itemOf}
 use Rattle.criterion.specs.Members.{in-right, in-snoc}
 use Rattle.criterion.specs.Following.{head-follows, tail-formed, has-its-start, has-its-dequeue}
 use Rattle.criterion.specs.Entering.{opened, closed, asked, answered, same-enq, same-deq, enq-not-deq, enqueue-in-ended, dequeue-in-ended, dequeue-in-answered, enqueue-in-answered, enqueue-ends, dequeue-ends, ended-stays, enqueue-goes-on, dequeue-goes-on}
-use Rattle.criterion.specs.Growth.{itemOf, open-is-current}
+use Rattle.criterion.specs.Growth.{open-is-current}
 use Rattle.criterion.specs.Times.{At, at-most}
 
 -- what an enqueue tells
@@ -44,7 +45,8 @@ pub enqueue-tells : (h : History) → wellFormed h ≡ true → (x : Enqueue) �
 enqueue-tells (enqueueStarted t n v ∷ h) w x m =
     elim (in-snoc (enq x) (calls h) _ m) [
       | inl l ↦ tells-on (enqueueStarted t n v) (enqueue-tells h (tail-formed (enqueueStarted t n v) h w) x l)
-      | inr e ↦ subst (λ y. EnqueueTold y (enqueueStarted t n v ∷ h)) (sym (same-enq e)) (record { started = inl (refl, refl); ended = λ z. absurd (z refl); forward = λ z. absurd (z refl); within = omega arith })
+      | inr e ↦ subst (λ y. EnqueueTold y (enqueueStarted t n v ∷ h)) (sym (same-enq e))
+          (record { started = inl (refl, refl); ended = λ z. absurd (z refl); forward = λ z. absurd (z refl); within = omega arith })
     ]
 enqueue-tells (enqueueEnded t n v ∷ h) w x m =
     elim (enqueue-in-ended t _ (calls h) x m) [
@@ -52,10 +54,20 @@ enqueue-tells (enqueueEnded t n v ∷ h) w x m =
       | inr r ↦ let b = enqueue-tells h (tail-formed (enqueueEnded t n v) h w) (r .0) (r .1) in
           let c = at-most _ _ h (b .started) in
           let i = ends-its-own t n v h w (r .0) (r .1) (r .2) (r .3) in
-          subst (λ y. EnqueueTold y (enqueueEnded t n v ∷ h)) (sym (r .4)) (record { started = inr (b .started); ended = λ z. inl (refl, cc (r .2, i .0, i .1)); forward = λ z. omega arith; within = omega arith })
+          subst (λ y. EnqueueTold y (enqueueEnded t n v ∷ h)) (sym (r .4))
+          (record {
+            started = inr (b .started);
+            ended = λ z. inl
+                (refl, cc (r .2, i .0, i .1));
+            forward = λ z. omega arith;
+            within = omega arith;
+          })
     ]
 enqueue-tells (dequeueStarted ∷ h) w x m =
-    elim (in-snoc (enq x) (calls h) _ m) [ inl l ↦ tells-on dequeueStarted (enqueue-tells h (tail-formed dequeueStarted h w) x l) | inr e ↦ absurd (enq-not-deq e) ]
+    elim (in-snoc (enq x) (calls h) _ m) [
+      | inl l ↦ tells-on dequeueStarted (enqueue-tells h (tail-formed dequeueStarted h w) x l)
+      | inr e ↦ absurd (enq-not-deq e)
+    ]
 enqueue-tells (gaveItem n v ∷ h) w x m =
     tells-on (gaveItem n v)
     (enqueue-tells h (tail-formed (gaveItem n v) h w) x (enqueue-in-answered _ (item n v) (calls h) x m))
@@ -80,7 +92,14 @@ pub record DequeueTold (d : Dequeue) (h : History) : Type 0 where
   pub unanswered : d .end ≡ 0 → d .answer ≡ nothing
 
 told-on : {d : Dequeue} {h : History} (f : Event) → DequeueTold d h → DequeueTold d (f ∷ h)
-told-on {d} {h} f r = record { started = inr (r .started); ended = λ z. gave-on (d .answer) (d .end) f h (r .ended z); forward = r .forward; within = let l = r .within in omega arith; unanswered = r .unanswered }
+told-on {d} {h} f r = record {
+  started = inr (r .started);
+  ended = λ z. gave-on (d .answer) (d .end) f h
+      (r .ended z);
+  forward = r .forward;
+  within = let l = r .within in omega arith;
+  unanswered = r .unanswered;
+}
 
 -- a dequeue after one has been answered
 told-answered :
@@ -92,18 +111,30 @@ told-answered a f h d g ih m =
       | inl l ↦ told-on f (ih d (l .0))
       | inr r ↦ let b = ih (r .0) (r .1) in
           let c = at-most _ _ h (b .started) in
-          subst (λ y. DequeueTold y (f ∷ h)) (sym (r .3)) (record { started = inr (b .started); ended = λ z. g; forward = λ z. omega arith; within = omega arith; unanswered = λ z. absurd (let q : suc (length h) ≡ 0 = z in omega arith) })
+          subst (λ y. DequeueTold y (f ∷ h)) (sym (r .3))
+          (record { started = inr (b .started); ended = λ z. g; forward = λ z. omega arith; within = omega arith; unanswered = λ z. absurd (let q : suc (length h) ≡ 0 = z in omega arith) })
     ]
 
 pub dequeue-tells : (h : History) → wellFormed h ≡ true → (d : Dequeue) → Member (deq d) (calls h) → DequeueTold d h
 dequeue-tells (enqueueStarted t n v ∷ h) w d m =
-    elim (in-snoc (deq d) (calls h) _ m) [ inl l ↦ told-on (enqueueStarted t n v) (dequeue-tells h (tail-formed (enqueueStarted t n v) h w) d l) | inr e ↦ absurd (enq-not-deq (sym e)) ]
+    elim (in-snoc (deq d) (calls h) _ m) [
+      | inl l ↦ told-on (enqueueStarted t n v) (dequeue-tells h (tail-formed (enqueueStarted t n v) h w) d l)
+      | inr e ↦ absurd (enq-not-deq (sym e))
+    ]
 dequeue-tells (enqueueEnded t n v ∷ h) w d m =
     told-on (enqueueEnded t n v) (dequeue-tells h (tail-formed (enqueueEnded t n v) h w) d (dequeue-in-ended t _ (calls h) d m))
 dequeue-tells (dequeueStarted ∷ h) w d m =
     elim (in-snoc (deq d) (calls h) _ m) [
       | inl l ↦ told-on dequeueStarted (dequeue-tells h (tail-formed dequeueStarted h w) d l)
-      | inr e ↦ subst (λ y. DequeueTold y (dequeueStarted ∷ h)) (sym (same-deq e)) (record { started = inl (refl, refl); ended = λ z. absurd (z refl); forward = λ z. absurd (z refl); within = omega arith; unanswered = λ z. refl })
+      | inr e ↦ subst (λ y. DequeueTold y (dequeueStarted ∷ h)) (sym (same-deq e))
+          (record {
+            started = inl (refl, refl);
+            ended = λ z. absurd (z refl);
+            forward = λ z. absurd
+                (z refl);
+            within = omega arith;
+            unanswered = λ z. refl;
+          })
     ]
 dequeue-tells (gaveItem n v ∷ h) w d m =
     told-answered (item n v) (gaveItem n v) h d (inl (refl, refl)) (dequeue-tells h (tail-formed (gaveItem n v) h w)) m
@@ -112,13 +143,20 @@ dequeue-tells (gaveEmpty ∷ h) w d m = told-answered empty gaveEmpty h d (inl (
 -- Every event has its call.
 pub enqueue-of-start :
     (k t n v : ℕ) (h : History) → At k (enqueueStarted t n v) h → (j : ℕ) × Member (enq (closed j (opened t n v k))) (calls h)
-enqueue-of-start k t n v (f ∷ h) (inl p) =
-    (0, subst (λ e. Member (enq (opened t n v k)) (calls (e ∷ h))) (p .1) (in-right _ (calls h) _ (inl (ap (λ j. enq (opened t n v j)) (p .0)))))
+enqueue-of-start k t n v (f ∷ h) (inl p) = (
+  0,
+  subst (λ e. Member (enq (opened t n v k)) (calls (e ∷ h))) (p .1)
+      (in-right _ (calls h) _ (inl (ap (λ j. enq (opened t n v j)) (p .0)))),
+)
 enqueue-of-start k t n v (f ∷ h) (inr a) = let r = enqueue-of-start k t n v h a in enqueue-goes-on f h _ (r .1)
 
 pub dequeue-of-start : (k : ℕ) (h : History) → At k dequeueStarted h → (d : Dequeue) × Member (deq d) (calls h) × (d .start ≡ k)
-dequeue-of-start k (f ∷ h) (inl p) =
-    (asked k, subst (λ e. Member (deq (asked k)) (calls (e ∷ h))) (p .1) (in-right _ (calls h) _ (inl (ap (λ j. deq (asked j)) (p .0)))), refl)
+dequeue-of-start k (f ∷ h) (inl p) = (
+  asked k,
+  subst (λ e. Member (deq (asked k)) (calls (e ∷ h))) (p .1)
+      (in-right _ (calls h) _ (inl (ap (λ j. deq (asked j)) (p .0)))),
+  refl,
+)
 dequeue-of-start k (f ∷ h) (inr a) =
     let r = dequeue-of-start k h a in
     let s = dequeue-goes-on f h (r .0) (r .1) in
