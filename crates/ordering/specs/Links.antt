@@ -3,6 +3,7 @@ use mathlib.Core.Path.{_≡_, refl, ap, sym, _∙_, subst}
 use mathlib.Core.Logic.{_⊎_, inl, inr, ⊎-elim, _≢_}
 use mathlib.Core.Bool.{Bool, true, false, _&&_, and-false}
 use mathlib.Core.List.{List, [], _∷_, _++_}
+use mathlib.Core.Option.{some}
 use Prim.Native.Nat.{ℕ, zero, suc, _+_, _*_, _≤_, _<_}
 use native.Mathlib.Nat.{mul-le-mul-left}
 use native.Mathlib.Decide.{ℕ-discrete}
@@ -15,7 +16,7 @@ use Rattle.history.specs.Form.{wellFormed}
 use Rattle.history.specs.Linearization.{Item}
 use Rattle.rules.specs.Sizes.{Sizes, mostPlace}
 use Rattle.rules.specs.Cell.{Cell, Reader, Write, _:=_, clearProducer, update, after, tail, headPosition, starts, producer, part, entry, consumer, place, next, prev, used, phase, call, value, position, held, claimed, tailRecord, headRecord, cursorRecord, foundRecord}
-use Rattle.rules.specs.Range.{link, most, producerSorts, producerInRange}
+use Rattle.rules.specs.Range.{number, link, most, producerSorts, producerInRange}
 use Rattle.rules.specs.Rule.{Reply, Answer, going, ended, goes, reply}
 use Rattle.rules.specs.Producer.{linked, linkClaimed, linkAhead}
 use Rattle.rules.specs.Request.{step}
@@ -32,13 +33,13 @@ use Rattle.memory.specs.Memory.{Shape, Holdable, Blank, rowOf, Memory, claimed-
 use Rattle.memory.specs.Ends.{held-last, held-before-last}
 use Rattle.memory.specs.Frames.{Untouched, OthersKept, others-kept}
 use Rattle.memory.specs.Linking.{LetGo, give-back-keeps, link-keeps}
-use Rattle.ordering.specs.View.{Ghost, placesOf, placeOf, producersOf, producerAt, view, Agrees, cellOf}
+use Rattle.ordering.specs.View.{Ghost, placesOf, placeOf, producerAt, producerOf, producersOf, view, cellOf}
 use Rattle.ordering.specs.Good.{Good, Goes, Fine, by-need, by-cond, by-up-to}
 use Rattle.ordering.specs.Rows.{of-sort, has-sort, row-of}
 use Rattle.ordering.specs.Limits.{limits, place-fits}
 use Rattle.ordering.specs.Steps.{producers-after, own-words, seen-at}
 use Rattle.ordering.specs.Own.{OfProducer, NoProducer, producer-writes, producer-sorted, all-map, withHistory, later}
-use Rattle.ordering.specs.Records.{record-goes, place-same, consumer-same, seen-as, agrees-kept}
+use Rattle.ordering.specs.Records.{record-goes, place-same, consumer-same, seen-as, agrees-kept, agrees-grows}
 use Rattle.ordering.specs.Ends.{end-formed, end-adds, idle-in-range, idle-seen}
 
 module _ (z : Sizes) (σ : Reader) (γ : Ghost) (good : Good z σ γ) (t : ℕ) (a-producer : (1 ≤ t) × (t ≤ z .P))
@@ -59,15 +60,22 @@ module _ (z : Sizes) (σ : Reader) (γ : Ghost) (good : Good z σ γ) (t : ℕ) 
   h-not-c : h ≡ c → ⊥
   h-not-c e = not-held t (rw e at holds)
 
+  -- how thread t is seen after the step goes by the places before it
+  own-seen : (σ′ : Reader) → ((y : ℕ) → (y ≡ c → ⊥) → σ′ (place y) ≡ σ (place y)) → LetGo σ σ′ t
+      → producersOf σ′ t ≡ producerOf (placesOf σ) (rowOf σ′ t)
+  own-seen σ′ places let-go =
+      ap (producerAt (rowOf σ′ t 0) (rowOf σ′ t 1) (rowOf σ′ t 2) (rowOf σ′ t 3))
+      (place-same σ σ′ c places (rowOf σ′ t 4) (λ e. ⊎-elim (λ q. not-held t (sym q ∙ e)) (λ q. omega arith) (let-go .holds-on)))
+
   -- How the step goes on: what thread t writes of its own words, what it replies, how it is seen then, and the history.
   module _ (rest : List Write) (own : All (OfProducer t) rest) (r : Reply) (x : Producer) (H : History)
       (formed : wellFormed H ≡ true) (grown : H ≡ replyEvents (step t) (γ .history) r ++ γ .history) where
     -- giving it back
-    abbrev giveWrites : List Write
+    abbrev pub giveWrites : List Write
     giveWrites = used c := 0 ∷ rest
 
     -- linking it
-    abbrev linkWrites : List Write
+    abbrev pub linkWrites : List Write
     linkWrites = next h := suc c ∷ used c := 2 ∷ prev c := suc h ∷ place c := suc (σ (place h)) ∷ rest
 
     rest-sorted : All (InSort z t) rest
@@ -77,9 +85,9 @@ module _ (z : Sizes) (σ : Reader) (γ : Ghost) (good : Good z σ γ) (t : ℕ) 
     rest-there = all-map (OfProducer t) (WriteThere z) (λ w q. producer-sorted z t a-producer w q .1) rest own
 
     module _ (in-row : producerInRange z (after σ giveWrites) t ≡ true) (let-go : LetGo σ (after σ giveWrites) t)
-        (seen : producersOf (after σ giveWrites) t ≡ x)
+        (seen : producerOf (placesOf σ) (rowOf (after σ giveWrites) t) ≡ x)
         (model : Invariant (z .B) (withHistory (withProducer (view σ γ) t x) H)) where
-      gives : Goes z σ γ (step t) r giveWrites
+      pub gives : Goes z σ γ (step t) r giveWrites
       gives =
           record-goes z σ γ good t a-producer r giveWrites (later γ H) in-sort ((c-blank .fits, omega arith), rest-there) in-row
           (give-back-keeps z σ σ′ (γ .shape) m t h c a-producer holds claims kept let-go
@@ -93,7 +101,7 @@ module _ (z : Sizes) (σ : Reader) (γ : Ghost) (good : Good z σ γ) (t : ℕ) 
           (agrees-kept (z .B) (γ .shape .lo) (γ .shape .hi) (γ .shape .at) (γ .entry) (γ .content) (cellOf σ) (cellOf σ′)
           (λ k i j l b. same (entry (γ .shape .at (suc k)) i j) tt) (good .agrees))
           (seen-as model (sym (same tail tt)) (sym (same headPosition tt)) (sym (same starts tt))
-          (producers-after t σ σ′ kept (λ u n. place-same σ σ′ c places (σ (held u)) (not-held u)) x seen)
+          (producers-after t σ σ′ kept (λ u n. place-same σ σ′ c places (σ (held u)) (not-held u)) x (own-seen σ′ places let-go ∙ seen))
           (sym (consumer-same σ σ′ c (λ k. same (consumer k) tt) places not-linked (m .cursor) (m .found))))
           formed
           grown
@@ -130,7 +138,7 @@ module _ (z : Sizes) (σ : Reader) (γ : Ghost) (good : Good z σ γ) (t : ℕ) 
 
     module _ (none : σ (next h) ≡ 0) (fits : suc (σ (place h)) ≤ mostPlace)
         (in-row : producerInRange z (after σ linkWrites) t ≡ true) (let-go : LetGo σ (after σ linkWrites) t)
-        (seen : producersOf (after σ linkWrites) t ≡ x)
+        (seen : producerOf (placesOf σ) (rowOf (after σ linkWrites) t) ≡ x)
         (model : Invariant (z .B) (withHistory (withProducer (linkLast (view σ γ)) t x) H)) where
       τ : Reader
       τ = after σ (next h := suc c ∷ used c := 2 ∷ prev c := suc h ∷ place c := suc (σ (place h)) ∷ [])
@@ -180,5 +188,168 @@ module _ (z : Sizes) (σ : Reader) (γ : Ghost) (good : Good z σ γ) (t : ℕ) 
       unfolding τ
       cells y i k = same (entry y i k) tt
 
-      links : Goes z σ γ (step t) r linkWrites
-      links = ?
+      -- nothing is set or handled past the last record
+      blanks : (p : ℕ) → z .B * γ .shape .hi ≤ p → γ .entry p ≡ blank
+      blanks p l = good .model .entries .blank-ahead p (omega (arith, mul-le-mul-left (z .B) (m .tail-last)))
+
+      pub links : Goes z σ γ (step t) r linkWrites
+      unfolding σ′ τ
+      links =
+          record-goes z σ γ good t a-producer r linkWrites linkedGhost in-sort there in-row
+          (link-keeps z σ σ′ (γ .shape) m t h c a-producer holds claims kept let-go
+          (same tailRecord tt)
+          (same headRecord tt)
+          (same cursorRecord tt)
+          (same foundRecord tt)
+          none
+          (same (place c) tt ∙ rw self refl)
+          (same (next c) tt ∙ rw (ne-eqb h c h-not-c) refl)
+          (same (prev c) tt ∙ rw self refl)
+          (same (used c) tt ∙ rw self refl)
+          (same (next h) tt ∙ rw (eq-eqb h h refl) refl)
+          others
+          nexts
+          cells)
+          (agrees-grows (z .B) (γ .shape .lo) (γ .shape .hi) (γ .shape .at) (γ .entry) (γ .content) (cellOf σ) (cellOf σ′) c cells
+          (c-blank .no-entry) blanks (good .agrees))
+          (seen-as model (sym (same tail tt)) (sym (same headPosition tt)) (sym (same starts tt))
+          (producers-after t σ σ′ kept (λ u n. place-same σ σ′ c places (σ (held u)) (not-held u)) x (own-seen σ′ places let-go ∙ seen))
+          (sym (consumer-same σ σ′ c (λ k. same (consumer k) tt) places not-linked (m .cursor) (m .found))))
+          formed
+          grown
+        where
+          self : eqb c c ≡ true
+          self = eq-eqb c c refl
+
+module _ (z : Sizes) (σ : Reader) (γ : Ghost) (good : Good z σ γ) (t : ℕ) (a-producer : (1 ≤ t) × (t ≤ z .P)) where
+  self : eqb t t ≡ true
+  self = eq-eqb t t refl
+
+  -- Either end of a link: the claimed record is linked behind the last one, or given back.
+  by-linked : (p : ℕ) (f : List Write → Answer) → σ (phase t) ≡ p → 3 ≤ p → (p ≡ 5) ⊎ (p ≡ 11)
+      → ((h c : ℕ) → σ (held t) ≡ suc h → σ (claimed t) ≡ suc c → σ (next h) ≡ 0 → suc (σ (place h)) ≤ mostPlace
+      → Fine z σ γ (step t) (f (next h := suc c ∷ used c := 2 ∷ prev c := suc h ∷ place c := suc (σ (place h)) ∷ [])))
+      → ((h c : ℕ) → σ (held t) ≡ suc h → σ (claimed t) ≡ suc c → σ (place h) < γ .shape .hi → Fine z σ γ (step t) (f (used c := 0 ∷ [])))
+      → ((h : ℕ) → σ (held t) ≡ suc h → suc (σ (place h)) ≤ mostPlace)
+      → Fine z σ γ (step t) (linked z σ t f)
+  by-linked p f e past linking on-link on-give fits =
+      by-need (Fine z σ γ (step t)) (σ (held t)) _ (good .memory .threads t .has-held (omega arith))
+      (λ h q.
+      by-need (Fine z σ γ (step t)) (σ (claimed t)) _ (good .memory .threads t .has-claimed (⊎-elim (λ i. inl (e ∙ i)) (λ i. inr (e ∙ i)) linking))
+      (λ c w.
+      by-cond (Fine z σ γ (step t)) (eqb (σ (next h)) 0) _ _
+      (λ b. by-up-to (Fine z σ γ (step t)) mostPlace (suc (σ (place h))) _ (fits h q) (on-link h c q w (eqb-true (σ (next h)) 0 b) (fits h q)))
+      (λ b. on-give h c q w (held-before-last (good .memory) t h q (eqb-false (σ (next h)) 0 b)))))
+
+  -- the store with the claimed record linked and t's own words written
+  abbrev linkedThen : (h c : ℕ) → List Write → Reader
+  linkedThen h c rest = after σ (next h := suc c ∷ used c := 2 ∷ prev c := suc h ∷ place c := suc (σ (place h)) ∷ rest)
+
+  -- 5. Link. To 6.
+  abbrev onward : List Write
+  onward = claimed t := 0 ∷ phase t := 6 ∷ []
+
+  -- thread t's words then
+  abbrev Onward : Reader → Type 0
+  Onward σ′ =
+      (σ′ (producer t 0) ≡ 6)
+      × (σ′ (producer t 1) ≡ σ (call t))
+      × (σ′ (producer t 3) ≡ σ (position t))
+      × (σ′ (producer t 4) ≡ σ (held t))
+      × (σ′ (producer t 5) ≡ 0)
+      × (σ′ (producer t 6) ≡ σ (producer t 6))
+      × (σ′ (producer t 7) ≡ σ (producer t 7))
+
+  onward-in-range : (σ′ : Reader) → σ (phase t) ≡ 5 → Onward σ′ → producerInRange z σ′ t ≡ true
+  onward-in-range σ′ e w =
+      let old = own-words z σ γ good t a-producer 5 e in
+      row-of z 11 producerSorts (rowOf σ′ t) 6 (w .0) (omega arith) (
+        rw (w .1) (old .0),
+        (
+          tt,
+          (rw (w .2) (old .1 .1 .0), (rw (w .3) (old .1 .1 .1 .0), (w .4, (rw (w .5) (old .1 .1 .1 .1 .1 .0), (w .6 ∙ old .1 .1 .1 .1 .1 .1 .0, tt))))),
+        ),
+      )
+
+  onward-lets-go : (σ′ : Reader) → Onward σ′ → LetGo σ σ′ t
+  onward-lets-go σ′ w =
+      record { claims-none = w .4; in-phase = λ p. ⊎-elim (λ q. omega (arith, w .0)) (λ q. omega (arith, w .0)) p; holds-on = inl (w .3) }
+
+  -- where a position was taken, the place of the record that leads to it is below the limit
+  taken-below : (L : ℕ) → L < σ tail → L < z .M
+  taken-below L l = omega (arith, has-sort z number (σ tail) (good .range .words tail (omega arith)))
+
+  pub link-claimed-fine : σ (phase t) ≡ 5 → Fine z σ γ (step t) (linkClaimed z σ t)
+  unfolding linkClaimed
+  link-claimed-fine e =
+      by-linked 5 (λ ws. goes (ws ++ onward)) e (omega arith) (inl refl)
+      (λ h c q w none fits.
+      let now : Onward (linkedThen h c onward) = (rw self refl, refl, refl, refl, rw self refl, refl, refl) in
+      links z σ γ good t a-producer h c q w onward own going _ (γ .history) (good .formed) refl none fits
+      (onward-in-range (linkedThen h c onward) e now)
+      (onward-lets-go (linkedThen h c onward) now)
+      (rw self refl)
+      (pass-on (z .B) (linkLast (view σ γ)) (link-last (z .B) (view σ γ) (good .model)) t _ _ _ _ seen
+      (rw q (omega (arith, held-last (good .memory) t h q none .1)))))
+      (λ h c q w below.
+      let now : Onward (after σ (used c := 0 ∷ onward)) = (rw self refl, refl, refl, refl, rw self refl, refl, refl) in
+      gives z σ γ good t a-producer h c q w onward own going _ (γ .history) (good .formed) refl
+      (onward-in-range (after σ (used c := 0 ∷ onward)) e now)
+      (onward-lets-go (after σ (used c := 0 ∷ onward)) now)
+      (rw self refl)
+      (pass-on (z .B) (view σ γ) (good .model) t _ _ _ _ seen (rw q below)))
+      (λ h q.
+      let o = producer-clause (z .B) (view σ γ) (good .model) t _ seen in
+      place-fits z (limits z (good .sizes)) (σ (place h)) (σ (position t)) (omega (arith, ap (λ (x : ℕ). z .B * placeOf (placesOf σ) x) q, o .2)) (taken-below (σ (position t)) (o .0 .taken)))
+    where
+      own : All (OfProducer t) onward
+      own = ((refl, omega arith), ((refl, omega arith), tt))
+
+      seen : view σ γ .producer t ≡ ahead (σ (call t)) (σ (value t)) (σ (position t)) (placeOf (placesOf σ) (σ (held t)))
+      seen = seen-at z σ γ good t a-producer 5 e
+
+  -- 11. As 5, then end. The tail record does not move.
+  abbrev idling : List Write
+  idling = clearProducer t ∷ []
+
+  idle-lets-go : (σ′ : Reader) → ((j : ℕ) → σ′ (producer t j) ≡ 0) → LetGo σ σ′ t
+  idle-lets-go σ′ none =
+      record {
+        claims-none = none 5;
+        in-phase = λ p. ⊎-elim (λ q. omega (arith, none 0)) (λ q. omega (arith, none 0)) p;
+        holds-on = inr (none 4, none 0);
+      }
+
+  pub link-ahead-fine : σ (phase t) ≡ 11 → Fine z σ γ (step t) (linkAhead z σ t)
+  unfolding linkAhead
+  link-ahead-fine e =
+      by-linked 11 (λ ws. reply ended (ws ++ idling)) e (omega arith) (inr refl)
+      (λ h c q w none fits.
+      let now : (j : ℕ) → linkedThen h c idling (producer t j) ≡ 0 = λ j. rw self refl in
+      links z σ γ good t a-producer h c q w idling own ended idle H (end-formed z σ γ good t _ is) (end-adds z σ γ good t _ is) none fits
+      (idle-in-range z (γ .shape .lo) σ _ now)
+      (idle-lets-go _ now)
+      (idle-seen z (γ .shape .lo) σ _ now (placesOf σ))
+      (finish-keeps (z .B) (linkLast (view σ γ)) (link-last (z .B) (view σ γ) (good .model)) t _ _ _ _ seen))
+      (λ h c q w below.
+      let now : (j : ℕ) → after σ (used c := 0 ∷ idling) (producer t j) ≡ 0 = λ j. rw self refl in
+      gives z σ γ good t a-producer h c q w idling own ended idle H (end-formed z σ γ good t _ is) (end-adds z σ γ good t _ is)
+      (idle-in-range z (γ .shape .lo) σ _ now)
+      (idle-lets-go _ now)
+      (idle-seen z (γ .shape .lo) σ _ now (placesOf σ))
+      (finish-keeps (z .B) (view σ γ) (good .model) t _ _ _ _ seen))
+      (λ h q.
+      let o = producer-clause (z .B) (view σ γ) (good .model) t _ seen in
+      place-fits z (limits z (good .sizes)) (σ (place h)) (σ (position t)) (omega (arith, ap (λ (x : ℕ). z .B * placeOf (placesOf σ) x) q, o .4 .1)) (taken-below (σ (position t)) (o .1)))
+    where
+      own : All (OfProducer t) idling
+      own = (refl, tt)
+
+      seen : view σ γ .producer t ≡ done (σ (call t)) (σ (value t)) (σ (position t)) (placeOf (placesOf σ) (σ (held t)))
+      seen = seen-at z σ γ good t a-producer 11 e
+
+      is : callOf (view σ γ .producer t) ≡ some (record { number = σ (call t); value = σ (value t) })
+      is = ap callOf seen
+
+      H : History
+      H = enqueueEnded t (σ (call t)) (σ (value t)) ∷ γ .history

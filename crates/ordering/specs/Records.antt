@@ -4,6 +4,7 @@ use mathlib.Core.Logic.{⊎-elim, _≢_}
 use mathlib.Core.Bool.{true}
 use mathlib.Core.List.{List, _++_}
 use Prim.Native.Nat.{ℕ, zero, suc, _+_, _*_, _≤_, _<_}
+use native.Mathlib.Decide.{ℕ-discrete}
 use native.Mathlib.Omega.{arith}
 use Rattle.history.specs.Lists.{All}
 use Rattle.history.specs.Form.{wellFormed}
@@ -16,10 +17,11 @@ use Rattle.rules.specs.Request.{step}
 use Rattle.rules.specs.Play.{replyEvents}
 use Rattle.rules.specs.Readback.{WriteThere}
 use Rattle.rules.specs.InRange.{InSort, writes-keep-range}
-use Rattle.model.specs.State.{Entry, Producer, Consumer, State}
+use Rattle.model.specs.State.{Entry, blank, Producer, Consumer, State}
 use Rattle.model.specs.Invariant.{Invariant}
+use Rattle.memory.specs.Chain
 use Rattle.memory.specs.Memory.{Shape, Linked, Memory}
-use Rattle.ordering.specs.View.{Ghost, placesOf, placeOf, consumerAt, consumerOf, view, Agrees, AgreesWith, cellOf}
+use Rattle.ordering.specs.View.{Ghost, placesOf, placeOf, consumerAt, consumerOf, view, codeOf, Agrees, AgreesWith, cellOf}
 use Rattle.ordering.specs.Good.{Good, Goes}
 
 module _ (z : Sizes) (σ : Reader) (γ : Ghost) (good : Good z σ γ) (t : ℕ) (a-producer : (1 ≤ t) × (t ≤ z .P)) where
@@ -104,3 +106,31 @@ agrees-kept B lo hi at entry content cell cell′ same a =
       values = λ k i l h b. same k i 2 l h ∙ a .values k i l h b;
       fresh = a .fresh;
     }
+
+-- They agree with one more record, of zero entries, behind the last one.
+pub agrees-grows : (B lo hi : ℕ) (at : ℕ → ℕ) (entry : ℕ → Entry) (content : ℕ → Item) (cell cell′ : ℕ → ℕ → ℕ → ℕ) (c : ℕ)
+    → ((y i j : ℕ) → cell′ y i j ≡ cell y i j) → ((i j : ℕ) → cell c i j ≡ 0) → ((p : ℕ) → B * hi ≤ p → entry p ≡ blank)
+    → Agrees B lo hi at entry content cell → Agrees B lo (suc hi) (Chain.at at (suc hi) c) entry content cell′
+agrees-grows B lo hi at entry content cell cell′ c same zeros blanks a =
+    record {
+      states =
+          λ k i l h b. each (λ k y. cell′ y i 0 ≡ codeOf (entry (B * k + i)))
+          (same c i 0 ∙ zeros i 0 ∙ ap codeOf (sym (blanks (B * hi + i) (omega arith)))) (λ k l h. same (at (suc k)) i 0 ∙ a .states k i l h b) k l h;
+      numbers =
+          λ k i l h b. each (λ k y. cell′ y i 1 ≡ content (B * k + i) .number)
+          (same c i 1 ∙ zeros i 1 ∙ ap (λ (x : Item). x .number) (sym (a .fresh (B * hi + i) (omega arith))))
+          (λ k l h. same (at (suc k)) i 1 ∙ a .numbers k i l h b) k l h;
+      values =
+          λ k i l h b. each (λ k y. cell′ y i 2 ≡ content (B * k + i) .value)
+          (same c i 2 ∙ zeros i 2 ∙ ap (λ (x : Item). x .value) (sym (a .fresh (B * hi + i) (omega arith))))
+          (λ k l h. same (at (suc k)) i 2 ∙ a .values k i l h b) k l h;
+      fresh = λ p l. a .fresh p (omega arith);
+    }
+  where
+    each : (Q : ℕ → ℕ → Type 0) → Q hi c → ((k : ℕ) → lo ≤ suc k → suc k ≤ hi → Q k (at (suc k)))
+        → (k : ℕ) → lo ≤ suc k → suc k ≤ suc hi → Q k (Chain.at at (suc hi) c (suc k))
+    each Q new old k l h = go (ℕ-discrete k hi)
+      where
+        go : Dec (k ≡ hi) → Q k (Chain.at at (suc hi) c (suc k))
+        go (yes e) = rw (e, Chain.at-same at (suc hi) c) new
+        go (no n) = rw (Chain.at-other at (suc hi) c (suc k) (λ e. omega arith)) (old k l (omega arith))
