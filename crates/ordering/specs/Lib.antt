@@ -5,7 +5,9 @@ pub mod Limits
 pub mod Steps
 pub mod Own
 pub mod Walking
+pub mod Entries
 pub mod Records
 pub mod Ends
 pub mod Claims
 pub mod Links
+pub mod Placing

@@ -78,6 +78,14 @@ at-itself {A} f k = fun-ext (λ j. go j (ℕ-discrete k j))
     go j (yes q) = rw (eq-eqb k j q) (ap f q)
     go j (no n) = rw (ne-eqb k j n) refl
 
+-- The later of two changes of t's is the one that is seen.
+pub at-twice : {A : Type 0} (f : ℕ → A) (k : ℕ) (x y : A) → at (at f k x) k y ≡ at f k y
+at-twice {A} f k x y = fun-ext (λ j. go j (eqb k j))
+  where
+    go : (j : ℕ) (b : Bool) → cond b y (cond b x (f j)) ≡ cond b y (f j)
+    go j true = refl
+    go j false = refl
+
 -- A producer that goes on as it was.
 pub goes-on-same : (B : ℕ) (s : State) (t : ℕ) (x : Producer) → s .producer t ≡ x → Invariant B s → Invariant B (withProducer s t x)
 goes-on-same B s t x e i =
