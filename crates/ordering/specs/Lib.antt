@@ -11,3 +11,5 @@ pub mod Ends
 pub mod Claims
 pub mod Links
 pub mod Placing
+pub mod Dequeue
+pub mod Front
