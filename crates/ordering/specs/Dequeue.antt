@@ -109,11 +109,16 @@ module _ (z : Sizes) (σ : Reader) (γ : Ghost) (good : Good z σ γ) where
       by-up-to P (z .M) (z .B * q) _ (rw (← same) fits)
       (rw (← same) (each n is (ap (λ (x : ℕ). σ (used x)) is ∙ m .chain .linked (suc (σ (place r))) low high) placed))))
 
+  -- A consumer whose words are all zero is idle.
+  pub resting-in-range : (σ′ : Reader) → ((k : ℕ) → σ′ (consumer k) ≡ 0) → consumerInRange z σ′ ≡ true
+  resting-in-range σ′ none =
+      row-of z 7 consumerSorts (λ k. σ′ (consumer k)) 0 (none 0) (omega arith) (none 1, (none 2, (none 3, (none 4, (none 5, (none 6, (none 7, tt)))))))
+
   -- The dequeue answers empty.
   pub answers-empty : dequeues (view σ γ .consumer) ≡ true → Invariant (z .B) (answerEmpty (view σ γ)) → Fine z σ γ (step 0) endsEmpty
   answers-empty busy model =
       consumer-own z σ γ good empty (clearConsumer ∷ []) resting (gaveEmpty ∷ γ .history) (tt, tt)
-      (row-of z 7 consumerSorts (λ k. after σ (clearConsumer ∷ []) (consumer k)) 0 refl (omega arith) (refl, (refl, (refl, (refl, (refl, (refl, (refl, tt))))))))
+      (resting-in-range (after σ (clearConsumer ∷ [])) (λ k. refl))
       (tt, tt)
       refl
       model

@@ -1,13 +1,13 @@
 -- The entry at a position: where it stands, and what a write of it leaves alone.
 use mathlib.Core.Path.{_≡_, refl, ap, sym, _∙_, subst}
 use mathlib.Core.Logic.{_≢_}
-use mathlib.Core.Bool.{Bool, true, false, _&&_}
+use mathlib.Core.Bool.{true, false, _&&_, and-false}
 use Prim.Native.Nat.{ℕ, zero, suc, _+_, _-_, _*_, _≤_, _<_}
 use native.Mathlib.Nat.{mul-comm, mul-le-mul-left}
 use native.Mathlib.Decide.{ℕ-discrete}
 use native.Mathlib.Omega.{arith}
-use lib.Dec.{leb, ltb}
-use borrow.Author.Tests.{lt-ltb, le-leb}
+use lib.Dec.{eqb}
+use borrow.Author.Tests.{lt-ltb, le-leb, ne-eqb}
 use Rattle.history.specs.Linearization.{Item}
 use Rattle.rules.specs.Sizes.{Sizes}
 use Rattle.rules.specs.Cell
@@ -81,6 +81,18 @@ module _ (B lo hi : ℕ) (at : ℕ → ℕ) (entry entry′ : ℕ → Entry) (co
 -- Two places of the chain have two records.
 pub records-apart : (z : Sizes) (σ : Reader) (g : Shape) → ChainOf z σ g → (a b : ℕ) → g .lo ≤ a → a ≤ g .hi → g .lo ≤ b → b ≤ g .hi → g .at a ≡ g .at b → a ≡ b
 records-apart z σ g c a b la ha lb hb e = sym (c .placed a la ha) ∙ ap (λ (x : ℕ). σ (place x)) e ∙ c .placed b lb hb
+
+-- A record that is not linked is another one than one that is.
+pub other-record : (σ : Reader) (h : ℕ) → σ (used h) ≡ 2 → (x : ℕ) → (σ (used x) ≡ 2 → ⊥) → eqb h x ≡ false
+other-record σ h u x n = ne-eqb h x (λ e. n (rw e at u))
+
+-- A cell of another entry.
+pub other-entry : (h i x a : ℕ) → (x ≡ h → a ≡ i → ⊥) → (eqb h x && eqb i a) ≡ false
+other-entry h i x a n = go (ℕ-discrete x h)
+  where
+    go : Dec (x ≡ h) → (eqb h x && eqb i a) ≡ false
+    go (yes e) = rw (ne-eqb i a (λ q. n e (sym q)), and-false (eqb h x)) refl
+    go (no m) = rw (ne-eqb h x (λ q. m (sym q))) refl
 
 -- The entry at position p, inside a record r that is linked: where it stands, on the chain and in the record.
 pub record Slot (z : Sizes) (σ : Reader) (g : Shape) (r p : ℕ) : Type 0 where

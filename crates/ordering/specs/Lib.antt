@@ -13,3 +13,7 @@ pub mod Links
 pub mod Placing
 pub mod Dequeue
 pub mod Front
+pub mod Cursor
+pub mod Scan
+pub mod Rescan
+pub mod Taking

@@ -41,7 +41,7 @@ use Rattle.ordering.specs.Steps.{as-seen, at-twice, producers-after, unc
 use Rattle.ordering.specs.Own.{OfProducer, NoProducer, producer-writes, producer-sorted, all-map, withHistory}
 use Rattle.ordering.specs.Records.{seen-as}
 use Rattle.ordering.specs.Ends.{end-formed, end-adds, idle-in-range, idle-thread, idle-seen}
-use Rattle.ordering.specs.Entries.{by-inside, Slot, slot, slot-changes, slot-state, slot-number, slot-value}
+use Rattle.ordering.specs.Entries.{other-record, other-entry, by-inside, Slot, slot, slot-changes, slot-state, slot-number, slot-value}
 
 module _ (z : Sizes) (σ : Reader) (γ : Ghost) (good : Good z σ γ) (t : ℕ) (a-producer : (1 ≤ t) × (t ≤ z .P)) where
   self : eqb t t ≡ true
@@ -106,18 +106,6 @@ module _ (z : Sizes) (σ : Reader) (γ : Ghost) (good : Good z σ γ) (t : ℕ) 
       linked l (inl u) = u
       linked l (inr u) = absurd (omega (arith, u .2))
 
-  -- a record that is not linked is another one
-  other-record : (h : ℕ) → σ (used h) ≡ 2 → (x : ℕ) → (σ (used x) ≡ 2 → ⊥) → eqb h x ≡ false
-  other-record h u x n = ne-eqb h x (λ e. n (rw e at u))
-
-  -- a cell of another entry
-  other-entry : (h i x a : ℕ) → (x ≡ h → a ≡ i → ⊥) → (eqb h x && eqb i a) ≡ false
-  other-entry h i x a n = go (ℕ-discrete x h)
-    where
-      go : Dec (x ≡ h) → (eqb h x && eqb i a) ≡ false
-      go (yes e) = rw (ne-eqb i a (λ q. n e (sym q)), and-false (eqb h x)) refl
-      go (no m) = rw (ne-eqb h x (λ q. m (sym q))) refl
-
   -- 8. Write call number and value into the entry; to 9.
   abbrev writeWrites : (h i : ℕ) → List Write
   writeWrites h i = entryNumber h i := σ (call t) ∷ entryValue h i := σ (value t) ∷ phase t := 9 ∷ []
@@ -141,7 +129,7 @@ module _ (z : Sizes) (σ : Reader) (γ : Ghost) (good : Good z σ γ) (t : ℕ) 
           producer-goes z σ γ good t a-producer going ws (γ .shape .tp) (γ .entry) (γ .owner) (at (γ .content) (σ (position t)) what) (γ .history)
           in-sort
           ((s .fits, s .here .below, omega arith), ((s .fits, s .here .below, omega arith), ((a-producer .0, a-producer .1, omega arith), tt)))
-          (record { parts = λ x j. refl; entries = λ x n b j. rw (other-record h (s .linked) x n, and-false (eqb 2 j), and-false (eqb 1 j)) refl })
+          (record { parts = λ x j. refl; entries = λ x n b j. rw (other-record σ h (s .linked) x n, and-false (eqb 2 j), and-false (eqb 1 j)) refl })
           (refl, refl, refl)
           (row-of z 11 producerSorts (rowOf σ′ t) 9 nine (omega arith) old)
           (unclaimed (z .N) (γ .shape .lo) σ (rowOf σ′ t) (good .memory .threads t .holding) (old .1 .1 .1 .1 .0)
@@ -206,7 +194,7 @@ module _ (z : Sizes) (σ : Reader) (γ : Ghost) (good : Good z σ γ) (t : ℕ) 
         ((s .fits, s .here .below, omega arith), all-map (OfProducer t) (WriteThere z) (λ w q. producer-sorted z t a-producer w q .1) rest own)
         (record {
           parts = λ y j. same (part y j) tt;
-          entries = λ y n a j. same (entry y a j) tt ∙ rw (other-record h (s .linked) y n, and-false (eqb 0 j)) refl;
+          entries = λ y n a j. same (entry y a j) tt ∙ rw (other-record σ h (s .linked) y n, and-false (eqb 0 j)) refl;
         })
         (same headRecord tt, same cursorRecord tt, same foundRecord tt)
         in-row
