@@ -42,7 +42,7 @@ module _ (z : Sizes) (σ : Reader) (γ : Ghost) (good : Good z σ γ) (t : ℕ) 
       → p′ ≤ 11 → OfSorts z (rowOf (after σ (claimWrites t r p′)) t) 1 (getD producerSorts p′ [])
       → Goes z σ γ (step t) going (claimWrites t r p′)
   claims p p′ r e past fits is-free same-seen l row =
-      record-goes z σ γ good t a-producer going ws γ in-sort
+      record-goes z σ γ good t a-producer (step t) going ws γ in-sort
       (fits, ((fits, omega arith), ((a-producer .0, a-producer .1, omega arith), ((a-producer .0, a-producer .1, omega arith), tt))))
       (row-of z 11 producerSorts (rowOf σ′ t) p′ new-phase l row)
       (claim-keeps z σ (γ .shape) m t r p′ a-producer fits is-free holds-one)

@@ -117,7 +117,7 @@ module _ (z : Sizes) (σ : Reader) (γ : Ghost) (good : Good z σ γ) where
   -- The dequeue answers empty.
   pub answers-empty : dequeues (view σ γ .consumer) ≡ true → Invariant (z .B) (answerEmpty (view σ γ)) → Fine z σ γ (step 0) endsEmpty
   answers-empty busy model =
-      consumer-own z σ γ good empty (clearConsumer ∷ []) resting (gaveEmpty ∷ γ .history) (tt, tt)
+      consumer-own z σ γ good (step 0) empty (clearConsumer ∷ []) resting (gaveEmpty ∷ γ .history) (tt, tt)
       (resting-in-range (after σ (clearConsumer ∷ [])) (λ k. refl))
       (tt, tt)
       refl
@@ -133,7 +133,7 @@ module _ (z : Sizes) (σ : Reader) (γ : Ghost) (good : Good z σ γ) where
       → Invariant (z .B) (withConsumer (view σ γ) x)
       → Goes z σ γ (step 0) going ws
   consumer-goes ws p x own phase l row linked seen model =
-      consumer-own z σ γ good going ws x (γ .history) own (row-of z 7 consumerSorts (λ k. after σ ws (consumer k)) p phase l row) linked seen model
+      consumer-own z σ γ good (step 0) going ws x (γ .history) own (row-of z 7 consumerSorts (λ k. after σ ws (consumer k)) p phase l row) linked seen model
       (good .formed)
       refl
 

@@ -17,3 +17,5 @@ pub mod Cursor
 pub mod Scan
 pub mod Rescan
 pub mod Taking
+pub mod Starts
+pub mod Every

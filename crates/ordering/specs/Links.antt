@@ -89,7 +89,7 @@ module _ (z : Sizes) (σ : Reader) (γ : Ghost) (good : Good z σ γ) (t : ℕ) 
         (model : Invariant (z .B) (withHistory (withProducer (view σ γ) t x) H)) where
       pub gives : Goes z σ γ (step t) r giveWrites
       gives =
-          record-goes z σ γ good t a-producer r giveWrites (later γ H) in-sort ((c-blank .fits, omega arith), rest-there) in-row
+          record-goes z σ γ good t a-producer (step t) r giveWrites (later γ H) in-sort ((c-blank .fits, omega arith), rest-there) in-row
           (give-back-keeps z σ σ′ (γ .shape) m t h c a-producer holds claims kept let-go
           (same tailRecord tt)
           (same headRecord tt)
@@ -195,7 +195,7 @@ module _ (z : Sizes) (σ : Reader) (γ : Ghost) (good : Good z σ γ) (t : ℕ) 
       pub links : Goes z σ γ (step t) r linkWrites
       unfolding σ′ τ
       links =
-          record-goes z σ γ good t a-producer r linkWrites linkedGhost in-sort there in-row
+          record-goes z σ γ good t a-producer (step t) r linkWrites linkedGhost in-sort there in-row
           (link-keeps z σ σ′ (γ .shape) m t h c a-producer holds claims kept let-go
           (same tailRecord tt)
           (same headRecord tt)

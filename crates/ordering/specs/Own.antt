@@ -217,18 +217,18 @@ module _ (z : Sizes) (σ : Reader) (γ : Ghost) (good : Good z σ γ) where
           }
 
   -- A step of the consumer that writes its own words alone.
-  pub consumer-own : (r : Reply) (ws : List Write) (x : Consumer) (h : History)
+  pub consumer-own : (q : Request) (r : Reply) (ws : List Write) (x : Consumer) (h : History)
       → All OfConsumer ws
       → consumerInRange z (after σ ws) ≡ true
       → Linked σ (after σ ws cursorRecord) × Linked σ (after σ ws foundRecord)
       → consumerOf (after σ ws) ≡ x
       → Invariant (z .B) (withHistory (withConsumer (view σ γ) x) h)
       → wellFormed h ≡ true
-      → h ≡ replyEvents (step 0) (γ .history) r ++ γ .history
-      → Goes z σ γ (step 0) r ws
-  consumer-own r ws x h own in-row linked seen model formed grown =
+      → h ≡ replyEvents q (γ .history) r ++ γ .history
+      → Goes z σ γ q r ws
+  consumer-own q r ws x h own in-row linked seen model formed grown =
       record {
-        there = all-map OfConsumer (WriteThere z) (λ w q. consumer-sorted z w q .1) ws own;
+        there = all-map OfConsumer (WriteThere z) (λ w o. consumer-sorted z w o .1) ws own;
         next = later γ h;
         good =
             record {
@@ -256,7 +256,7 @@ module _ (z : Sizes) (σ : Reader) (γ : Ghost) (good : Good z σ γ) where
       same = consumer-writes σ ws own
 
       in-sort : All (InSort z 0) ws
-      in-sort = all-map OfConsumer (InSort z 0) (λ w q. consumer-sorted z w q .0) ws own
+      in-sort = all-map OfConsumer (InSort z 0) (λ w o. consumer-sorted z w o .0) ws own
 
       moves : withHistory (withConsumer (view σ γ) x) h ≡ view (after σ ws) (later γ h)
       moves =

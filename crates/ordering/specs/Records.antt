@@ -13,7 +13,7 @@ use Rattle.rules.specs.Sizes.{Sizes}
 use Rattle.rules.specs.Cell.{Reader, Write, after, consumer, place, used, cursorRecord, foundRecord, held}
 use Rattle.rules.specs.Range.{producerInRange}
 use Rattle.rules.specs.Rule.{Reply}
-use Rattle.rules.specs.Request.{step}
+use Rattle.rules.specs.Request.{Request}
 use Rattle.rules.specs.Play.{replyEvents}
 use Rattle.rules.specs.Readback.{WriteThere}
 use Rattle.rules.specs.InRange.{InSort, writes-keep-range}
@@ -25,7 +25,7 @@ use Rattle.ordering.specs.View.{Ghost, placesOf, placeOf, consumerAt, co
 use Rattle.ordering.specs.Good.{Good, Goes}
 
 module _ (z : Sizes) (σ : Reader) (γ : Ghost) (good : Good z σ γ) (t : ℕ) (a-producer : (1 ≤ t) × (t ≤ z .P)) where
-  pub record-goes : (r : Reply) (ws : List Write) (γ′ : Ghost)
+  pub record-goes : (q : Request) (r : Reply) (ws : List Write) (γ′ : Ghost)
       → All (InSort z t) ws
       → All (WriteThere z) ws
       → producerInRange z (after σ ws) t ≡ true
@@ -33,9 +33,9 @@ module _ (z : Sizes) (σ : Reader) (γ : Ghost) (good : Good z σ γ) (t : ℕ) 
       → AgreesWith (z .B) (after σ ws) γ′
       → Invariant (z .B) (view (after σ ws) γ′)
       → wellFormed (γ′ .history) ≡ true
-      → γ′ .history ≡ replyEvents (step t) (γ .history) r ++ γ .history
-      → Goes z σ γ (step t) r ws
-  record-goes r ws γ′ in-sort there in-row memory agrees model formed grown =
+      → γ′ .history ≡ replyEvents q (γ .history) r ++ γ .history
+      → Goes z σ γ q r ws
+  record-goes q r ws γ′ in-sort there in-row memory agrees model formed grown =
       record {
         there = there;
         next = γ′;
