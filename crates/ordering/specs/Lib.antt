@@ -19,3 +19,4 @@ pub mod Rescan
 pub mod Taking
 pub mod Starts
 pub mod Every
+pub mod Opened

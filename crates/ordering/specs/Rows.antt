@@ -44,7 +44,7 @@ abbrev pub OfSorts : Sizes → (ℕ → ℕ) → ℕ → List Sort → Type 0
 OfSorts z row k [] = Unit
 OfSorts z row k (s ∷ ss) = OfSort z s (row k) × OfSorts z row (suc k) ss
 
-of-sorts : (z : Sizes) (row : ℕ → ℕ) (k : ℕ) (ss : List Sort) → OfSorts z row k ss → ofSorts z row k ss ≡ true
+pub of-sorts : (z : Sizes) (row : ℕ → ℕ) (k : ℕ) (ss : List Sort) → OfSorts z row k ss → ofSorts z row k ss ≡ true
 of-sorts z row k [] h = refl
 of-sorts z row k (s ∷ ss) h = and-true (of-sort z s (row k) (h .0)) (of-sorts z row (suc k) ss (h .1))
 
