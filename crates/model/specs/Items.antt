@@ -2,7 +2,7 @@
 -- left. From the invariant.
 use mathlib.Core.Path.{_≡_, refl, sym, _∙_, subst, subst₂}
 use mathlib.Core.Logic.{inl, inr, _≢_}
-use mathlib.Core.List.{[], _∷_, _++_}
+use mathlib.Core.List.{List, [], _∷_, _++_}
 use Prim.Native.Nat.{ℕ, zero, suc, _<_}
 use native.Mathlib.Omega.{arith}
 use Rattle.history.specs.Lists.{All, Pairwise, Member}
@@ -12,76 +12,77 @@ use Rattle.model.specs.State.{Entry, blank, put, gone, State}
 use Rattle.model.specs.Invariant.{Invariant}
 use Rattle.model.specs.Known.{below-suc, put-untaken, ended-put}
 
--- a set entry's content joins at the back
-abbrev pub join : Queue → Entry → Item → Queue
-join q blank x = q
-join q put x = q ++ (x ∷ [])
-join q gone x = q
+-- What the set entries below n hold, by rising position; of a content of any kind.
+module _ {A : Type 0} where
+  -- a set entry's content joins at the back
+  abbrev pub join : List A → Entry → A → List A
+  join q blank x = q
+  join q put x = q ++ (x ∷ [])
+  join q gone x = q
 
-abbrev pub itemsBelow : (n : ℕ) (entry : ℕ → Entry) (content : ℕ → Item) → Queue
-itemsBelow zero entry content = []
-itemsBelow (suc n) entry content = join (itemsBelow n entry content) (entry n) (content n)
+  abbrev pub itemsBelow : (n : ℕ) (entry : ℕ → Entry) (content : ℕ → A) → List A
+  itemsBelow zero entry content = []
+  itemsBelow (suc n) entry content = join (itemsBelow n entry content) (entry n) (content n)
+
+  all-back : (P : A → Type 0) (q : List A) (x : A) → All P q → P x → All P (q ++ (x ∷ []))
+  all-back P [] x a p = (p, tt)
+  all-back P (y ∷ q) x a p = (a .0, all-back P q x (a .1) p)
+
+  all-join : (P : A → Type 0) (q : List A) (e : Entry) (x : A) → All P q → (e ≡ put → P x) → All P (join q e x)
+  all-join P q blank x a p = a
+  all-join P q put x a p = all-back P q x a (p refl)
+  all-join P q gone x a p = a
+
+  pairwise-back : (R : A → A → Type 0) (q : List A) (x : A) → Pairwise R q → All (λ y. R y x) q → Pairwise R (q ++ (x ∷ []))
+  pairwise-back R [] x a r = (tt, tt)
+  pairwise-back R (y ∷ q) x a r = (all-back (R y) q x (a .0) (r .0), pairwise-back R q x (a .1) (r .1))
+
+  pairwise-join : (R : A → A → Type 0) (q : List A) (e : Entry) (x : A) → Pairwise R q → (e ≡ put → All (λ y. R y x) q)
+      → Pairwise R (join q e x)
+  pairwise-join R q blank x a r = a
+  pairwise-join R q put x a r = pairwise-back R q x a (r refl)
+  pairwise-join R q gone x a r = a
+
+  member-back : (q : List A) (x : A) → Member x (q ++ (x ∷ []))
+  member-back [] x = inl refl
+  member-back (y ∷ q) x = inr (member-back q x)
+
+  member-before : (q : List A) (x y : A) → Member y q → Member y (q ++ (x ∷ []))
+  member-before (z ∷ q) x y (inl e) = inl e
+  member-before (z ∷ q) x y (inr e) = inr (member-before q x y e)
+
+  member-join : (q : List A) (e : Entry) (x y : A) → Member y q → Member y (join q e x)
+  member-join q blank x y m = m
+  member-join q put x y m = member-before q x y m
+  member-join q gone x y m = m
+
+  module _ (entry : ℕ → Entry) (content : ℕ → A) where
+    -- what holds of every set entry below n holds of every item
+    pub all-items : (P : A → Type 0) (n : ℕ) → ((p : ℕ) → p < n → entry p ≡ put → P (content p)) → All P (itemsBelow n entry content)
+    all-items P zero h = tt
+    all-items P (suc n) h =
+        all-join P (itemsBelow n entry content) (entry n) (content n) (all-items P n (λ p l. h p (omega arith))) (h n (omega arith))
+
+    -- and so for every two of them
+    pub pairwise-items : (R : A → A → Type 0) (n : ℕ)
+        → ((p q : ℕ) → p < q → q < n → entry p ≡ put → entry q ≡ put → R (content p) (content q))
+        → Pairwise R (itemsBelow n entry content)
+    pairwise-items R zero h = tt
+    pairwise-items R (suc n) h =
+        pairwise-join R (itemsBelow n entry content) (entry n) (content n) (pairwise-items R n (λ p q l m. h p q l (omega arith)))
+        (λ is-put. all-items (λ x. R x (content n)) n (λ p l e. h p n l (omega arith) e is-put))
+
+    -- what a set entry below n holds is an item
+    pub member-items : (n p : ℕ) → p < n → entry p ≡ put → Member (content p) (itemsBelow n entry content)
+    member-items zero p l is-put = absurd (omega arith)
+    member-items (suc n) p l is-put =
+        below-suc (λ q. entry q ≡ put → Member (content q) (itemsBelow (suc n) entry content)) n
+        (λ q b e. member-join (itemsBelow n entry content) (entry n) (content n) (content q) (member-items n q b e))
+        (λ e. rw e (member-back (itemsBelow n entry content) (content n)))
+        p l is-put
 
 abbrev pub items : State → Queue
 items s = itemsBelow (s .tail) (s .entry) (s .content)
-
-all-back : (P : Item → Type 0) (q : Queue) (x : Item) → All P q → P x → All P (q ++ (x ∷ []))
-all-back P [] x a p = (p, tt)
-all-back P (y ∷ q) x a p = (a .0, all-back P q x (a .1) p)
-
-all-join : (P : Item → Type 0) (q : Queue) (e : Entry) (x : Item) → All P q → (e ≡ put → P x) → All P (join q e x)
-all-join P q blank x a p = a
-all-join P q put x a p = all-back P q x a (p refl)
-all-join P q gone x a p = a
-
-pairwise-back : (R : Item → Item → Type 0) (q : Queue) (x : Item) → Pairwise R q → All (λ y. R y x) q → Pairwise R (q ++ (x ∷ []))
-pairwise-back R [] x a r = (tt, tt)
-pairwise-back R (y ∷ q) x a r = (all-back (R y) q x (a .0) (r .0), pairwise-back R q x (a .1) (r .1))
-
-pairwise-join : (R : Item → Item → Type 0) (q : Queue) (e : Entry) (x : Item) → Pairwise R q → (e ≡ put → All (λ y. R y x) q)
-    → Pairwise R (join q e x)
-pairwise-join R q blank x a r = a
-pairwise-join R q put x a r = pairwise-back R q x a (r refl)
-pairwise-join R q gone x a r = a
-
-member-back : (q : Queue) (x : Item) → Member x (q ++ (x ∷ []))
-member-back [] x = inl refl
-member-back (y ∷ q) x = inr (member-back q x)
-
-member-before : (q : Queue) (x y : Item) → Member y q → Member y (q ++ (x ∷ []))
-member-before (z ∷ q) x y (inl e) = inl e
-member-before (z ∷ q) x y (inr e) = inr (member-before q x y e)
-
-member-join : (q : Queue) (e : Entry) (x y : Item) → Member y q → Member y (join q e x)
-member-join q blank x y m = m
-member-join q put x y m = member-before q x y m
-member-join q gone x y m = m
-
-module _ (entry : ℕ → Entry) (content : ℕ → Item) where
-  -- what holds of every set entry below n holds of every item
-  pub all-items : (P : Item → Type 0) (n : ℕ) → ((p : ℕ) → p < n → entry p ≡ put → P (content p))
-      → All P (itemsBelow n entry content)
-  all-items P zero h = tt
-  all-items P (suc n) h =
-      all-join P (itemsBelow n entry content) (entry n) (content n) (all-items P n (λ p l. h p (omega arith))) (h n (omega arith))
-
-  -- and so for every two of them
-  pub pairwise-items : (R : Item → Item → Type 0) (n : ℕ)
-      → ((p q : ℕ) → p < q → q < n → entry p ≡ put → entry q ≡ put → R (content p) (content q))
-      → Pairwise R (itemsBelow n entry content)
-  pairwise-items R zero h = tt
-  pairwise-items R (suc n) h =
-      pairwise-join R (itemsBelow n entry content) (entry n) (content n) (pairwise-items R n (λ p q l m. h p q l (omega arith)))
-      (λ is-put. all-items (λ x. R x (content n)) n (λ p l e. h p n l (omega arith) e is-put))
-
-  -- what a set entry below n holds is an item
-  pub member-items : (n p : ℕ) → p < n → entry p ≡ put → Member (content p) (itemsBelow n entry content)
-  member-items zero p l is-put = absurd (omega arith)
-  member-items (suc n) p l is-put =
-      below-suc (λ q. entry q ≡ put → Member (content q) (itemsBelow (suc n) entry content)) n
-      (λ q b e. member-join (itemsBelow n entry content) (entry n) (content n) (content q) (member-items n q b e))
-      (λ e. rw e (member-back (itemsBelow n entry content) (content n)))
-      p l is-put
 
 module _ (B : ℕ) (s : State) (i : Invariant B s) where
   open State s using (tail, entry, owner, content, history)

@@ -20,3 +20,5 @@ pub mod Taking
 pub mod Starts
 pub mod Every
 pub mod Opened
+pub mod Rising
+pub mod Left

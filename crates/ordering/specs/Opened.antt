@@ -47,13 +47,13 @@ openReader z = after (λ c. 0) (openWrites z)
 -- what stands beside it: record 0 alone is linked, no position is taken, nothing has happened
 abbrev pub openGhost : Ghost
 openGhost =
-    record
-      { shape = record { lo = 1; tp = 1; hi = 1; at = λ k. 0 }
-      ; entry = λ p. blank
-      ; owner = λ p. 0
-      ; content = λ p. record { number = 0; value = 0 }
-      ; history = []
-      }
+    record {
+      shape = record { lo = 1; tp = 1; hi = 1; at = λ k. 0 };
+      entry = λ p. blank;
+      owner = λ p. 0;
+      content = λ p. record { number = 0; value = 0 };
+      history = [];
+    }
 
 module _ (z : Sizes) (sizes : sizesInRange z ≡ true) where
   l : Limits z
@@ -100,11 +100,16 @@ module _ (z : Sizes) (sizes : sizesInRange z ≡ true) where
       contents : OfSorts z (λ j. openReader z (content j)) 0 (contentSorts z)
       contents =
           let one : (1 ≤ 1) × (1 ≤ z .N) = (omega arith, omega (arith, l .two-records)) in
-          let none : 0 ≤ z .M = omega arith in
-          (refl
-          , (refl
-          , (refl
-          , (refl, (refl, (refl, (none, (one, (one, (none, (none, (refl, (refl, (refl, (refl, (refl, tt))))))))))))))))
+          let none : 0 ≤ z .M = omega arith in (
+            refl,
+            (
+              refl,
+              (
+                refl,
+                (refl, (refl, (refl, (none, (one, (one, (none, (none, (refl, (refl, (refl, (refl, (refl, tt))))))))))))),
+              ),
+            ),
+          )
 
       words : (c : Cell) → There z c → ofSort z (sortOf z c) (openReader z c) ≡ true
       words (content k) h =
@@ -124,36 +129,36 @@ module _ (z : Sizes) (sizes : sizesInRange z ≡ true) where
 
   open-memory : Memory z (openReader z) (openGhost .shape)
   open-memory =
-      record
-        { head-tail = omega arith
-        ; tail-last = omega arith
-        ; chain =
-            record
-              { fits = λ k a b. omega (arith, l .two-records)
-              ; linked = λ k a b. refl
-              ; placed = λ k a b. omega arith
-              ; nexts = λ k a b. absurd (omega arith)
-              ; last = refl
-              ; prevs = λ k a b. absurd (omega arith)
-              ; only = λ x u. let e = only-first x u in rw e (omega arith, omega arith, refl)
-              }
-        ; tail-is = refl
-        ; head-is = refl
-        ; threads = λ t. record { holding = tt; claiming = tt; has-held = λ h. absurd (omega arith); has-claimed = λ h. absurd (⊎-elim (λ e. omega arith) (λ e. omega arith) h) }
-        ; apart = λ t u r a b. absurd (omega arith)
-        ; cursor = tt
-        ; found = tt
-        ; unset = λ r i a b n e. omega arith
-        ; outside = λ t k n. refl
-        }
+      record {
+        head-tail = omega arith;
+        tail-last = omega arith;
+        chain =
+            record {
+              fits = λ k a b. omega (arith, l .two-records);
+              linked = λ k a b. refl;
+              placed = λ k a b. omega arith;
+              nexts = λ k a b. absurd (omega arith);
+              last = refl;
+              prevs = λ k a b. absurd (omega arith);
+              only = λ x u. let e = only-first x u in rw e (omega arith, omega arith, refl);
+            };
+        tail-is = refl;
+        head-is = refl;
+        threads = λ t. record { holding = tt; claiming = tt; has-held = λ h. absurd (omega arith); has-claimed = λ h. absurd (⊎-elim (λ e. omega arith) (λ e. omega arith) h) };
+        apart = λ t u r a b. absurd (omega arith);
+        cursor = tt;
+        found = tt;
+        unset = λ r i a b n e. omega arith;
+        outside = λ t k n. refl;
+      }
 
   pub open-good : Good z (openReader z) openGhost
   open-good =
-      record
-        { sizes = sizes
-        ; range = open-range
-        ; memory = open-memory
-        ; agrees = record { states = λ k i a b s. refl; numbers = λ k i a b s. refl; values = λ k i a b s. refl; fresh = λ p h. refl }
-        ; model = initial-keeps (z .B)
-        ; formed = refl
-        }
+      record {
+        sizes = sizes;
+        range = open-range;
+        memory = open-memory;
+        agrees = record { states = λ k i a b s. refl; numbers = λ k i a b s. refl; values = λ k i a b s. refl; fresh = λ p h. refl };
+        model = initial-keeps (z .B);
+        formed = refl;
+      }
