@@ -22,3 +22,6 @@ pub mod Every
 pub mod Opened
 pub mod Rising
 pub mod Left
+pub mod Demand
+pub mod Admission
+pub mod Theorem

@@ -14,7 +14,7 @@ use Rattle.rules.specs.Cell.{Cell, content, consumer, producer, part, entry, Re
 use Rattle.rules.specs.Range.{number, link, most, any, ofSort, contentSorts, partSorts, entrySorts}
 use Rattle.rules.specs.Request.{openWrites, opened}
 use Rattle.rules.specs.Address.{There, there-has, address-below}
-use Rattle.rules.specs.Readback.{WriteThere, reader-writes}
+use Rattle.rules.specs.Readback.{WriteThere, length-writes, reader-writes}
 use Rattle.rules.specs.InRange.{sortOf, row-at, InRange}
 use Rattle.model.specs.State.{blank}
 use Rattle.model.specs.Enqueues.{initial-keeps}
@@ -39,6 +39,11 @@ zero-words z m = fun-ext (λ c. go c (there z c) refl)
         List·getD-append (replicate (storeWords z) 0) (drop (storeWords z) m) 0 (address z c) (simp length-replicate b)
         ∙ getD-replicate (storeWords z) (address z c) 0 0 b
     go c false e = refl
+
+-- an opened store is long enough
+pub open-fits : (z : Sizes) (m : List ℕ) → storeWords z ≤ length (opened z m)
+unfolding opened
+open-fits z m = simp (length-writes, length-append, length-replicate) (omega arith)
 
 -- the store after *open*, cell by cell
 abbrev pub openReader : Sizes → Reader

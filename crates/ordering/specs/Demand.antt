@@ -1,0 +1,36 @@
+-- Demand 3, as document 01 words it ("What demand 3 speaks of"). This module has the statement alone; every name in it is a
+-- definition of `history` or `rules`. The proof is `Theorem.demand-3`.
+use mathlib.Core.Path.{_≡_}
+use mathlib.Core.Logic.{_≢_}
+use mathlib.Core.Bool.{true}
+use mathlib.Core.List.{List, []}
+use Prim.Native.Nat.{ℕ}
+use Rattle.history.specs.Lists.{All}
+use Rattle.history.specs.Calls.{Call}
+use Rattle.history.specs.Form.{wellFormed}
+use Rattle.history.specs.Linearization.{Linearization, Linearizable, Settled}
+use Rattle.rules.specs.Sizes.{Sizes}
+use Rattle.rules.specs.Cell.{reader}
+use Rattle.rules.specs.Free.{Picker, Picks}
+use Rattle.rules.specs.Rule.{refused, accepted, ok}
+use Rattle.rules.specs.Request.{Request, open-store}
+use Rattle.rules.specs.Play.{Played, play, itemsLeft}
+
+-- What is owed of the calls made so far on a store of sizes z.
+pub record Ordered (z : Sizes) (p : Played) : Type 0 where
+  -- The history is linearizable (and well-formed: the judge refuses no event of it).
+  pub formed : wellFormed (p .history) ≡ true
+  pub linearizable : Linearizable (p .history)
+  -- If no call is under way, it has a linearization that leaves exactly the items left, in order.
+  pub leaves : Settled (p .history) → (order : List Call) × Linearization (p .history) order (itemsLeft z (reader z (p .words)))
+  -- No call was answered 3 or 9.
+  pub answered : All (λ r. (r ≢ refused 3) × (r ≢ refused 9)) (p .replies)
+
+-- For sizes z and any words m that an open accepts, whatever they held before; for every list of starts and steps, with any
+-- arguments, refused ones included; whichever free record each claim takes. Each call gets the store as the one before left it.
+abbrev pub Demand-3 : Type 0
+Demand-3 =
+    (z : Sizes) (m : List ℕ) (requests : List Request) (picks : ℕ → Picker)
+    → open-store z m .reply ≡ accepted ok
+    → ((k : ℕ) → Picks (picks k))
+    → Ordered z (play picks requests (record { words = open-store z m .words; replies = []; history = [] }))

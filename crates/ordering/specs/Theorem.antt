@@ -1,0 +1,130 @@
+-- Demand 3, proved: along every list of calls from an accepted open the store stays one that only the engine has written.
+use mathlib.Core.Path.{_≡_, refl, ap, ap₂, sym, _∙_, subst, subst⁻¹}
+use mathlib.Core.Logic.{_≢_}
+use mathlib.Core.Bool.{Bool, true, false, not, _||_, cond}
+use mathlib.Core.List.{List, [], _∷_, _++_}
+use Prim.Native.Nat.{ℕ, _≤_}
+use native.Mathlib.Omega.{arith}
+use lib.Dec.{ltb}
+use lib.ListN.{length, drop, replicate, length-append, length-replicate, length-drop}
+use borrow.Author.Tests.{ltb-false, not-false}
+use Rattle.history.specs.Lists.{All}
+use Rattle.history.specs.Event.{History}
+use Rattle.history.specs.Linearization.{Linearization}
+use Rattle.criterion.specs.Criterion.{sound, criterion}
+use Rattle.criterion.specs.Order.{order}
+use Rattle.rules.specs.Sizes.{Sizes, sizesInRange, storeWords}
+use Rattle.rules.specs.Cell.{Reader, reader, writes}
+use Rattle.rules.specs.Free.{Picker, Picks}
+use Rattle.rules.specs.Rule.{Answer, refuse, reply, Reply, Response, refused, accepted, ok}
+use Rattle.rules.specs.Request.{Request, Result, applied, answer, admitted, result, sizesOf, open-store, opened, openWrites}
+use Rattle.rules.specs.Play.{Played, replyEvents, events, playOne, play, itemsLeft}
+use Rattle.rules.specs.Readback.{reader-writes, length-writes}
+use Rattle.rules.specs.Refusal.{accepted-not-refused}
+use Rattle.model.specs.Items.{items, items-rest}
+use Rattle.model.specs.State.{State}
+use Rattle.ordering.specs.View.{Ghost, view}
+use Rattle.ordering.specs.Good.{Good, Goes, Fine}
+use Rattle.ordering.specs.Every.{answer-fine}
+use Rattle.ordering.specs.Opened.{open-fits, openGhost, open-reads, open-good}
+use Rattle.ordering.specs.Left.{items-left}
+use Rattle.ordering.specs.Admission.{sizes-are, admitted-is}
+use Rattle.ordering.specs.Demand.{Ordered, Demand-3}
+
+-- What every call keeps.
+record Kept (z : Sizes) (p : Played) : Type 0 where
+  fits : storeWords z ≤ length (p .words)
+  beside : Ghost
+  good : Good z (reader z (p .words)) beside
+  same : beside .history ≡ p .history
+  answered : All (λ r. (r ≢ refused 3) × (r ≢ refused 9)) (p .replies)
+
+-- two refusals with one number
+refused-number : {a b : ℕ} → refused a ≡ refused b → a ≡ b
+refused-number e = cc
+
+-- Of what is kept, what is owed.
+owed : {z : Sizes} {p : Played} → Kept z p → Ordered z p
+owed {z} {p} k =
+    let h : History = k .beside .history in
+    let s : State = view (reader z (p .words)) (k .beside) in
+    let left : Linearization h (order h (items s)) (items s) =
+    sound h (k .good .formed) (k .good .model .past .explained) (items s) (items-rest (z .B) s (k .good .model)) in
+    record {
+      formed = rw (← k .same) (k .good .formed);
+      linearizable = rw (← k .same) (criterion h (k .good .formed) .0 (k .good .model .past .explained));
+      leaves =
+          λ settled. rw (← k .same)
+          (order h (items s), rw (items-left z (reader z (p .words)) (k .beside) (k .good)) left);
+      answered = k .answered;
+    }
+
+-- One call.
+module _ {z : Sizes} {p : Played} (k : Kept z p) (pick : Picker) (right : Picks pick) (q : Request) where
+  result-is : result pick q (p .words) ≡ applied z (p .words) (answer pick q z (reader z (p .words)))
+  unfolding result
+  result-is =
+      ap₂ (λ (y : Sizes) (a : Answer). applied y (p .words) a) (sizes-are z (p .words) (k .good .range))
+      (admitted-is z (p .words) (k .good .range) (k .good .sizes) (k .fits) (answer pick q))
+
+  -- what stands after a call with this result
+  abbrev played : Result → Played
+  played r = record { words = r .words; replies = r .reply ∷ p .replies; history = events q (p .history) (r .reply) ++ p .history }
+
+  by-answer : (a : Answer) → Fine z (reader z (p .words)) (k .beside) q a → Kept z (played (applied z (p .words) a))
+  unfolding applied
+  by-answer (refuse n) f =
+      record {
+        fits = k .fits;
+        beside = k .beside;
+        good = k .good;
+        same = k .same;
+        answered = (((λ e. f .0 (refused-number e)), (λ e. f .1 (refused-number e))), k .answered);
+      }
+  by-answer (reply r ws) g =
+      record {
+        fits = rw (length-writes z (p .words) ws) (k .fits);
+        beside = g .next;
+        good = subst⁻¹ (λ (τ : Reader). Good z τ (g .next)) (reader-writes z (p .words) ws (k .fits) (g .there)) (g .good);
+        same = g .grown ∙ ap (λ (h : History). replyEvents q h r ++ h) (k .same);
+        answered = ((accepted-not-refused, accepted-not-refused), k .answered);
+      }
+
+  keeps : Kept z (playOne pick q p)
+  keeps =
+      subst⁻¹ (λ (r : Result). Kept z (played r)) result-is
+      (by-answer (answer pick q z (reader z (p .words))) (answer-fine z (reader z (p .words)) (k .beside) (k .good) pick right q))
+
+-- All of them.
+plays : {z : Sizes} (picks : ℕ → Picker) → ((k : ℕ) → Picks (picks k)) → (qs : List Request) {p : Played} → Kept z p → Kept z (play picks qs p)
+unfolding play
+plays picks right [] k = k
+plays picks right (q ∷ qs) {p} k =
+    plays picks right qs (keeps k (picks (length (p .replies))) (right (length (p .replies))) q)
+
+-- An accepted open.
+opened-kept : (z : Sizes) (m : List ℕ) → open-store z m .reply ≡ accepted ok → Kept z (record { words = open-store z m .words; replies = []; history = [] })
+unfolding open-store
+opened-kept z m = go (sizesInRange z) refl (ltb (length m) 16 || ltb (length m) (storeWords z)) refl
+  where
+    answered : Bool → Bool → Result
+    answered a b =
+        cond (not a) (record { reply = refused 1; words = m })
+        (cond b (record { reply = refused 2; words = m }) (record { reply = accepted ok; words = opened z m }))
+
+    go : (a : Bool) → sizesInRange z ≡ a → (b : Bool) → (ltb (length m) 16 || ltb (length m) (storeWords z)) ≡ b
+        → answered a b .reply ≡ accepted ok → Kept z (record { words = answered a b .words; replies = []; history = [] })
+    go false e b f r = absurd (accepted-not-refused (sym r))
+    go true e true f r = absurd (accepted-not-refused (sym r))
+    go true e false f r =
+        record {
+          fits = open-fits z m;
+          beside = openGhost;
+          good = subst⁻¹ (λ (τ : Reader). Good z τ openGhost) (open-reads z e m) (open-good z e);
+          same = refl;
+          answered = tt;
+        }
+
+-- Demand 3.
+pub demand-3 : Demand-3
+demand-3 z m requests picks opens right = owed (plays picks right requests (opened-kept z m opens))
