@@ -8,6 +8,7 @@ pub mod Consumer
 pub mod Request
 pub mod Play
 pub mod Runs
+pub mod Witnesses
 pub mod Address
 pub mod Readback
 pub mod Refusal
