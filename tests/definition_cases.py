@@ -178,24 +178,27 @@ def damaged(rng, store):
     return answer(words, call)
 
 
-def wild(rng, phase_of):
+def wild(rng, kind, phase):
     """A store whose words are all in range, and stand there at random, though positions mostly near their record; a
     step of one of its threads."""
     sizes = B, N, P, M = random_sizes(rng)
     consumer, producer = im.thread_limits(N, M)
-    place = lambda: rng.choice((0, 1, 1, 2, 2, 3, im.MAX_PLACE - 1, im.MAX_PLACE))
-    near = lambda limit: rng.choice((rng.randint(0, min(limit, 3 * B + 1)), rng.randint(0, limit), limit))
+
+    def up_to(limit):
+        return rng.choice((rng.randint(0, min(limit, 3 * B + 1)), rng.randint(0, limit), limit))
+
     words = [*sizes, im.CONTENTS, im.CONTENTS + im.THREAD_WORDS * (P + 1)]
-    words += [near(M), rng.randint(1, N), rng.randint(1, N), near(M), near(M), 0, 0, 0, 0, 0]
-    thread = 0 if phase_of[0] == 'consumer' else rng.randint(1, P)
+    words += [up_to(M), rng.randint(1, N), rng.randint(1, N), up_to(M), up_to(M), 0, 0, 0, 0, 0]
+    thread = 0 if kind == 'consumer' else rng.randint(1, P)
     for t in range(P + 1):
         limits = producer if t else consumer
-        phase = phase_of[1] if t == thread else rng.randrange(len(limits))
-        words += [phase] + [near(limit) for limit in limits[phase][1:]]
+        at = phase if t == thread else rng.randrange(len(limits))
+        words += [at] + [up_to(limit) for limit in limits[at][1:]]
     for _ in range(N):
-        words += [place(), near(N), near(N), rng.randint(0, 3)]
+        place = rng.choice((0, 1, 1, 2, 2, 3, im.MAX_PLACE - 1, im.MAX_PLACE))
+        words += [place, up_to(N), up_to(N), rng.randint(0, 3)]
         for _ in range(B):
-            words += [rng.randint(0, 2), near(M), random_value(rng)]
+            words += [rng.randint(0, 2), up_to(M), random_value(rng)]
     own = im.CONTENTS + im.THREAD_WORDS * thread
     pairs = ((im.HELD, im.POSITION),) if thread else ((im.CURSOR, im.CURSOR_POSITION), (im.FOUND, im.FOUND_POSITION))
     for record, position in ((im.HEAD_RECORD, im.HEAD_POSITION), *((own + r, own + p) for r, p in pairs)):
@@ -217,20 +220,20 @@ def sharpen(rng, words, thread):
     the last place, or a crossing at a record's end."""
     B, N, P, M = words[:4]
     own = im.CONTENTS + im.THREAD_WORDS * thread
-    turn = (words[own] in (4, 10), words[own] in (5, 11), words[own] in (1, 3, 5))
-    if thread and turn[0]:
-        for other in set(range(1, P + 1)) - {thread}:
+    phase = words[own]
+    if thread and phase in (4, 10):
+        for other in (t for t in range(1, P + 1) if t != thread):
             start = im.CONTENTS + im.THREAD_WORDS * other
             words[start : start + im.THREAD_WORDS] = [5, 1, 7, 0, rng.randint(0, N), rng.randint(0, N), 0, 0]
         for number in range(1, N + 1):
             words[record_at(words, number) + im.USE] = rng.choice((1, 2, 3, 3, 3))
-    elif thread and turn[1]:
+    elif thread and phase in (5, 11):
         words[own + im.HELD], words[own + im.CLAIMED] = rng.randint(1, N), rng.randint(1, N)
         held = record_at(words, words[own + im.HELD])
         words[held + im.PLACE], words[held + im.NEXT] = rng.choice((1, im.MAX_PLACE - 1, im.MAX_PLACE)), 0
-    elif not thread and turn[2]:
-        front = words[own] == 1
-        record, position = (im.HEAD_RECORD, im.HEAD_POSITION) if front else (own + im.CURSOR, own + im.CURSOR_POSITION)
+    elif not thread and phase in (1, 3, 5):
+        cursor = (own + im.CURSOR, own + im.CURSOR_POSITION)
+        record, position = (im.HEAD_RECORD, im.HEAD_POSITION) if phase == 1 else cursor
         number, following = rng.sample(range(1, N + 1), 2)
         words[record], words[position] = number, B
         words[record_at(words, number) + im.PLACE] = 1
@@ -300,7 +303,7 @@ def opening(rng):
         low, high = im.LIMITS[k]
         sizes[k] = rng.choice((0, low - 1, low, high, high + 1, rng.choice(BIG)))
     needed = im.needed_words(*sizes[:3])
-    length = min(rng.choice((0, 15, needed - 1, needed, needed, needed + 3)), 200)
+    length = min(rng.choice((0, 15, needed - 1, needed, needed, needed + 3)), 900)
     return answer([rng.choice((0, 1, rng.choice(BIG))) for _ in range(length)], ('open', *sizes))
 
 
@@ -315,7 +318,7 @@ def singles(seed, stores, count):
         if kind < 4:
             cases.append(damaged(rng, store))
         elif kind < 14:
-            cases.append(wild(rng, rng.choice(phases)))
+            cases.append(wild(rng, *rng.choice(phases)))
         elif kind < 16:
             cases.append(of_another_length(rng, store))
         elif kind < 17:
@@ -361,8 +364,8 @@ def histories(seed, count):
     """So many word lists for the judge, valid and damaged."""
     rng = random.Random(seed)
     most = jm.MAX_EVENTS
-    cases = [judged([], 0), judged([], 3)]
-    cases += [judged([0] * 4 * events, entries) for events, entries in ((most + 1, most + 1), (most, most - 1), (most, most))]
+    lengths = ((0, 0), (0, 3), (most + 1, most + 1), (most, most - 1), (most, most))
+    cases = [judged([0] * 4 * events, entries) for events, entries in lengths]
     while len(cases) < count:
         if len(cases) % 5 == 0:
             history = test_judge.with_another_answer(rng, test_judge.engine_history(rng.randrange(10**6))[:10])

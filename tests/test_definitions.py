@@ -57,7 +57,7 @@ class Tables(unittest.TestCase):
         self.assert_proved('schedules')
 
     def test_single_calls(self):
-        """A damaged store admitted or refused wrongly, a link or an index not looked at, a word changed by a refusal."""
+        """A damaged store admitted or turned down wrongly, a link or an index not looked at, a write by a refusal."""
         self.assert_proved('singles')
 
     def test_histories(self):
