@@ -1,0 +1,687 @@
+"""Cases for the definitions of crates/history, crates/rules and crates/criterion, and their tables in antt.
+
+The cases are generated here and what they must give comes from `intake_model` and `judge_model` alone. Each case
+becomes one statement `name : follow given ≡ expected`, which the checker proves by computing the left side.
+"""
+
+import itertools
+import random
+import shutil
+from pathlib import Path
+from typing import NamedTuple
+
+import intake_model as im
+import judge_model as jm
+import test_judge
+
+CRATES = Path(__file__).resolve().parent.parent / 'crates'
+BIG = (2**16, 2**31, im.U32 - 1, im.U32)
+TYPES = {'schedule': 'Schedule', 'single': 'Single', 'history': 'Words'}
+ANSWERS = {'schedule': 'Outcome', 'single': 'Result', 'history': 'Verdict'}
+FUNCTIONS = {'schedule': 'follow', 'single': 'call', 'history': 'judge'}
+
+
+class Schedule(NamedTuple):
+    """An open of lent words, and calls after it."""
+
+    lent: list
+    sizes: tuple
+    calls: list
+    expected: tuple  # the replies, open's first; the words at the end; the items left
+
+
+class Single(NamedTuple):
+    """One call on any words: ('open', B, N, P, M) or a call of a list."""
+
+    words: list
+    call: tuple
+    expected: tuple  # the reply and the words after
+
+
+class History(NamedTuple):
+    """Words for the judge, and the length of its working table."""
+
+    words: list
+    entries: int
+    expected: tuple  # the judge's verdict
+
+
+# Schedules.
+
+
+def play(lent, sizes, calls):
+    """The case of a schedule, with the model's answers."""
+    recorder = im.Recorder(*sizes, words=list(lent))
+    replies = [recorder.opened] + recorder.run(calls)
+    return Schedule(lent, sizes, calls, (replies, recorder.words, im.items_left(recorder.words)))
+
+
+def snapshots(case):
+    """The store after every call of a schedule."""
+    recorder = im.Recorder(*case.sizes, words=list(case.lent))
+    stores = [list(recorder.words)]
+    for call in case.calls:
+        recorder.call(call)
+        stores.append(list(recorder.words))
+    return stores
+
+
+def random_sizes(rng):
+    return (rng.choice((2, 2, 3, 4)), rng.choice((2, 3, 4)), rng.choice((1, 2, 2, 3)), rng.choice((4, 20, 40, 99)))
+
+
+def random_call(rng, P):
+    """Any call, often one that is refused."""
+    thread = rng.choice((0, rng.randint(0, P), rng.randint(0, P), P + 1, rng.choice(BIG)))
+    return rng.choice([('e', thread, random_value(rng)), ('d',), ('s', thread), ('s', thread)])
+
+
+def random_value(rng):
+    return rng.choice((rng.randint(0, 9), rng.randint(0, im.U32), im.U32))
+
+
+def random_schedule(rng):
+    """A list of calls on a store that held other words before. Threads have shares of the calls, which change now
+    and then, and each producer may have a phase before which it mostly stops for long."""
+    sizes = random_sizes(rng)
+    P = sizes[2]
+    needed = im.needed_words(*sizes[:3])
+    lent = [rng.choice((0, 1, rng.randint(0, im.U32))) for _ in range(needed + rng.choice((0, 1, 5)))]
+    recorder = im.Recorder(*sizes, words=list(lent))
+    stops = [rng.choice((None, 2, 2, 5, 8, 9)) if t else None for t in range(P + 1)]
+    calls = []
+    for k in range(rng.randint(20, 110)):
+        if k % 20 == 0:
+            shares = [rng.choice((1, 1, 5)) for _ in range(P + 1)]
+        thread = rng.choices(range(P + 1), shares)[0]
+        if recorder.words[im.CONTENTS + im.THREAD_WORDS * thread] == stops[thread] and rng.random() < 0.9:
+            thread = rng.randint(0, P)
+        start = ('e', thread, random_value(rng)) if thread else ('d',)
+        call = ('s', thread) if thread in recorder.starts or rng.random() < 0.05 else start
+        if rng.random() < 0.1:
+            call = random_call(rng, P)
+        calls.append(call)
+        recorder.call(call)
+    return play(lent, sizes, calls)
+
+
+def goes_back(case):
+    return ('producer', 7, 'accepted') in reached([case])
+
+
+def rescans(case):
+    return ('consumer', 5, 'accepted') in reached([case])
+
+
+def leaves_in_another_order(case):
+    """The items left, by position, are not in the order of their records."""
+    words, left = case.expected[1:]
+    B, N, P, _ = case.sizes
+    first = im.CONTENTS + im.THREAD_WORDS * (P + 1)
+    entries = [
+        words[first + r * im.record_words(B) + im.RECORD_HEAD + im.ENTRY_WORDS * i :][: im.ENTRY_WORDS]
+        for r in range(N)
+        for i in range(B)
+    ]
+    return left != [(call, value) for state, call, value in entries if state == im.SET]
+
+
+def schedules(seed, calls):
+    """Schedules with at least so many calls in all. Three of four are the next that does something rare."""
+    rng = random.Random(seed)
+    wanted = itertools.cycle((lambda case: True, goes_back, rescans, leaves_in_another_order))
+    cases = []
+    while sum(len(case.calls) for case in cases) < calls:
+        wants = next(wanted)
+        cases.append(next(case for case in iter(lambda: random_schedule(rng), None) if wants(case)))
+    return cases
+
+
+# Single calls.
+
+
+def answer(words, call):
+    """The case of one call, with the model's answer."""
+    after = list(words)
+    if call[0] == 'open':
+        reply = im.open_store(after, *call[1:])
+    else:
+        reply = im.do(after, call)
+    return Single(list(words), call, (reply, after))
+
+
+def busy(words):
+    """The threads of a store that are not idle."""
+    return [t for t in range(words[2] + 1) if words[im.CONTENTS + im.THREAD_WORDS * t]]
+
+
+def likely_call(rng, words):
+    """Mostly a step of a busy thread."""
+    threads = busy(words)
+    if threads and rng.random() < 0.85:
+        return ('s', rng.choice(threads))
+    return random_call(rng, words[2])
+
+
+def random_word(rng, sizes):
+    """A small word, one at the edge of some range, or a huge one."""
+    B, N, P, M = sizes
+    edges = (B, N, N + 1, M - 1, M, M + 1, 3, 7, 8, 11, 12, im.MAX_PLACE, im.MAX_PLACE + 1)
+    return rng.choice((rng.randint(0, 5), rng.randint(0, 5), rng.choice(edges), rng.choice(BIG)))
+
+
+def damaged(rng, store):
+    """A store of the model with one word changed."""
+    words = list(store)
+    call = likely_call(rng, words)
+    words[rng.randrange(len(words))] = random_word(rng, words[:4])
+    return answer(words, call)
+
+
+def wild(rng, kind, phase):
+    """A store whose words are all in range, and stand there at random, though positions mostly near their record; a
+    step of one of its threads."""
+    sizes = B, N, P, M = random_sizes(rng)
+    consumer, producer = im.thread_limits(N, M)
+
+    def up_to(limit):
+        return rng.choice((rng.randint(0, min(limit, 3 * B + 1)), rng.randint(0, limit), limit))
+
+    words = [*sizes, im.CONTENTS, im.CONTENTS + im.THREAD_WORDS * (P + 1)]
+    words += [up_to(M), rng.randint(1, N), rng.randint(1, N), up_to(M), up_to(M), 0, 0, 0, 0, 0]
+    thread = 0 if kind == 'consumer' else rng.randint(1, P)
+    for t in range(P + 1):
+        limits = producer if t else consumer
+        at = phase if t == thread else rng.randrange(len(limits))
+        words += [at] + [up_to(limit) for limit in limits[at][1:]]
+    for _ in range(N):
+        place = rng.choice((0, 1, 1, 2, 2, 3, im.MAX_PLACE - 1, im.MAX_PLACE))
+        words += [place, up_to(N), up_to(N), rng.randint(0, 3)]
+        for _ in range(B):
+            words += [rng.randint(0, 2), up_to(M), random_value(rng)]
+    own = im.CONTENTS + im.THREAD_WORDS * thread
+    pairs = ((im.HELD, im.POSITION),) if thread else ((im.CURSOR, im.CURSOR_POSITION), (im.FOUND, im.FOUND_POSITION))
+    for record, position in ((im.HEAD_RECORD, im.HEAD_POSITION), *((own + r, own + p) for r, p in pairs)):
+        if words[record] and rng.random() < 0.6:
+            place_of = words[record_at(words, words[record]) + im.PLACE]
+            words[position] = min(max(B * (place_of - 1) + rng.randint(0, B), 0), M)
+    if rng.random() < 0.5:
+        sharpen(rng, words, thread)
+    return answer(words, ('s', thread))
+
+
+def record_at(words, number):
+    """The first word of the record with this stored number."""
+    return words[5] + (number - 1) * im.record_words(words[0])
+
+
+def sharpen(rng, words, thread):
+    """Put a store before a rare turn of the thread's phase: a claim while others hold retired records, a link behind
+    the last place, or a crossing at a record's end."""
+    B, N, P, M = words[:4]
+    own = im.CONTENTS + im.THREAD_WORDS * thread
+    phase = words[own]
+    if thread and phase in (4, 10):
+        for other in (t for t in range(1, P + 1) if t != thread):
+            start = im.CONTENTS + im.THREAD_WORDS * other
+            words[start : start + im.THREAD_WORDS] = [5, 1, 7, 0, rng.randint(0, N), rng.randint(0, N), 0, 0]
+        for number in range(1, N + 1):
+            words[record_at(words, number) + im.USE] = rng.choice((1, 2, 3, 3, 3))
+    elif thread and phase in (5, 11):
+        words[own + im.HELD], words[own + im.CLAIMED] = rng.randint(1, N), rng.randint(1, N)
+        held = record_at(words, words[own + im.HELD])
+        words[held + im.PLACE], words[held + im.NEXT] = rng.choice((1, im.MAX_PLACE - 1, im.MAX_PLACE)), 0
+    elif not thread and phase in (1, 3, 5):
+        cursor = (own + im.CURSOR, own + im.CURSOR_POSITION)
+        record, position = (im.HEAD_RECORD, im.HEAD_POSITION) if phase == 1 else cursor
+        number, following = rng.sample(range(1, N + 1), 2)
+        words[record], words[position] = number, B
+        words[record_at(words, number) + im.PLACE] = 1
+        words[record_at(words, number) + im.NEXT] = rng.choice((0, following, following, following))
+        words[record_at(words, following) + im.PLACE] = rng.choice((0, 1, 2, M // B + 1, M // B + 2, im.MAX_PLACE))
+
+
+def edges():
+    """Every word of a small store, in every phase of its threads, at the edge of its range and one past it."""
+    B, N, P, M = sizes = (2, 2, 1, 9)
+    store = [0] * im.needed_words(*sizes[:3])
+    im.open_store(store, *sizes)
+    by_thread = im.thread_limits(N, M)
+    tops = [64, 64, 16, 1_000_000, 16, store[5], M, N, N, M, M, 0, 0, 0, 0, 0]
+    tops += [0] * im.THREAD_WORDS * (P + 1) + list(im.record_limits(B, N, M))
+    threads = range(im.CONTENTS, store[5])
+    cases = [case for k, top in enumerate(tops) if k not in threads for case in at_edge(store, k, top, ('d',))]
+    for thread, limits in enumerate(by_thread):
+        first = im.CONTENTS + im.THREAD_WORDS * thread
+        for phase, row in enumerate(limits):
+            words = list(store)
+            words[first : first + im.THREAD_WORDS] = [phase] + [min(top, 1) for top in row[1:]]
+            for k in range(1, im.THREAD_WORDS):
+                cases += at_edge(words, first + k, row[k], ('s', thread))
+        cases += at_edge(store, first, len(limits) - 1, ('s', thread))
+    return list({(tuple(case.words), case.call): case for case in cases}.values())
+
+
+def at_edge(store, k, top, call):
+    """Word k at the top of its range, one past it, and zero."""
+    words = sorted({0, top, min(top + 1, im.U32)})
+    return [answer(store[:k] + [word] + store[k + 1 :], call) for word in words]
+
+
+def of_another_length(rng, store):
+    """A store of the model that is cut short, or lent with more words, sometimes with a size out of its limits."""
+    needed = im.needed_words(*store[:3])
+    length = rng.choice((rng.randint(0, 15), 15, 16, rng.randint(16, needed), needed - 1, needed, needed + 2))
+    words = (list(store) + [7, 8])[:length]
+    if words and rng.random() < 0.3:
+        words[0] = 1
+    return answer(words, likely_call(rng, words) if len(words) >= needed else random_call(rng, store[2]))
+
+
+def of_other_sizes(rng, store):
+    """A store of the model with one of its sizes changed."""
+    words = list(store)
+    k = rng.randrange(4)
+    low, high = im.LIMITS[k]
+    words[k] = rng.choice((0, low - 1, low, words[k] + 1, high, high + 1, rng.choice(BIG)))
+    return answer(words, random_call(rng, store[2]))
+
+
+def random_words(rng):
+    """Random words throughout, behind sizes that are mostly allowed."""
+    sizes = random_sizes(rng) if rng.random() < 0.8 else [rng.randint(0, 6) for _ in range(4)]
+    length = rng.choice((im.needed_words(*sizes[:3]), rng.randint(0, 80)))
+    words = (list(sizes) + [rng.choice((0, 0, 1, 2, rng.randint(0, im.U32))) for _ in range(length)])[:length]
+    return answer(words, random_call(rng, sizes[2]))
+
+
+def opening(rng):
+    """An open, at the limits of the sizes and of the length."""
+    sizes = list(random_sizes(rng))
+    if rng.random() < 0.6:
+        k = rng.randrange(4)
+        low, high = im.LIMITS[k]
+        sizes[k] = rng.choice((0, low - 1, low, high, high + 1, rng.choice(BIG)))
+    needed = im.needed_words(*sizes[:3])
+    length = min(rng.choice((0, 15, needed - 1, needed, needed, needed + 3)), 900)
+    return answer([rng.choice((0, 1, rng.choice(BIG))) for _ in range(length)], ('open', *sizes))
+
+
+def singles(seed, stores, count):
+    """So many single calls; the damaged stores are made from `stores`."""
+    rng = random.Random(seed)
+    phases = [('producer', p) for p in range(1, 12)] + [('consumer', p) for p in range(1, 8)]
+    cases = edges()
+    while len(cases) < count:
+        store = rng.choice(stores)
+        kind = len(cases) % 20
+        if kind < 4:
+            cases.append(damaged(rng, store))
+        elif kind < 14:
+            cases.append(wild(rng, *rng.choice(phases)))
+        elif kind < 16:
+            cases.append(of_another_length(rng, store))
+        elif kind < 17:
+            cases.append(of_other_sizes(rng, store))
+        elif kind < 18:
+            cases.append(random_words(rng))
+        else:
+            cases.append(opening(rng))
+    return cases
+
+
+# Histories.
+
+
+def judged(words, entries):
+    """The case of a history, with the verdict of the model that tries all orders."""
+    return History(list(words), entries, jm.judge(words, entries))
+
+
+def damaged_history(rng, history):
+    """The words of a history with a word changed, a call number given to two calls, an event dropped, repeated or
+    moved, or a few words cut off."""
+    history = [list(event) for event in history]
+    k = rng.randrange(len(history))
+    chance = rng.random()
+    started = [event[2] for event in history if event[0] == jm.ENQUEUE]
+    if chance < 0.2 and len(started) > 1:
+        number, other = rng.sample(started, 2)
+        history = [[*event[:2], other, event[3]] if event[2] == number else event for event in history]
+    elif chance < 0.55:
+        history[k][rng.randrange(4)] = rng.choice((0, 1, 2, 3, 4, 5, 6, 7, 16, 17, im.U32))
+    elif chance < 0.65:
+        del history[k]
+    elif chance < 0.75:
+        history.insert(k, history[k])
+    elif chance < 0.85:
+        history.append(history.pop(k))
+    words = jm.flatten(history)
+    return words if chance < 0.85 else words[: len(words) - rng.randint(1, 3)]
+
+
+def histories(seed, count):
+    """So many word lists for the judge, valid and damaged."""
+    rng = random.Random(seed)
+    most = jm.MAX_EVENTS
+    lengths = ((0, 0), (0, 3), (most + 1, most + 1), (most, most - 1), (most, most))
+    cases = [judged([0] * 4 * events, entries) for events, entries in lengths]
+    while len(cases) < count:
+        if len(cases) % 5 == 0:
+            history = test_judge.with_another_answer(rng, test_judge.engine_history(rng.randrange(10**6))[:10])
+        else:
+            history = test_judge.random_history(rng, size=10)
+        words = jm.flatten(history)
+        if len(cases) % 3 == 0:
+            words = damaged_history(rng, history)
+        events = len(words) // 4
+        cases.append(judged(words, rng.choice((events, events, events, events + 2, max(events - 1, 0)))))
+    return cases
+
+
+# Cases that are wrong in one value.
+
+
+def another(word):
+    return word + 1 if word < im.U32 else 0
+
+
+def changed_at(items, k, change):
+    return [change(item) if j == k else item for j, item in enumerate(items)]
+
+
+def another_reply(reply):
+    """A reply with another number; if it has none, another reply."""
+    if len(reply) > 1:
+        return reply[:-1] + (another(reply[-1]),)
+    return ('end',) if reply == ('going',) else ('going',)
+
+
+def with_one_wrong_value(rng, case):
+    """The case with one expected value changed: a reply, a word, an item left, a verdict or a number of a row."""
+    if isinstance(case, Schedule):
+        replies, words, left = case.expected
+        part = rng.choice(('reply', 'word', 'item') if left else ('reply', 'word'))
+        if part == 'reply':
+            replies = changed_at(replies, rng.randrange(len(replies)), another_reply)
+        elif part == 'word':
+            words = changed_at(words, rng.randrange(len(words)), another)
+        else:
+            left = changed_at(left, rng.randrange(len(left)), lambda item: (item[0], another(item[1])))
+        return case._replace(expected=(replies, words, left))
+    if isinstance(case, Single):
+        reply, words = case.expected
+        if not words or rng.random() < 0.5:
+            return case._replace(expected=(another_reply(reply), words))
+        return case._replace(expected=(reply, changed_at(words, rng.randrange(len(words)), another)))
+    verdict = case.expected
+    if verdict[0] == 'refused':
+        return case._replace(expected=another_reply(verdict))
+    word, rows = verdict
+    if not rows or rng.random() < 0.5:
+        return case._replace(expected=('explained' if word == 'unexplained' else 'unexplained', rows))
+    k = rng.randrange(4)
+    row = rng.randrange(len(rows))
+    return case._replace(expected=(word, changed_at(rows, row, lambda row: tuple(changed_at(row, k, another)))))
+
+
+def twins(seed, cases):
+    """A module for each kind of case. Each case stands there as it is, `right-K`, and with one wrong value,
+    `wrong-K`."""
+    rng = random.Random(seed)
+    modules = {}
+    for kind in (Schedule, Single, History):
+        numbered = [(k, case) for k, case in enumerate(cases) if isinstance(case, kind)]
+        pairs = [(f'right-{k}', case) for k, case in numbered]
+        pairs += [(f'wrong-{k}', with_one_wrong_value(rng, case)) for k, case in numbered]
+        modules[kind.__name__] = module([case for _, case in pairs], [name for name, _ in pairs])
+    return modules
+
+
+# What the cases reach, by the model.
+
+
+def steps_of(case):
+    """(store, call, reply) of every call of a case but open."""
+    if isinstance(case, Single):
+        return [] if case.call[0] == 'open' else [(case.words, case.call, case.expected[0])]
+    return list(zip(snapshots(case), case.calls, case.expected[0][1:]))
+
+
+def reached(cases):
+    """How many calls of the cases were of each kind: ('producer' or 'consumer', phase, 'accepted' or the refusal)
+    for a step that came to its phase, and ('refused', number) for every refusal."""
+    counts = {}
+
+    def count(key):
+        counts[key] = counts.get(key, 0) + 1
+
+    for case in cases:
+        first = case.expected[0] if isinstance(case, Single) else case.expected[0][0]
+        if first[0] == 'refused' and not steps_of(case):
+            count(first)
+        for store, call, reply in steps_of(case):
+            if reply[0] == 'refused':
+                count(reply)
+            if call[0] == 's' and (reply[0] != 'refused' or reply[1] > 7):
+                phase = store[im.CONTENTS + im.THREAD_WORDS * call[1]]
+                outcome = reply[1] if reply[0] == 'refused' else 'accepted'
+                count(('producer' if call[1] else 'consumer', phase, outcome))
+    return counts
+
+
+# Tables in antt.
+
+
+def listed(terms):
+    return ' ∷ '.join([*terms, '[]'])
+
+
+def numbers(words):
+    return listed(map(str, words))
+
+
+def request_term(call):
+    if call[0] == 'd':
+        return 'startDequeue'
+    return f'startEnqueue {call[1]} {call[2]}' if call[0] == 'e' else f'step {call[1]}'
+
+
+def response_term(reply):
+    words = {('ok',): 'ok', ('going',): 'going', ('end',): 'ended', ('empty',): 'empty'}
+    if reply[0] == 'refused':
+        return f'refused {reply[1]}'
+    if reply in words:
+        return f'accepted {words[reply]}'
+    return f'accepted ({"started" if reply[0] == "ok" else "item"} {" ".join(map(str, reply[1:]))})'
+
+
+def sizes_term(sizes):
+    return 'record { B = %d; N = %d; P = %d; M = %d }' % tuple(sizes)
+
+
+def record_term(**fields):
+    return 'record { ' + '; '.join(f'{name} = {term}' for name, term in fields.items()) + ' }'
+
+
+def terms(case):
+    """What is given and what is expected, as terms."""
+    if isinstance(case, Schedule):
+        replies, words, left = case.expected
+        items = [record_term(number=number, value=value) for number, value in left]
+        requests = listed(map(request_term, case.calls))
+        given = record_term(lent=numbers(case.lent), sizes=sizes_term(case.sizes), requests=requests)
+        replies = listed(map(response_term, replies))
+        return given, record_term(replies=replies, words=numbers(words), left=listed(items))
+    if isinstance(case, Single):
+        opens = case.call[0] == 'open'
+        made = f'opening ({sizes_term(case.call[1:])})' if opens else f'request ({request_term(case.call)})'
+        reply, words = case.expected
+        expected = record_term(reply=response_term(reply), words=numbers(words))
+        return record_term(words=numbers(case.words), made=made), expected
+    verdict = case.expected
+    given = record_term(entries=case.entries, words=numbers(case.words))
+    if verdict[0] == 'refused':
+        return given, f'refused {verdict[1]}'
+    rows = [record_term(kind=k, start=s, end=e, answer=a) for k, s, e, a in verdict[1]]
+    return given, f'judged {"true" if verdict[0] == "explained" else "false"} ({listed(rows)})'
+
+
+def statement(name, case):
+    """A case as two definitions and the statement that they agree."""
+    kind = type(case).__name__.lower()
+    given, expected = terms(case)
+    return f"""
+abbrev {name}-given : {TYPES[kind]}
+{name}-given = {given}
+
+abbrev {name}-expected : {ANSWERS[kind]}
+{name}-expected = {expected}
+
+pub {name} : {FUNCTIONS[kind]} {name}-given ≡ {name}-expected
+unfolding {FUNCTIONS[kind]}
+{name} = refl {{a = {name}-expected}}
+"""
+
+
+STORE_HEAD = """-- Generated: calls on a store, and what the model answers.
+use mathlib.Core.Path.{_≡_, refl}
+use mathlib.Core.List.{[], _∷_}
+use Rattle.rules.specs.Rule.{refused, accepted, ok, started, going, ended, empty, item}
+use Rattle.rules.specs.Request.{Result, startEnqueue, startDequeue, step}
+use Rattle.tables.specs.Store.{Schedule, Outcome, follow, Single, opening, request, call}
+"""
+
+HISTORY_HEAD = """-- Generated: words for the judge, and the model's verdict.
+use mathlib.Core.Path.{_≡_, refl}
+use mathlib.Core.Bool.{true, false}
+use mathlib.Core.List.{[], _∷_}
+use Rattle.tables.specs.Judge.{Words, Verdict, refused, judged, judge}
+"""
+
+# The definitions, put together as the tables need them.
+STORE = """-- Calls on a store as the definitions answer them.
+use mathlib.Core.List.{List, [], _∷_, reverse}
+use Prim.Native.Nat.{ℕ}
+use Rattle.history.specs.Linearization.{Queue}
+use Rattle.rules.specs.Sizes.{Sizes}
+use Rattle.rules.specs.Cell.{reader, writes}
+use Rattle.rules.specs.Range.{inRange}
+use Rattle.rules.specs.Free.{free, lowestFree}
+use Rattle.rules.specs.Rule.{Response}
+use Rattle.rules.specs.Producer.{takePosition, loadTail, lookNext, claimRecord, linkClaimed, shiftTail, goBack, writeEntry, setEntry, claimAhead, linkAhead, producerStep}
+use Rattle.rules.specs.Consumer.{front, readTail, scan, readEntry, rescan, readItem, markHandled, consumerStep}
+use Rattle.rules.specs.Request.{Request, Result, applied, opened, open-store, startingEnqueue, startingDequeue, stepping, answer, sizesOf, admitted, result}
+use Rattle.rules.specs.Play.{Played, play, itemsLeft}
+
+-- an open of lent words, and requests after it
+pub record Schedule : Type 0 where
+  pub lent : List ℕ
+  pub sizes : Sizes
+  pub requests : List Request
+
+-- the replies, the words at the end, and the items left in them
+pub record Outcome : Type 0 where
+  pub replies : List Response
+  pub words : List ℕ
+  pub left : Queue
+
+abbrev pub outcome : Played → Outcome
+outcome p =
+    let z = sizesOf (p .words) in
+    record { replies = reverse (p .replies); words = p .words; left = itemsLeft z (reader z (p .words)) }
+
+unfoldable pub follow : Schedule → Outcome
+unfolding UNFOLDED play itemsLeft
+follow s =
+    let o = open-store (s .sizes) (s .lent) in
+    outcome (play (λ k. lowestFree) (s .requests) (record { words = o .words; replies = o .reply ∷ []; history = [] }))
+
+-- one call on any words
+pub data Made : Type 0 where
+  opening : Sizes → Made
+  request : Request → Made
+
+pub record Single : Type 0 where
+  pub words : List ℕ
+  pub made : Made
+
+abbrev pub made-on : List ℕ → Made → Result
+made-on m (opening z) = open-store z m
+made-on m (request q) = result lowestFree q m
+
+unfoldable pub call : Single → Result
+unfolding UNFOLDED
+call s = made-on (s .words) (s .made)
+"""
+STORE = STORE.replace(
+    'UNFOLDED',
+    'result admitted applied answer startingEnqueue startingDequeue stepping open-store opened reader writes inRange '
+    'free lowestFree takePosition loadTail lookNext claimRecord linkClaimed shiftTail goBack writeEntry setEntry '
+    'claimAhead linkAhead producerStep front readTail scan readEntry rescan readItem markHandled consumerStep',
+)
+
+JUDGE = """-- Words as the definitions judge them.
+use mathlib.Core.Bool.{Bool}
+use mathlib.Core.List.{List}
+use Prim.Native.Nat.{ℕ}
+use Rattle.history.specs.Event.{decode}
+use Rattle.history.specs.Calls.{Row, rows}
+use Rattle.history.specs.Form.{Reading, read}
+use Rattle.criterion.specs.Pass.{explains}
+
+pub record Words : Type 0 where
+  pub entries : ℕ
+  pub words : List ℕ
+
+pub data Verdict : Type 0 where
+  refused : ℕ → Verdict
+  judged : Bool → List Row → Verdict
+
+abbrev pub verdict : Reading → Verdict
+verdict (Reading.refused n) = refused n
+verdict (Reading.history h) = judged (explains h) (rows h)
+
+unfoldable pub judge : Words → Verdict
+unfolding read decode explains
+judge w = verdict (read (w .entries) (w .words))
+"""
+
+
+def module(cases, names):
+    """A module of cases of one kind."""
+    head = HISTORY_HEAD if isinstance(cases[0], History) else STORE_HEAD
+    return head + ''.join(statement(name, case) for name, case in zip(names, cases))
+
+
+def split(kind, cases, size):
+    """Modules of so many cases each, with their names: kind and number."""
+    modules = {}
+    for first in range(0, len(cases), size):
+        part = cases[first : first + size]
+        names = [f'{kind}-{first + k}' for k in range(len(part))]
+        modules[f'{kind.capitalize()}{first // size}'] = module(part, names)
+    return modules
+
+
+def write_crate(folder, name, modules):
+    specs = folder / 'crates' / name / 'specs'
+    specs.mkdir(parents=True)
+    (specs.parent / 'src').mkdir()
+    (specs.parent / 'src' / 'lib.rt').write_text('// Tables. All of it stands in specs/.\n')
+    (specs / 'Lib.antt').write_text(''.join(f'pub mod {module}\n' for module in modules))
+    for module, text in modules.items():
+        (specs / f'{module}.antt').write_text(text)
+
+
+def write_repository(folder, crates):
+    """The three crates of definitions, the crate `tables` that puts them together, and these crates of tables."""
+    folder = Path(folder)
+    lines = ['history:', 'criterion: history', 'rules: history', 'tables: history criterion rules']
+    for name in ('history', 'criterion', 'rules'):
+        shutil.copytree(CRATES / name, folder / 'crates' / name, ignore=shutil.ignore_patterns('must-fail'))
+    write_crate(folder, 'tables', {'Store': STORE, 'Judge': JUDGE})
+    for name, modules in crates.items():
+        write_crate(folder, name, modules)
+        lines.append(f'{name}: history criterion rules tables')
+    (folder / 'crates.txt').write_text('\n'.join(lines) + '\n')

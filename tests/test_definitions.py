@@ -1,0 +1,145 @@
+"""The definitions in antt against the model: the checker computes them over generated tables.
+
+What a table expects comes from `intake_model` and `judge_model` alone. A statement that does not hold is named by the
+checker, with the number of its case."""
+
+import re
+import subprocess
+import tempfile
+import unittest
+from pathlib import Path
+
+import definition_cases as dc
+import intake_model as im
+
+
+def setUpModule():
+    global SCHEDULES, SINGLES, HISTORIES
+    SCHEDULES = dc.schedules(1, 3_200)
+    SINGLES = dc.singles(2, [store for case in SCHEDULES for store in dc.snapshots(case)], 1_700)
+    HISTORIES = dc.histories(3, 1_600)
+
+
+def errors(output):
+    """The names of the statements that the checker refused."""
+    return set(re.findall(r'^\S+\.antt:\d+:\d+: error: `([\w-]+)`', output, re.MULTILINE))
+
+
+class Tables(unittest.TestCase):
+    """Every case of the tables, computed by the checker."""
+
+    @classmethod
+    def setUpClass(cls):
+        cls.folder = tempfile.TemporaryDirectory()
+        cls.addClassCleanup(cls.folder.cleanup)
+        short = [dc.play(case.lent, case.sizes, case.calls[:9]) for case in SCHEDULES[:8]]
+        cls.sample = short + SINGLES[::85] + HISTORIES[10::53]
+        crates = {
+            'schedules': dc.split('schedule', SCHEDULES, 10),
+            'singles': dc.split('single', SINGLES, 100),
+            'histories': dc.split('history', HISTORIES, 200),
+            'twins': dc.twins(4, cls.sample),
+        }
+        dc.write_repository(cls.folder.name, crates)
+        cls.ended, cls.output = cls.check('schedules', 'singles', 'histories')
+
+    @classmethod
+    def check(cls, *names):
+        """The exit status and the words of `rt check`."""
+        run = subprocess.run(['rt', 'check', *names], cwd=cls.folder.name, capture_output=True, text=True)
+        return run.returncode, run.stdout + run.stderr
+
+    def assert_proved(self, name):
+        self.assertRegex(self.output, rf'(?m)^rt: {name} proved', self.output[-4000:])
+
+    def test_schedules(self):
+        """A rule, a range, a check or its number, a write or the items left, wrong somewhere in a list of calls."""
+        self.assert_proved('schedules')
+
+    def test_single_calls(self):
+        """A damaged store admitted or turned down wrongly, a link or an index not looked at, a write by a refusal."""
+        self.assert_proved('singles')
+
+    def test_histories(self):
+        """A form, an order of refusals, a row or a verdict, wrong on words that are a history or nearly one."""
+        self.assert_proved('histories')
+
+    def test_all_is_proved(self):
+        """A crate of definitions that is not proved by itself."""
+        self.assertEqual(self.ended, 0, self.output[-4000:])
+
+    def test_one_wrong_value_is_refused(self):
+        """A table that the checker does not compute, or of which it leaves a value out: the right one of two twins
+        is to pass and the other not."""
+        ended, output = self.check('twins')
+        self.assertEqual(ended, 1, output[-4000:])
+        self.assertEqual(errors(output), {f'wrong-{k}' for k in range(len(self.sample))})
+
+
+class Reach(unittest.TestCase):
+    """What the cases reach, counted by the model."""
+
+    PRODUCER = [('producer', phase) for phase in range(1, 12)]
+    CONSUMER = [('consumer', phase) for phase in range(1, 8)]
+
+    def test_number_of_cases(self):
+        """A generator that makes fewer cases than meant, or the same ones again."""
+        self.assertGreaterEqual(sum(len(case.calls) for case in SCHEDULES), 3_200)
+        self.assertEqual((len(SINGLES), len(HISTORIES)), (1_700, 1_600))
+        self.assertGreater(len({(tuple(case.words), case.call) for case in SINGLES}), 1_550)
+        self.assertGreater(len({(tuple(case.words), case.entries) for case in HISTORIES}), 1_300)
+
+    def test_phases(self):
+        """A phase that no accepted step of the schedules or of the single calls takes."""
+        for cases, least in ((SCHEDULES, 10), (SINGLES, 5)):
+            counts = dc.reached(cases)
+            for phase in self.PRODUCER + self.CONSUMER:
+                self.assertGreaterEqual(counts.get(phase + ('accepted',), 0), least, phase)
+
+    def test_refusals(self):
+        """A refusal that no call meets; 9 in a phase that can meet it, or in one that cannot."""
+        counts = dc.reached(SCHEDULES + SINGLES)
+        for number in range(1, 10):
+            self.assertGreaterEqual(counts.get(('refused', number), 0), 20, number)
+        singles = dc.reached(SINGLES)
+        for phase in self.PRODUCER + self.CONSUMER:
+            cannot = phase in (('producer', 2), ('producer', 4), ('producer', 10))
+            self.assertEqual(phase + (9,) in singles, not cannot, phase)
+        self.assertIn(('producer', 4, 8), singles)
+
+    def test_stores(self):
+        """No case of a short store, of sizes out of limits, of a place 0, or of words past the store."""
+        lengths = [len(case.words) for case in SINGLES if case.call[0] != 'open']
+        self.assertGreater(sum(length < 16 for length in lengths), 30)
+        admitted = [case for case in SINGLES if case.call[0] != 'open' and im.admission(case.words) == 0]
+        self.assertGreater(len(admitted), 600)
+        self.assertGreater(sum(len(case.words) > im.needed_words(*case.words[:3]) for case in admitted), 20)
+        self.assertGreater(sum(0 in places(case.words) for case in admitted), 40)
+        long = [case for case in SINGLES if len(case.words) >= 16]
+        self.assertGreater(sum(not im.sizes_allowed(case.words[:4]) for case in long), 50)
+        past = [case for case in SCHEDULES if len(case.lent) > im.needed_words(*case.sizes[:3])]
+        self.assertGreater(sum(any(case.expected[1][-1:]) for case in past), 10)
+
+    def test_items_left(self):
+        """Final stores that hold too few items to show their order."""
+        self.assertGreater(sum(len(case.expected[2]) > 1 for case in SCHEDULES), 20)
+        self.assertGreater(sum(map(dc.leaves_in_another_order, SCHEDULES)), 5)
+
+    def test_verdicts(self):
+        """A verdict or a refusal of the judge that too few word lists get."""
+        verdicts = [case.expected[:1] if case.expected[0] != 'refused' else case.expected for case in HISTORIES]
+        for verdict in [('explained',), ('unexplained',)] + [('refused', number) for number in range(10, 14)]:
+            self.assertGreater(verdicts.count(verdict), 60, verdict)
+
+
+def places(words):
+    """The places of the linked records of a store."""
+    B, N, P, _ = words[:4]
+    size = im.record_words(B)
+    first = im.CONTENTS + im.THREAD_WORDS * (P + 1)
+    records = [words[first + r * size :][: im.RECORD_HEAD] for r in range(N)]
+    return [record[im.PLACE] for record in records if record[im.USE] == im.USE_LINKED]
+
+
+if __name__ == '__main__':
+    unittest.main()
