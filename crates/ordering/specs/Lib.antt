@@ -25,3 +25,5 @@ pub mod Left
 pub mod Demand
 pub mod Admission
 pub mod Theorem
+pub mod Renaming
+pub mod Alike
