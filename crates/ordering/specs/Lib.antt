@@ -27,3 +27,5 @@ pub mod Admission
 pub mod Theorem
 pub mod Renaming
 pub mod Alike
+pub mod AlikeAnswers
+pub mod AlikeRecords
