@@ -16,7 +16,7 @@ use Rattle.memory.specs.Memory.{Shape, Holdable, Blank, Memory, held-is, claime
 use Rattle.ordering.specs.View.{Ghost, placesOf, placeOf, view}
 use Rattle.ordering.specs.Good.{Good}
 use Rattle.ordering.specs.Steps.{seen-at}
-use Rattle.ordering.specs.Renaming.{Renaming, renamed, eqb-alike}
+use Rattle.ordering.specs.Renaming.{Renaming, renamed, eqb-alike, eqb-renamed}
 use Rattle.ordering.specs.Alike.{kind, Same, Body, Alike}
 
 pub kind-two : (x : ℕ) → kind x ≡ 2 → x ≡ 2
@@ -97,6 +97,10 @@ module _ (z : Sizes) (σ τ : Reader) (γ δ : Ghost) (good : Good z σ γ) (goo
 
   pub linked-too : (r : ℕ) → σ (used r) ≡ 2 → τ (used (f r)) ≡ 2
   linked-too r u = kind-two (τ (used (f r))) (a .kinds r ∙ ap kind u)
+
+  -- The tail record is another record in both stores or in neither.
+  pub tail-test : (r : ℕ) → eqb (τ tailRecord) (suc (f r)) ≡ eqb (σ tailRecord) (suc r)
+  tail-test r = ap (λ (x : ℕ). eqb x (suc (f r))) (a .words tailRecord tt) ∙ eqb-renamed ρ (σ tailRecord) r
 
   -- A held record has a next in both stores or in neither.
   pub held-next : (t h : ℕ) → σ (held t) ≡ suc h → eqb (τ (next (f h))) 0 ≡ eqb (σ (next h)) 0

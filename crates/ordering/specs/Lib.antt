@@ -29,3 +29,5 @@ pub mod Renaming
 pub mod Alike
 pub mod AlikeAnswers
 pub mod AlikeRecords
+pub mod AlikeProducer
+pub mod AlikeConsumer
