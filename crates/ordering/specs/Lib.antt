@@ -31,3 +31,4 @@ pub mod AlikeAnswers
 pub mod AlikeRecords
 pub mod AlikeProducer
 pub mod AlikeConsumer
+pub mod AlikeClaims
