@@ -32,3 +32,4 @@ pub mod AlikeRecords
 pub mod AlikeProducer
 pub mod AlikeConsumer
 pub mod AlikeClaims
+pub mod AlikeEvery
