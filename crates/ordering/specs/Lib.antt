@@ -33,3 +33,5 @@ pub mod AlikeProducer
 pub mod AlikeConsumer
 pub mod AlikeClaims
 pub mod AlikeEvery
+pub mod Choice
+pub mod Choosing
