@@ -1,11 +1,10 @@
 -- Two stores that differ only in which records are used: what is the same in both under a renaming of the records. Renamed
 -- writes keep it, where they link or hold only what is the same.
-use mathlib.Core.Path.{_≡_, refl, ap, sym, _∙_, subst}
-use mathlib.Core.Logic.{_⊎_, inl, inr, ⊎-elim}
-use mathlib.Core.Bool.{Bool, true, false, _&&_, _||_, cond}
+use mathlib.Core.Path.{_≡_, refl, ap, sym, _∙_}
+use mathlib.Core.Logic.{_⊎_, ⊎-elim}
+use mathlib.Core.Bool.{Bool, true, false, cond}
 use mathlib.Core.List.{List, [], _∷_}
 use Prim.Native.Nat.{ℕ, zero, suc}
-use lib.Dec.{eqb}
 use Rattle.rules.specs.Cell.{Cell, content, consumer, producer, part, entry, Reader, Write, _:=_, clearConsumer, clearProducer, wipe, same, ofConsumer, ofProducer, ofRecord, update, after, place, next, used, held}
 use Rattle.rules.specs.Readback.{same-eq}
 use Rattle.ordering.specs.Renaming.{Renaming, eqb-to, renamed, isLink, seen, cellTo, writeTo, writesTo}
@@ -40,6 +39,13 @@ pub record Alike (f : ℕ → ℕ) (σ τ : Reader) : Type 0 where
   pub kinds : (r : ℕ) → kind (τ (used (f r))) ≡ kind (σ (used r))
   pub linked : (r : ℕ) → σ (used r) ≡ 2 → Body f σ τ r
   pub holding : (t r : ℕ) → σ (held t) ≡ suc r → Same f σ τ (place r)
+
+-- What is linked, or held, after some writes was so before, or is the same.
+abbrev pub LinksSame : (ℕ → ℕ) → Reader → Reader → List Write → Type 0
+LinksSame f σ τ ws = (r : ℕ) → after σ ws (used r) ≡ 2 → (σ (used r) ≡ 2) ⊎ Body f σ τ r
+
+abbrev pub HoldsSame : (ℕ → ℕ) → Reader → Reader → List Write → Type 0
+HoldsSame f σ τ ws = (t r : ℕ) → after σ ws (held t) ≡ suc r → (σ (held t) ≡ suc r) ⊎ Same f σ τ (place r)
 
 -- A store is like itself.
 pub alike-itself : (σ : Reader) → Alike (λ r. r) σ σ
@@ -171,9 +177,7 @@ module _ {N : ℕ} (ρ : Renaming N) where
       go false l q = ap kind q ∙ e ∙ ap kind (sym l)
 
   -- Renamed writes, where what is linked or held afterwards was so before or is the same.
-  pub alike-after : (σ τ : Reader) → Alike f σ τ → (ws : List Write)
-      → ((r : ℕ) → after σ ws (used r) ≡ 2 → (σ (used r) ≡ 2) ⊎ Body f σ τ r)
-      → ((t r : ℕ) → after σ ws (held t) ≡ suc r → (σ (held t) ≡ suc r) ⊎ Same f σ τ (place r))
+  pub alike-after : (σ τ : Reader) → Alike f σ τ → (ws : List Write) → LinksSame f σ τ ws → HoldsSame f σ τ ws
       → Alike f (after σ ws) (after τ (writesTo f ws))
   alike-after σ τ a ws links holds =
       record {

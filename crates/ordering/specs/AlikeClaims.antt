@@ -2,16 +2,16 @@
 -- is claimed in each the renaming is changed to take the one to the other.
 use mathlib.Core.Path.{_≡_, refl, ap, sym, _∙_, subst}
 use mathlib.Core.Logic.{_⊎_, inl, inr, ⊎-elim, _≢_}
-use mathlib.Core.Bool.{Bool, true, false, _&&_, _||_, not, cond, or-true, and-false}
-use mathlib.Core.List.{List, [], _∷_}
+use mathlib.Core.Bool.{Bool, true, false, _||_, not, cond, or-true}
+use mathlib.Core.List.{[], _∷_}
 use Prim.Native.Nat.{ℕ, zero, suc, _≤_, _<_}
-use native.Mathlib.Decide.{decLe, ℕ-discrete}
+use native.Mathlib.Decide.{decLe}
 use native.Mathlib.Omega.{arith}
 use lib.Dec.{eqb}
 use borrow.Author.Tests.{eq-eqb, ne-eqb, eqb-true}
 use Rattle.rules.specs.Sizes.{Sizes}
-use Rattle.rules.specs.Cell.{Cell, content, consumer, producer, part, entry, Reader, Write, _:=_, clearProducer, wipe, after, place, next, used, held, claimed, phase, tailRecord, headRecord, cursorRecord, foundRecord}
-use Rattle.rules.specs.Range.{most, every}
+use Rattle.rules.specs.Cell.{Cell, content, consumer, producer, part, entry, Reader, clearProducer, place, next, used, held, claimed}
+use Rattle.rules.specs.Range.{most}
 use Rattle.rules.specs.Free.{free, holds, Choice}
 use Rattle.rules.specs.Rule.{going, ended}
 use Rattle.rules.specs.Producer.{claim, claimRecord, claimAhead}
@@ -19,14 +19,11 @@ use Rattle.rules.specs.Readback.{true-false}
 use Rattle.rules.specs.InRange.{every-of}
 use Rattle.memory.specs.Memory.{Shape, Memory, held-is, claimed-is}
 use Rattle.memory.specs.Claiming.{claimWrites, free-has}
-use Rattle.ordering.specs.View.{Ghost}
-use Rattle.ordering.specs.Good.{Good}
 use Rattle.ordering.specs.Rows.{has-sort}
 use Rattle.ordering.specs.Renaming.{Renaming, to-apart, renamed, renamed-is, isLink, seen, exchanged, by-exchanged}
 use Rattle.ordering.specs.Alike.{NoRecord, kind, Same, Body, Alike}
-use Rattle.ordering.specs.AlikeAnswers.{Like, by-refusal, by-reply}
-use Rattle.ordering.specs.AlikeRecords.{tail-linked, head-linked, cursor-linked, found-linked, next-linked}
-use Rattle.ordering.specs.AlikeProducer.{not-cleared, not-relinked}
+use Rattle.ordering.specs.AlikeAnswers.{Like, not-cleared, not-relinked, by-refusal, by-plain}
+use Rattle.ordering.specs.AlikeRecords.{Twins, tail-linked, head-linked, cursor-linked, found-linked, next-linked}
 
 -- a use of the kind of 0 is 0 or 3
 loose : (x : ℕ) → x ≤ 3 → kind x ≡ 0 → (x ≡ 0) ⊎ (x ≡ 3)
@@ -57,7 +54,7 @@ free-of z σ r (inr e) =
 pub free-kind : (z : Sizes) (σ : Reader) (r : ℕ) → free z σ r ≡ true → kind (σ (used r)) ≡ 0
 free-kind z σ r e = ⊎-elim (λ u. ap kind u) (λ u. ap kind (u .0)) (free-has z σ r e)
 
-module _ (z : Sizes) (σ : Reader) (g : Shape) (m : Memory z σ g) where
+module _ {z : Sizes} {σ : Reader} {g : Shape} (m : Memory z σ g) where
   -- A free record is held and claimed by nobody.
   free-held : (r : ℕ) → free z σ r ≡ true → (t : ℕ) → (σ (held t) ≡ suc r → ⊥) × (σ (claimed t) ≡ suc r → ⊥)
   free-held r e t = go (free-has z σ r e) (decLe 1 t) (decLe t (z .P))
@@ -78,13 +75,13 @@ module _ (z : Sizes) (σ : Reader) (g : Shape) (m : Memory z σ g) where
   link-words : (c : Cell) → NoRecord c → isLink c ≡ true → (r : ℕ) → σ c ≡ suc r → free z σ r ≡ true → ⊥
   link-words (content k) n l r e is-free =
       ⊎-elim
-      (λ q. free-linked r is-free (tail-linked z σ g m r (ap (λ (x : ℕ). σ (content x)) (sym q) ∙ e)))
-      (λ q. free-linked r is-free (head-linked z σ g m r (ap (λ (x : ℕ). σ (content x)) (sym q) ∙ e)))
+      (λ q. free-linked r is-free (tail-linked m r (ap (λ (x : ℕ). σ (content x)) (sym q) ∙ e)))
+      (λ q. free-linked r is-free (head-linked m r (ap (λ (x : ℕ). σ (content x)) (sym q) ∙ e)))
       (either k 7 8 l)
   link-words (consumer k) n l r e is-free =
       ⊎-elim
-      (λ q. free-linked r is-free (cursor-linked z σ g m r (ap (λ (x : ℕ). σ (consumer x)) (sym q) ∙ e)))
-      (λ q. free-linked r is-free (found-linked z σ g m r (ap (λ (x : ℕ). σ (consumer x)) (sym q) ∙ e)))
+      (λ q. free-linked r is-free (cursor-linked m r (ap (λ (x : ℕ). σ (consumer x)) (sym q) ∙ e)))
+      (λ q. free-linked r is-free (found-linked m r (ap (λ (x : ℕ). σ (consumer x)) (sym q) ∙ e)))
       (either k 1 3 l)
   link-words (producer t k) n l r e is-free =
       ⊎-elim
@@ -95,23 +92,32 @@ module _ (z : Sizes) (σ : Reader) (g : Shape) (m : Memory z σ g) where
   link-words (entry s i k) n l r e is-free = absurd n
 
 -- A record of the same kind, which the same producers hold and have claimed, is free too.
-free-passes : (z : Sizes) (σ τ : Reader) (g : Shape) → Memory z σ g → (r s : ℕ) → kind (τ (used s)) ≡ kind (σ (used r)) → τ (used s) ≤ 3
+free-passes : {z : Sizes} {σ : Reader} {g : Shape} (m : Memory z σ g) (τ : Reader) (r s : ℕ) → kind (τ (used s)) ≡ kind (σ (used r)) → τ (used s) ≤ 3
     → ((t : ℕ) → (τ (held t) ≡ suc s → σ (held t) ≡ suc r) × (τ (claimed t) ≡ suc s → σ (claimed t) ≡ suc r))
     → free z σ r ≡ true → free z τ s ≡ true
-free-passes z σ τ g m r s k l back e = free-of z τ s (⊎-elim inl (λ u. inr (u, unheld)) (loose (τ (used s)) l (k ∙ free-kind z σ r e)))
+free-passes {z} {σ} m τ r s k l back e = free-of z τ s (⊎-elim inl (λ u. inr (u, unheld)) (loose (τ (used s)) l (k ∙ free-kind z σ r e)))
   where
     unheld : (t : ℕ) → (τ (held t) ≡ suc s → ⊥) × (τ (claimed t) ≡ suc s → ⊥)
-    unheld t = let n = free-held z σ g m r e t in ((λ q. n .0 (back t .0 q)), (λ q. n .1 (back t .1 q)))
+    unheld t = let n = free-held m r e t in ((λ q. n .0 (back t .0 q)), (λ q. n .1 (back t .1 q)))
 
-module _ (z : Sizes) (σ τ : Reader) (γ δ : Ghost) (good : Good z σ γ) (good′ : Good z τ δ) (ρ : Renaming (z .N)) (a : Alike (ρ .to) σ τ) where
+module _ {z : Sizes} {σ τ : Reader} (pair : Twins z σ τ) where
+  abbrev ρ : Renaming (z .N)
+  ρ = pair .stores .renaming
+
   abbrev f : ℕ → ℕ
   f = ρ .to
+
+  abbrev a : Alike f σ τ
+  a = pair .stores .alike
+
+  m : Memory z σ (pair .γ .shape)
+  m = pair .good .memory
 
   -- A record is free in one store exactly when its renamed one is free in the other.
   free-on : (r : ℕ) → r < z .N → free z σ r ≡ true → free z τ (f r) ≡ true
   free-on r l =
-      free-passes z σ τ (γ .shape) (good .memory) r (f r) (a .kinds r)
-      (has-sort z (most 3) (τ (used (f r))) (good′ .range .words (used (f r)) (ρ .to-below r l, omega arith)))
+      free-passes m τ r (f r) (a .kinds r)
+      (has-sort z (most 3) (τ (used (f r))) (pair .good′ .range .words (used (f r)) (ρ .to-below r l, omega arith)))
       (λ t. (
         (λ q. renamed-is ρ (σ (held t)) r (sym (a .words (held t) tt) ∙ q)),
         (λ q. renamed-is ρ (σ (claimed t)) r (sym (a .words (claimed t) tt) ∙ q)),
@@ -119,8 +125,8 @@ module _ (z : Sizes) (σ τ : Reader) (γ δ : Ghost) (good : Good z σ γ) (goo
 
   free-back : (r : ℕ) → r < z .N → free z τ (f r) ≡ true → free z σ r ≡ true
   free-back r l =
-      free-passes z τ σ (δ .shape) (good′ .memory) (f r) r (sym (a .kinds r))
-      (has-sort z (most 3) (σ (used r)) (good .range .words (used r) (l, omega arith)))
+      free-passes (pair .good′ .memory) σ (f r) r (sym (a .kinds r))
+      (has-sort z (most 3) (σ (used r)) (pair .good .range .words (used r) (l, omega arith)))
       (λ t. ((λ q. a .words (held t) tt ∙ ap (renamed f) q), (λ q. a .words (claimed t) tt ∙ ap (renamed f) q)))
 
   -- Of two free records, one in each store, a renaming takes the one to the other, and every record that is not free to the same
@@ -165,7 +171,7 @@ module _ (z : Sizes) (σ τ : Reader) (γ δ : Ghost) (good : Good z σ γ) (goo
     seen-kept c n = go (isLink c) refl
       where
         go : (b : Bool) → isLink c ≡ b → cond b (renamed f (σ c)) (σ c) ≡ cond b (renamed f′ (σ c)) (σ c)
-        go true e = renamed-kept (σ c) (link-words z σ (γ .shape) (good .memory) c n e)
+        go true e = renamed-kept (σ c) (link-words m c n e)
         go false e = refl
 
     words-kept : (c : Cell) → NoRecord c → Same f′ σ τ c
@@ -177,14 +183,14 @@ module _ (z : Sizes) (σ τ : Reader) (γ δ : Ghost) (good : Good z σ γ) (goo
 
     body-kept : (x : ℕ) → σ (used x) ≡ 2 → Body f′ σ τ x
     body-kept x u =
-        let is : f′ x ≡ f x = keeps x (λ e. free-linked z σ (γ .shape) (good .memory) x e u) in
+        let is : f′ x ≡ f x = keeps x (λ e. free-linked m x e u) in
         let b : Body f σ τ x = a .linked x u in
         record {
           placed = ap (λ (y : ℕ). τ (place y)) is ∙ b .placed;
           onward =
               ap (λ (y : ℕ). τ (next y)) is
               ∙ b .onward
-              ∙ renamed-kept (σ (next x)) (λ y e w. free-linked z σ (γ .shape) (good .memory) y w (next-linked z σ (γ .shape) (good .memory) x u y e .0));
+              ∙ renamed-kept (σ (next x)) (λ y e w. free-linked m y w (next-linked m x u y e .0));
           entries = λ i k. ap (λ (y : ℕ). τ (entry y i k)) is ∙ b .entries i k;
         }
 
@@ -196,17 +202,16 @@ module _ (z : Sizes) (σ τ : Reader) (γ δ : Ghost) (good : Good z σ γ) (goo
           linked = body-kept;
           holding =
               λ t x e.
-              ap (λ (y : ℕ). τ (place y)) (keeps x (λ w. free-held z σ (γ .shape) (good .memory) x w t .0 e)) ∙ a .holding t x e;
+              ap (λ (y : ℕ). τ (place y)) (keeps x (λ w. free-held m x w t .0 e)) ∙ a .holding t x e;
         }
 
     claim-alike : (t p : ℕ) → Like z σ τ (claim z σ t r p) (claim z τ t s p)
     claim-alike t p =
-        by-reply z σ τ ρ′ alike-kept going (claimWrites t r p) (claimWrites t s p) (rw takes refl)
+        by-plain (record { renaming = ρ′; alike = alike-kept }) going (claimWrites t r p) (claimWrites t s p) (rw takes refl)
         (λ x u.
-        inl
-        (not-relinked (eqb r x) 0 (σ (used x)) (λ e. omega arith)
-        (not-relinked (eqb r x) 1 (cond (eqb r x) 0 (σ (used x))) (λ e. omega arith) u)))
-        (λ v x e. inl e)
+        not-relinked (eqb r x) 0 (σ (used x)) (λ e. omega arith)
+        (not-relinked (eqb r x) 1 (cond (eqb r x) 0 (σ (used x))) (λ e. omega arith) u))
+        (λ v x e. e)
 
   -- One store has no free record, and the other has one.
   none-in-first : (s : ℕ) → Choice z σ zero → Choice z τ (suc s) → ⊥
@@ -220,7 +225,7 @@ module _ (z : Sizes) (σ τ : Reader) (γ δ : Ghost) (good : Good z σ γ) (goo
   -- 4. Claim a record.
   pub claim-record-alike : (t c d : ℕ) → Choice z σ c → Choice z τ d → Like z σ τ (claimRecord z σ t c) (claimRecord z τ t d)
   unfolding claimRecord
-  claim-record-alike t zero zero p q = by-refusal z σ τ 8
+  claim-record-alike t zero zero p q = by-refusal 8
   claim-record-alike t zero (suc s) p q = absurd (none-in-first s p q)
   claim-record-alike t (suc r) zero p q = absurd (none-in-second r p q)
   claim-record-alike t (suc r) (suc s) p q = claim-alike r s (p .0) (q .0) (p .1) (q .1) t 5
@@ -229,7 +234,7 @@ module _ (z : Sizes) (σ τ : Reader) (γ δ : Ghost) (good : Good z σ γ) (goo
   pub claim-ahead-alike : (t c d : ℕ) → Choice z σ c → Choice z τ d → Like z σ τ (claimAhead z σ t c) (claimAhead z τ t d)
   unfolding claimAhead
   claim-ahead-alike t zero zero p q =
-      by-reply z σ τ ρ a ended (clearProducer t ∷ []) _ refl (λ s u. inl u) (λ v s e. inl (not-cleared (eqb t v) (σ (held v)) s e))
+      by-plain (pair .stores) ended (clearProducer t ∷ []) _ refl (λ s u. u) (λ v s e. not-cleared (eqb t v) (σ (held v)) s e)
   claim-ahead-alike t zero (suc s) p q = absurd (none-in-first s p q)
   claim-ahead-alike t (suc r) zero p q = absurd (none-in-second r p q)
   claim-ahead-alike t (suc r) (suc s) p q = claim-alike r s (p .0) (q .0) (p .1) (q .1) t 11

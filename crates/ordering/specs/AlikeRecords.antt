@@ -1,8 +1,7 @@
 -- What two stores alike share of the records that a rule comes to: which are linked, which are last, what stands before and behind
 -- them. From the chains of both.
-use mathlib.Core.Path.{_≡_, refl, ap, sym, _∙_, subst}
-use mathlib.Core.Logic.{_⊎_, inl, inr, _≢_}
-use mathlib.Core.Bool.{true}
+use mathlib.Core.Path.{_≡_, refl, ap, sym, _∙_}
+use mathlib.Core.Logic.{inl, inr}
 use Prim.Native.Nat.{ℕ, zero, suc, _≤_, _<_}
 use native.Mathlib.Decide.{ℕ-discrete}
 use native.Mathlib.Omega.{arith}
@@ -16,8 +15,9 @@ use Rattle.memory.specs.Memory.{Shape, Holdable, Blank, Memory, held-is, claime
 use Rattle.ordering.specs.View.{Ghost, placesOf, placeOf, view}
 use Rattle.ordering.specs.Good.{Good}
 use Rattle.ordering.specs.Steps.{seen-at}
-use Rattle.ordering.specs.Renaming.{Renaming, renamed, eqb-alike, eqb-renamed}
-use Rattle.ordering.specs.Alike.{kind, Same, Body, Alike}
+use Rattle.ordering.specs.Renaming.{renamed, eqb-alike, eqb-renamed}
+use Rattle.ordering.specs.Alike.{kind, Body, Alike}
+use Rattle.ordering.specs.AlikeAnswers.{Stores}
 
 pub kind-two : (x : ℕ) → kind x ≡ 2 → x ≡ 2
 kind-two zero e = absurd (omega arith)
@@ -30,7 +30,7 @@ pub eqb-none : (f : ℕ → ℕ) (x : ℕ) → eqb (renamed f x) 0 ≡ eqb x 0
 eqb-none f zero = refl
 eqb-none f (suc r) = eqb-alike (suc (f r)) 0 (suc r) 0 (λ e. absurd (omega arith)) (λ e. absurd (omega arith))
 
-module _ (z : Sizes) (σ : Reader) (g : Shape) (m : Memory z σ g) where
+module _ {z : Sizes} {σ : Reader} {g : Shape} (m : Memory z σ g) where
   pub tail-linked : (r : ℕ) → σ tailRecord ≡ suc r → σ (used r) ≡ 2
   tail-linked r e =
       let is : r ≡ g .at (g .tp) = omega (arith, m .tail-is) in
@@ -65,9 +65,9 @@ module _ (z : Sizes) (σ : Reader) (g : Shape) (m : Memory z σ g) where
           )
 
 -- The record held in phase 7 is the next of a linked one.
-pub held-behind : (z : Sizes) (σ : Reader) (γ : Ghost) (good : Good z σ γ) (t : ℕ) → (1 ≤ t) × (t ≤ z .P) → σ (phase t) ≡ 7
+pub held-behind : {z : Sizes} {σ : Reader} {γ : Ghost} (good : Good z σ γ) (t : ℕ) → (1 ≤ t) × (t ≤ z .P) → σ (phase t) ≡ 7
     → (h : ℕ) → σ (held t) ≡ suc h → (p : ℕ) × (σ (used p) ≡ 2) × (σ (next p) ≡ suc h)
-held-behind z σ γ good t a e h q = from (σ (place h)) refl
+held-behind {z} {σ} {γ} good t a e h q = from (σ (place h)) refl
   where
     m : Memory z σ (γ .shape)
     m = good .memory
@@ -91,22 +91,33 @@ held-behind z σ γ good t a e h q = from (σ (place h)) refl
         let is : γ .shape .at (suc j) ≡ h = ap (γ .shape .at) (sym w) ∙ o .2 in
         (γ .shape .at j, m .chain .linked j (omega arith) (omega arith), m .chain .nexts j (omega arith) top ∙ ap suc is)
 
-module _ (z : Sizes) (σ τ : Reader) (γ δ : Ghost) (good : Good z σ γ) (good′ : Good z τ δ) (ρ : Renaming (z .N)) (a : Alike (ρ .to) σ τ) where
+-- Two stores alike that only the engine has written.
+pub record Twins (z : Sizes) (σ τ : Reader) : Type 0 where
+  pub γ : Ghost
+  pub δ : Ghost
+  pub good : Good z σ γ
+  pub good′ : Good z τ δ
+  pub stores : Stores z σ τ
+
+module _ {z : Sizes} {σ τ : Reader} (pair : Twins z σ τ) where
   abbrev f : ℕ → ℕ
-  f = ρ .to
+  f = pair .stores .renaming .to
+
+  abbrev a : Alike f σ τ
+  a = pair .stores .alike
 
   pub linked-too : (r : ℕ) → σ (used r) ≡ 2 → τ (used (f r)) ≡ 2
   linked-too r u = kind-two (τ (used (f r))) (a .kinds r ∙ ap kind u)
 
   -- The tail record is another record in both stores or in neither.
   pub tail-test : (r : ℕ) → eqb (τ tailRecord) (suc (f r)) ≡ eqb (σ tailRecord) (suc r)
-  tail-test r = ap (λ (x : ℕ). eqb x (suc (f r))) (a .words tailRecord tt) ∙ eqb-renamed ρ (σ tailRecord) r
+  tail-test r = ap (λ (x : ℕ). eqb x (suc (f r))) (a .words tailRecord tt) ∙ eqb-renamed (pair .stores .renaming) (σ tailRecord) r
 
   -- A held record has a next in both stores or in neither.
   pub held-next : (t h : ℕ) → σ (held t) ≡ suc h → eqb (τ (next (f h))) 0 ≡ eqb (σ (next h)) 0
-  held-next t h q = go (held-is (good .memory) t h q) (held-is (good′ .memory) t (f h) (a .words (held t) tt ∙ ap (renamed f) q))
+  held-next t h q = go (held-is (pair .good .memory) t h q) (held-is (pair .good′ .memory) t (f h) (a .words (held t) tt ∙ ap (renamed f) q))
     where
-      go : Holdable (γ .shape .lo) σ h → Holdable (δ .shape .lo) τ (f h) → eqb (τ (next (f h))) 0 ≡ eqb (σ (next h)) 0
+      go : Holdable (pair .γ .shape .lo) σ h → Holdable (pair .δ .shape .lo) τ (f h) → eqb (τ (next (f h))) 0 ≡ eqb (σ (next h)) 0
       go (inl u) v = ap (λ (x : ℕ). eqb x 0) (a .linked h u .onward) ∙ eqb-none f (σ (next h))
       go (inr u) (inl v) =
           let three : kind (σ (used h)) ≡ 0 = ap kind (u .0) in
@@ -117,21 +128,21 @@ module _ (z : Sizes) (σ τ : Reader) (γ δ : Ghost) (good : Good z σ γ) (goo
   -- The prev of the record held in phase 7: linked, and the same in both.
   pub held-prev : (t : ℕ) → (1 ≤ t) × (t ≤ z .P) → σ (phase t) ≡ 7 → (h : ℕ) → σ (held t) ≡ suc h
       → (p : ℕ) × (σ (used p) ≡ 2) × (σ (prev h) ≡ suc p) × (τ (prev (f h)) ≡ suc (f p))
-  held-prev t w e h q =
-      let b = held-behind z σ γ good t w e h q in
+  held-prev t is e h q =
+      let b = held-behind (pair .good) t is e h q in
       let u = b .1 in (
         b .0,
         u,
-        next-linked z σ (γ .shape) (good .memory) (b .0) u h (b .2) .1,
-        next-linked z τ (δ .shape) (good′ .memory) (f (b .0)) (linked-too (b .0) u) (f h)
+        next-linked (pair .good .memory) (b .0) u h (b .2) .1,
+        next-linked (pair .good′ .memory) (f (b .0)) (linked-too (b .0) u) (f h)
             (a .linked (b .0) u .onward ∙ ap (renamed f) (b .2)) .1,
       )
 
   -- A claimed record is blank in both.
   pub claimed-same : (t c : ℕ) → σ (claimed t) ≡ suc c → Body f σ τ c
   claimed-same t c q =
-      let b : Blank (z .N) σ c = claimed-is (good .memory) t c q in
-      let d : Blank (z .N) τ (f c) = claimed-is (good′ .memory) t (f c) (a .words (claimed t) tt ∙ ap (renamed f) q) in
+      let b : Blank (z .N) σ c = claimed-is (pair .good .memory) t c q in
+      let d : Blank (z .N) τ (f c) = claimed-is (pair .good′ .memory) t (f c) (a .words (claimed t) tt ∙ ap (renamed f) q) in
       record {
         placed = d .no-place ∙ sym (b .no-place);
         onward = d .no-next ∙ sym (ap (renamed f) (b .no-next));

@@ -1,24 +1,24 @@
 -- No reply depends on which free record a claim takes, proved: along every list of calls from an accepted open, two stores on which
 -- claims are made differently stay alike.
-use mathlib.Core.Path.{_≡_, refl, ap, ap₂, sym, _∙_, subst, subst⁻¹}
+use mathlib.Core.Path.{_≡_, refl, ap, ap₂}
 use mathlib.Core.List.{List, [], _∷_, _++_}
-use Prim.Native.Nat.{ℕ, _≤_}
+use Prim.Native.Nat.{ℕ}
 use lib.ListN.{length}
 use Rattle.history.specs.Event.{History}
-use Rattle.rules.specs.Sizes.{Sizes, storeWords}
-use Rattle.rules.specs.Cell.{Reader, reader, writes}
+use Rattle.rules.specs.Sizes.{Sizes}
+use Rattle.rules.specs.Cell.{reader}
 use Rattle.rules.specs.Free.{Picker, Picks}
-use Rattle.rules.specs.Rule.{Answer, refuse, reply, Response, refused, accepted, ok}
+use Rattle.rules.specs.Rule.{Answer, refuse, reply, Response, refused, accepted}
 use Rattle.rules.specs.Request.{Request, Result, applied, answer, result, open-store}
 use Rattle.rules.specs.Play.{Played, events, playOne, play}
 use Rattle.rules.specs.Readback.{reader-writes}
-use Rattle.ordering.specs.View.{Ghost}
-use Rattle.ordering.specs.Good.{Goes, Fine}
+use Rattle.ordering.specs.Good.{Fine}
 use Rattle.ordering.specs.Every.{answer-fine}
 use Rattle.ordering.specs.Theorem.{Kept, result-is, keeps, opened-kept}
 use Rattle.ordering.specs.Renaming.{unchanged}
 use Rattle.ordering.specs.Alike.{alike-itself}
 use Rattle.ordering.specs.AlikeAnswers.{Stores, Like}
+use Rattle.ordering.specs.AlikeRecords.{Twins}
 use Rattle.ordering.specs.AlikeEvery.{answer-alike}
 use Rattle.ordering.specs.Choice.{SameReplies, No-Reply-Depends}
 
@@ -53,14 +53,23 @@ module _ {z : Sizes} {p p′ : Played} (k : Together z p p′) (pick pick′ : P
             (l .answers .1);
       }
 
+  twins : Twins z (reader z (p .words)) (reader z (p′ .words))
+  twins =
+      record {
+        γ = k .first .beside;
+        δ = k .second .beside;
+        good = k .first .good;
+        good′ = k .second .good;
+        stores = k .stores;
+      }
+
   results : Both z (result pick q (p .words)) (result pick′ q (p′ .words))
   results =
       rw (result-is (k .first) pick right q, result-is (k .second) pick′ right′ q)
       (by-answers (answer pick q z (reader z (p .words))) (answer pick′ q z (reader z (p′ .words)))
       (answer-fine z (reader z (p .words)) (k .first .beside) (k .first .good) pick right q)
       (answer-fine z (reader z (p′ .words)) (k .second .beside) (k .second .good) pick′ right′ q)
-      (answer-alike z (reader z (p .words)) (reader z (p′ .words)) (k .first .beside) (k .second .beside) (k .first .good) (k .second .good)
-      (k .stores .renaming) (k .stores .alike) pick pick′ right right′ q))
+      (answer-alike twins pick pick′ right right′ q))
 
   goes-on : Together z (playOne pick q p) (playOne pick′ q p′)
   goes-on =
