@@ -1,4 +1,5 @@
--- The consumer's step on two stores alike: answers alike.
+-- The consumer's step on two stores alike, phases 1 to 7: answers alike. From what the stores share of linked records, the only
+-- ones that the consumer comes to.
 use mathlib.Core.Path.{_≡_, refl, ap}
 use mathlib.Core.List.{List, [], _∷_}
 use Prim.Native.Nat.{ℕ, zero, suc}
@@ -24,11 +25,11 @@ module _ {z : Sizes} {σ τ : Reader} (pair : Twins z σ τ) where
   m : Memory z σ (pair .γ .shape)
   m = pair .good .memory
 
-  by-state : (x y : ℕ) (b s h b′ s′ h′ : Answer) → y ≡ x → Like z σ τ b b′ → Like z σ τ s s′ → Like z σ τ h h′
+  by-state : (x y : ℕ) {b s h b′ s′ h′ : Answer} → y ≡ x → Like z σ τ b b′ → Like z σ τ s s′ → Like z σ τ h h′
       → Like z σ τ (byState x b s h) (byState y b′ s′ h′)
-  by-state zero y b s h b′ s′ h′ e blank set handled = rw e blank
-  by-state (suc zero) y b s h b′ s′ h′ e blank set handled = rw e set
-  by-state (suc (suc x)) y b s h b′ s′ h′ e blank set handled = rw e handled
+  by-state zero y e blank set handled = rw e blank
+  by-state (suc zero) y e blank set handled = rw e set
+  by-state (suc (suc x)) y e blank set handled = rw e handled
 
   ends-empty : Like z σ τ endsEmpty endsEmpty
   ends-empty = by-plain (pair .stores) empty (clearConsumer ∷ []) _ refl (λ s u. u) (λ t s e. e)
@@ -79,7 +80,7 @@ module _ {z : Sizes} {σ τ : Reader} (pair : Twins z σ τ) where
       (λ b.
       by-inside h (f h) (σ headPosition) (τ headPosition) (place-same h u) position-same
       (λ i.
-      by-state (σ (state h i)) (τ (state (f h) i)) _ _ _ _ _ _ (state-same h u i)
+      by-state (σ (state h i)) (τ (state (f h) i)) (state-same h u i)
       (by-plain (pair .stores) going (consumerPhase := 2 ∷ []) _ refl (λ s w. w) (λ t s e. e))
       (by-plain (pair .stores) going (foundRecord := suc h ∷ foundPosition := σ headPosition ∷ consumerPhase := 6 ∷ [])
       (foundRecord := suc (f h) ∷ foundPosition := τ headPosition ∷ consumerPhase := 6 ∷ []) (rw position-same refl) (λ s w. w) (λ t s e. e))

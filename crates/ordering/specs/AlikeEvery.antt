@@ -1,4 +1,5 @@
 -- Every request on two stores alike that only the engine has written is answered alike, whichever free record each claim takes.
+-- From the phases, one by one.
 use mathlib.Core.Path.{_≡_, refl}
 use mathlib.Core.Logic.{_≢_}
 use mathlib.Core.Bool.{_||_, not}

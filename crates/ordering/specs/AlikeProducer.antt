@@ -1,4 +1,5 @@
--- A producer's step on two stores alike, in every phase but 4 and 10: answers alike.
+-- A producer's step on two stores alike, in every phase but 4 and 10: answers alike. From what the stores share of the records
+-- that it holds and has claimed.
 use mathlib.Core.Path.{_≡_, refl, ap, sym, _∙_, subst}
 use mathlib.Core.Logic.{_⊎_, inl, inr}
 use mathlib.Core.Bool.{Bool, true, false, _&&_, cond}
