@@ -25,3 +25,13 @@ pub mod Left
 pub mod Demand
 pub mod Admission
 pub mod Theorem
+pub mod Renaming
+pub mod Alike
+pub mod AlikeAnswers
+pub mod AlikeRecords
+pub mod AlikeProducer
+pub mod AlikeConsumer
+pub mod AlikeClaims
+pub mod AlikeEvery
+pub mod Choice
+pub mod Choosing

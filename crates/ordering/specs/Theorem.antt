@@ -32,12 +32,12 @@ use Rattle.ordering.specs.Admission.{sizes-are, admitted-is}
 use Rattle.ordering.specs.Demand.{Ordered, Demand-3}
 
 -- What every call keeps.
-record Kept (z : Sizes) (p : Played) : Type 0 where
-  fits : storeWords z ≤ length (p .words)
-  beside : Ghost
-  good : Good z (reader z (p .words)) beside
-  same : beside .history ≡ p .history
-  answered : All (λ r. (r ≢ refused 3) × (r ≢ refused 9)) (p .replies)
+pub record Kept (z : Sizes) (p : Played) : Type 0 where
+  pub fits : storeWords z ≤ length (p .words)
+  pub beside : Ghost
+  pub good : Good z (reader z (p .words)) beside
+  pub same : beside .history ≡ p .history
+  pub answered : All (λ r. (r ≢ refused 3) × (r ≢ refused 9)) (p .replies)
 
 -- two refusals with one number
 refused-number : {a b : ℕ} → refused a ≡ refused b → a ≡ b
@@ -61,7 +61,7 @@ owed {z} {p} k =
 
 -- One call.
 module _ {z : Sizes} {p : Played} (k : Kept z p) (pick : Picker) (right : Picks pick) (q : Request) where
-  result-is : result pick q (p .words) ≡ applied z (p .words) (answer pick q z (reader z (p .words)))
+  pub result-is : result pick q (p .words) ≡ applied z (p .words) (answer pick q z (reader z (p .words)))
   unfolding result
   result-is =
       ap₂ (λ (y : Sizes) (a : Answer). applied y (p .words) a) (sizes-are z (p .words) (k .good .range))
@@ -90,7 +90,7 @@ module _ {z : Sizes} {p : Played} (k : Kept z p) (pick : Picker) (right : Picks 
         answered = ((accepted-not-refused, accepted-not-refused), k .answered);
       }
 
-  keeps : Kept z (playOne pick q p)
+  pub keeps : Kept z (playOne pick q p)
   keeps =
       subst⁻¹ (λ (r : Result). Kept z (played r)) result-is
       (by-answer (answer pick q z (reader z (p .words))) (answer-fine z (reader z (p .words)) (k .beside) (k .good) pick right q))
@@ -103,7 +103,7 @@ plays picks right (q ∷ qs) {p} k =
     plays picks right qs (keeps k (picks (length (p .replies))) (right (length (p .replies))) q)
 
 -- An accepted open.
-opened-kept : (z : Sizes) (m : List ℕ) → open-store z m .reply ≡ accepted ok → Kept z (record { words = open-store z m .words; replies = []; history = [] })
+pub opened-kept : (z : Sizes) (m : List ℕ) → open-store z m .reply ≡ accepted ok → Kept z (record { words = open-store z m .words; replies = []; history = [] })
 unfolding open-store
 opened-kept z m = go (sizesInRange z) refl (ltb (length m) 16 || ltb (length m) (storeWords z)) refl
   where
