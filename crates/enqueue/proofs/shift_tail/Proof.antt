@@ -1,0 +1,90 @@
+use borrow.Author.Needs.{needs}
+use Rattle.enqueue.proofs.shift_tail.Statement.{statement}
+use Rattle.enqueue.proofs.shift_tail.Tie as tie
+use Rattle.enqueue.proofs.shift_tail.Reads as reads
+use Rattle.enqueue.proofs.shift_tail.Lts as lts
+use Rattle.store.proofs.content.Reads as content-reads
+use Rattle.store.proofs.part.Reads as part-reads
+use Rattle.store.proofs.producer.Reads as producer-reads
+use Rattle.store.proofs.put_content.Reads as put-content-reads
+use Rattle.store.proofs.put_producer.Reads as put-producer-reads
+
+-- src/lib.rt:42:9
+producer-requires : tie.Need-producer-requires
+producer-requires c κs = search needs
+
+-- src/lib.rt:44:9
+same-length : tie.Need-same-length
+same-length c = search needs
+
+-- src/lib.rt:44:9
+returns : tie.Need-returns
+returns c = ?
+
+-- src/lib.rt:46:8
+content-requires : tie.Need-content-requires
+content-requires c κs = search needs
+
+-- src/lib.rt:47:9
+put-producer-requires : tie.Need-put-producer-requires
+put-producer-requires c κs = search needs
+
+-- src/lib.rt:48:9
+same-length-2 : tie.Need-same-length-2
+same-length-2 c = search needs
+
+-- src/lib.rt:48:9
+returns-2 : tie.Need-returns-2
+returns-2 c = ?
+
+-- src/lib.rt:50:27
+sub-part : tie.Need-sub-part
+sub-part c = search needs
+
+-- src/lib.rt:50:9
+part-requires : tie.Need-part-requires
+part-requires c κs = search needs
+
+-- src/lib.rt:52:9
+same-length-3 : tie.Need-same-length-3
+same-length-3 c = search needs
+
+-- src/lib.rt:52:9
+returns-3 : tie.Need-returns-3
+returns-3 c = ?
+
+-- src/lib.rt:54:5
+put-content-requires : tie.Need-put-content-requires
+put-content-requires c κs = search needs
+
+-- src/lib.rt:55:5
+put-producer-requires-2 : tie.Need-put-producer-requires-2
+put-producer-requires-2 c κs = search needs
+
+-- src/lib.rt:37:1
+same-length-4 : tie.Need-same-length-4
+same-length-4 c = search needs
+
+-- src/lib.rt:37:1
+returns-4 : tie.Need-returns-4
+returns-4 c = ?
+
+pub shift-tail-spec : {M : Type 1} → statement M
+shift-tail-spec =
+    tie.close
+    (tie.spec
+    producer-requires
+    same-length
+    returns
+    content-requires
+    put-producer-requires
+    same-length-2
+    returns-2
+    sub-part
+    part-requires
+    same-length-3
+    returns-3
+    put-content-requires
+    put-producer-requires-2
+    same-length-4
+    returns-4)

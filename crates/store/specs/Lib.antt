@@ -1,0 +1,5 @@
+pub mod Shape
+pub mod Outcome
+pub mod Caps
+pub mod Store
+pub mod Words
