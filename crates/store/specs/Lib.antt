@@ -3,3 +3,4 @@ pub mod Outcome
 pub mod Caps
 pub mod Store
 pub mod Words
+pub mod Steps

@@ -3,7 +3,7 @@ use mathlib.Core.Path.{_≡_, refl, ap, sym, _∙_, subst}
 use mathlib.Core.Bool.{Bool, true, false, _&&_, cond}
 use mathlib.Core.List.{List, [], _∷_, _++_}
 use Prim.Native.Nat.{ℕ, zero, suc, _+_, _*_, _≤_, _<_}
-use native.Mathlib.Nat.{mul-le-mul-right}
+use native.Mathlib.Nat.{mul-le-mul-left, mul-le-mul-right}
 use native.Mathlib.Omega.{arith}
 use lib.Dec.{leb, eqb}
 use lib.ListN.{length, getD, set, drop, replicate, length-replicate}
@@ -151,3 +151,7 @@ record-below B r b h = let l : r ≤ 63 = omega arith in omega (arith, mul-le-mu
 -- a record is in the lent words
 pub record-inside : (z : Sizes) (m : List ℕ) (r : ℕ) → Room z m → r < z .N → firstRecord z + r * recordWords z + recordWords z ≤ length m
 record-inside z m r room h = omega (arith, mul-le-mul-right (recordWords z) h)
+
+-- B × place fits
+pub end-below : (B q : ℕ) → B ≤ 64 → q ≤ 500002 → B * q ≤ 32000128
+end-below B q b h = omega (arith, mul-le-mul-right q b, mul-le-mul-left 64 h)

@@ -4,10 +4,10 @@ ghost use Prim.Native.Nat.{_+_, _*_, _<_, _≤_};
 ghost use lib.ListN.{length, replicate};
 ghost use lib.Seq.{sets};
 ghost use Rattle.rules.specs.Sizes.{firstRecord, recordWords};
-ghost use Rattle.rules.specs.Cell.{write, _:=_, content, consumer, producer, part, entry, clearConsumer, clearProducer, wipe};
+ghost use Rattle.rules.specs.Cell.{reader, place, write, _:=_, content, consumer, producer, part, entry, clearConsumer, clearProducer, wipe};
 ghost use Rattle.rules.specs.Address.{There};
 ghost use Rattle.store.specs.Shape.{sizes};
-ghost use Rattle.store.specs.Store.{Room, Admitted, Reads};
+ghost use Rattle.store.specs.Store.{Room, Admitted, Reads, Indexed};
 
 // The sizes of a store: entries in a record (B), records (N), producers (P), enqueue starts allowed (M).
 pub struct Shape {
@@ -165,4 +165,29 @@ pub fn wipe_record(s: &mut [u32], z: Shape, r: u32)
     ensures { λ _. ⌜ now (s .exit) ≡ write (sizes z) (now (s .entry)) (wipe r) ⌝ }
 {
     clear(s, record_at(z, r), 3 * z.entries + 4);
+}
+
+// B × place: the position past record r's last.
+pub fn record_end(s: &[u32], z: Shape, r: u32) -> u32
+    requires { ⌜ Admitted (sizes z) (now s) ⌝ }
+    requires { ⌜ r < z .records ⌝ }
+    ensures { λ e. ⌜ (z .entries * reader (sizes z) (now (s .entry)) (place r) ≡ e) × (e ≤ 32000128) ⌝ }
+{
+    z.entries * part(s, z, r, 0)
+}
+
+// The index of position p in record r; B where it leaves the record.
+pub fn index_in(s: &[u32], z: Shape, r: u32, p: u32) -> u32
+    requires { ⌜ Admitted (sizes z) (now s) ⌝ }
+    requires { ⌜ (r < z .records) × (p ≤ z .starts) ⌝ }
+    ensures { λ i. ⌜ Indexed (sizes z) (now (s .entry)) r p i ⌝ }
+{
+    let end = record_end(s, z, r);
+    if end <= p {
+        return z.entries;
+    }
+    if p + z.entries < end {
+        return z.entries;
+    }
+    p + z.entries - end
 }

@@ -1,3 +1,9 @@
+use Rattle.store.specs.Steps.{some, suc-pred}
+use Rattle.rules.specs.Request.{applied}
+use Rattle.rules.specs.Producer.{shiftTail}
+use Rattle.rules.specs.Cell.{writes}
+use borrow.Author.Tests.{eq-eqb, ne-eqb}
+use mathlib.Core.Path.{refl}
 use borrow.Author.Needs.{needs}
 use Rattle.enqueue.proofs.shift_tail.Statement.{statement}
 use Rattle.enqueue.proofs.shift_tail.Tie as tie
@@ -19,7 +25,8 @@ same-length c = search needs
 
 -- src/lib.rt:44:9
 returns : tie.Need-returns
-returns c = ?
+unfolding shiftTail applied
+returns c = rw (c .before .producer .ensures .is, c .if1 .taken) refl
 
 -- src/lib.rt:46:8
 content-requires : tie.Need-content-requires
@@ -35,7 +42,9 @@ same-length-2 c = search needs
 
 -- src/lib.rt:48:9
 returns-2 : tie.Need-returns-2
-returns-2 c = ?
+unfolding shiftTail applied writes
+returns-2 c =
+    rw (some (c .before .before .before .before .before .before .before .before .producer .ensures .is) (c .before .before .before .before .before .before .before .if1 .left), c .before .before .before .before .before .content .ensures .is, suc-pred (c .before .before .before .before .before .before .before .if1 .left), ne-eqb _ _ (c .before .before .before .before .if2 .taken), c .before .before .put-producer .ensures) refl
 
 -- src/lib.rt:50:27
 sub-part : tie.Need-sub-part
@@ -51,7 +60,9 @@ same-length-3 c = search needs
 
 -- src/lib.rt:52:9
 returns-3 : tie.Need-returns-3
-returns-3 c = ?
+unfolding shiftTail applied
+returns-3 c =
+    rw (some (c .before .before .before .before .before .before .before .producer .ensures .is) (c .before .before .before .before .before .before .if1 .left), c .before .before .before .before .content .ensures .is, suc-pred (c .before .before .before .before .before .before .if1 .left), eq-eqb _ _ (c .before .before .before .if2 .left), c .before .part .ensures .is, c .if3 .taken) refl
 
 -- src/lib.rt:54:5
 put-content-requires : tie.Need-put-content-requires
@@ -67,7 +78,9 @@ same-length-4 c = search needs
 
 -- src/lib.rt:37:1
 returns-4 : tie.Need-returns-4
-returns-4 c = ?
+unfolding shiftTail applied writes
+returns-4 c =
+    rw (some (c .before .before .before .before .before .before .before .before .before .before .before .before .before .before .before .producer .ensures .is) (c .before .before .before .before .before .before .before .before .before .before .before .before .before .before .if1 .left), c .before .before .before .before .before .before .before .before .before .before .before .before .content .ensures .is, suc-pred (c .before .before .before .before .before .before .before .before .before .before .before .before .before .before .if1 .left), eq-eqb _ _ (c .before .before .before .before .before .before .before .before .before .before .before .if2 .left), some (c .before .before .before .before .before .before .before .before .before .part .ensures .is) (c .before .before .before .before .before .before .before .before .if3 .left), suc-pred (c .before .before .before .before .before .before .before .before .if3 .left), c .before .before .put-producer2 .ensures, c .before .before .before .before .before .before .put-content .ensures) refl
 
 pub shift-tail-spec : {M : Type 1} → statement M
 shift-tail-spec =
