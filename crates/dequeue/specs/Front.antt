@@ -1,12 +1,13 @@
 -- Crossing to the next record, and the two halves of phases 1 and 5: at a record's end, and at an entry.
 use mathlib.Core.Path.{_≡_, refl}
-use mathlib.Core.Bool.{cond}
+use mathlib.Core.Bool.{true, false, cond}
 use mathlib.Core.List.{List, [], _∷_}
 use Prim.Native.Nat.{ℕ, zero, suc, _-_, _≤_}
 use native.Mathlib.Omega.{arith}
 use lib.Dec.{eqb}
+use borrow.Author.Tests.{eq-eqb, ne-eqb}
 use Rattle.rules.specs.Sizes.{Sizes}
-use Rattle.rules.specs.Cell.{Reader, reader, _:=_, tailRecord, headRecord, headPosition, consumerPhase, cursorRecord, cursorPosition, foundRecord, foundPosition, used, state}
+use Rattle.rules.specs.Cell.{Reader, reader, Write, _:=_, tailRecord, headRecord, headPosition, consumerPhase, cursorRecord, cursorPosition, foundRecord, foundPosition, used, state}
 use Rattle.rules.specs.Rule.{Answer, refuse, goes, upTo, inside, cross}
 use Rattle.rules.specs.Consumer.{byState, endsEmpty, rescanned}
 
@@ -16,6 +17,10 @@ pub record Crossed (z : Sizes) (m : List ℕ) (r n p : ℕ) : Type 0 where
   pub to : (n ≡ 0 → ⊥) → (f : ℕ → ℕ → Answer) → cross z (reader z m) r f ≡ f (n - 1) p
   pub record-most : n ≤ z .N
   pub position-most : p ≤ z .M
+
+-- phase 5, the end of the rescan
+abbrev pub settles : List Write
+settles = cursorRecord := 0 ∷ cursorPosition := 0 ∷ consumerPhase := 6 ∷ []
 
 module _ (z : Sizes) (σ : Reader) where
   -- phase 1, the head at the end of its record h
@@ -42,14 +47,19 @@ module _ (z : Sizes) (σ : Reader) where
   abbrev pub toRescan : (n p : ℕ) → Answer
   toRescan n p = rescanned z σ p (σ foundPosition) (cursorRecord := suc n ∷ cursorPosition := p ∷ []) []
 
+  -- phase 5, a set entry at position p of record r
+  abbrev pub rescanFound : (r p : ℕ) → Answer
+  rescanFound r p =
+      rescanned z σ (σ headPosition) p
+      (cursorRecord := σ headRecord ∷ cursorPosition := σ headPosition ∷ [])
+      (foundRecord := suc r ∷ foundPosition := p ∷ [])
+
   -- phase 5, the cursor at position p of its record r
   abbrev pub rescanEntry : (r p : ℕ) → Answer
   rescanEntry r p =
       inside z σ r p
       λ i. cond (eqb (σ (state r i)) 1)
-      (rescanned z σ (σ headPosition) p
-      (cursorRecord := σ headRecord ∷ cursorPosition := σ headPosition ∷ [])
-      (foundRecord := suc r ∷ foundPosition := p ∷ []))
+      (rescanFound r p)
       (upTo (z .M) (suc p)
       (rescanned z σ (suc p) (σ foundPosition) (cursorPosition := suc p ∷ []) []))
 
@@ -60,3 +70,10 @@ not-crossed h = record { refused = λ e. h; to = λ n. absurd (n refl); record-m
 -- a state that is neither empty nor set
 pub handled : {x s : ℕ} → x ≡ s → (s ≡ 0 → ⊥) → (s ≡ 1 → ⊥) → x ≡ suc (suc (s - 2))
 handled {x} {s} e n o = omega arith
+
+-- whether position p is at an end x, once that is known to be e
+pub at-end : {p e x : ℕ} → x ≡ e → p ≡ e → eqb p x ≡ true
+at-end {p} {e} {x} i h = eq-eqb p x (omega arith)
+
+pub not-end : {p e x : ℕ} → x ≡ e → (p ≡ e → ⊥) → eqb p x ≡ false
+not-end {p} {e} {x} i h = ne-eqb p x (λ q. h (omega arith))

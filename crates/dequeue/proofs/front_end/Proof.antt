@@ -1,3 +1,14 @@
+use Rattle.dequeue.specs.Front.{toHead}
+use Rattle.store.specs.Steps.{some, suc-pred}
+use Rattle.store.specs.Shape.{sizes}
+use Rattle.rules.specs.Request.{applied}
+use Rattle.rules.specs.Cell.{reader, writes}
+use denote.Ref.{now}
+use borrow.Author.Tests.{eq-eqb, ne-eqb, le-leb, lt-leb}
+use native.Mathlib.Omega.{arith}
+use native.Mathlib.Numerals.{add-one}
+use Prim.Native.Nat.{suc, _-_}
+use mathlib.Core.Path.{refl}
 use borrow.Author.Needs.{needs}
 use Rattle.dequeue.proofs.front_end.Statement.{statement}
 use Rattle.dequeue.proofs.front_end.Tie as tie
@@ -27,7 +38,8 @@ same-length c = search needs
 
 -- src/lib.rt:64:9
 returns : tie.Need-returns
-returns c = ?
+unfolding applied writes
+returns c = rw (c .before .before .before .before .before .content .ensures .is, eq-eqb (c .before .before .before .before .before .content .result) (suc (c .before .before .before .before .before .before .before .before .args .h)) (omega arith), c .before .before .clear-consumer .ensures) refl
 
 -- src/lib.rt:66:9
 cross-from-requires : tie.Need-cross-from-requires
@@ -39,7 +51,11 @@ same-length-2 c = search needs
 
 -- src/lib.rt:68:9
 returns-2 : tie.Need-returns-2
-returns-2 c = ?
+unfolding applied
+returns-2 c =
+    let a = c .before .before .before .before .before .before .before .before .args in
+    let f = toHead (sizes (a .z)) (reader (sizes (a .z)) (now (a .s))) (a .h) in
+    rw (c .before .before .before .before .before .content .ensures .is, ne-eqb (c .before .before .before .before .before .content .result) (suc (a .h)) (λ e. c .before .before .before .before .if1 .left (omega arith)), c .before .before .cross-from .ensures .refused (c .if2 .taken) f) refl
 
 -- src/lib.rt:70:5
 put-content-requires : tie.Need-put-content-requires
@@ -59,7 +75,11 @@ same-length-3 c = search needs
 
 -- src/lib.rt:57:1
 returns-3 : tie.Need-returns-3
-returns-3 c = ?
+unfolding applied writes
+returns-3 c =
+    let a = c .before .before .before .before .before .before .before .before .before .before .before .before .before .before .before .before .before .before .before .before .args in
+    let f = toHead (sizes (a .z)) (reader (sizes (a .z)) (now (a .s))) (a .h) in
+    rw (c .before .before .before .before .before .before .before .before .before .before .before .before .before .before .before .before .before .content .ensures .is, ne-eqb (c .before .before .before .before .before .before .before .before .before .before .before .before .before .before .before .before .before .content .result) (suc (a .h)) (λ e. c .before .before .before .before .before .before .before .before .before .before .before .before .before .before .before .before .if1 .left (omega arith)), c .before .before .before .before .before .before .before .before .before .before .before .before .before .before .cross-from .ensures .to (c .before .before .before .before .before .before .before .before .before .before .before .before .if2 .left) f, suc-pred (c .before .before .before .before .before .before .before .before .before .before .before .before .if2 .left), c .before .before .put-part .ensures, c .before .before .before .before .before .before .put-content2 .ensures, c .before .before .before .before .before .before .before .before .before .before .put-content .ensures) refl
 
 pub front-end-spec : {M : Type 1} → statement M
 front-end-spec =

@@ -1,3 +1,14 @@
+use Rattle.dequeue.specs.Front.{handled}
+use Rattle.store.specs.Steps.{some, suc-pred}
+use Rattle.store.specs.Shape.{sizes}
+use Rattle.rules.specs.Request.{applied}
+use Rattle.rules.specs.Cell.{reader, writes}
+use denote.Ref.{now}
+use borrow.Author.Tests.{eq-eqb, ne-eqb, le-leb, lt-leb}
+use native.Mathlib.Omega.{arith}
+use native.Mathlib.Numerals.{add-one}
+use Prim.Native.Nat.{suc, _-_}
+use mathlib.Core.Path.{refl}
 use borrow.Author.Needs.{needs}
 use Rattle.dequeue.proofs.front_entry.Statement.{statement}
 use Rattle.dequeue.proofs.front_entry.Tie as tie
@@ -18,7 +29,8 @@ same-length c = search needs
 
 -- src/lib.rt:84:9
 returns : tie.Need-returns
-returns c = ?
+unfolding applied
+returns c = rw (c .before .before .index-in .ensures .outside (c .if1 .taken)) refl
 
 -- src/lib.rt:86:9
 entry-requires : tie.Need-entry-requires
@@ -34,7 +46,9 @@ same-length-2 c = search needs
 
 -- src/lib.rt:89:9
 returns-2 : tie.Need-returns-2
-returns-2 c = ?
+unfolding applied writes
+returns-2 c =
+    rw (c .before .before .before .before .before .before .before .before .before .index-in .ensures .inside (c .before .before .before .before .before .before .before .if1 .left), c .before .before .before .before .before .before .before .before .before .index-in .ensures .is (c .before .before .before .before .before .before .before .if1 .left), c .before .before .before .before .before .entry .ensures .is, c .before .before .before .before .if2 .taken, c .before .before .put-consumer .ensures) refl
 
 -- src/lib.rt:92:31
 add-put-consumer : tie.Need-add-put-consumer
@@ -58,7 +72,9 @@ same-length-3 c = search needs
 
 -- src/lib.rt:95:9
 returns-3 : tie.Need-returns-3
-returns-3 c = ?
+unfolding applied writes
+returns-3 c =
+    rw (c .before .before .before .before .before .before .before .before .before .before .before .before .before .before .before .before .before .before .index-in .ensures .inside (c .before .before .before .before .before .before .before .before .before .before .before .before .before .before .before .before .if1 .left), c .before .before .before .before .before .before .before .before .before .before .before .before .before .before .before .before .before .before .index-in .ensures .is (c .before .before .before .before .before .before .before .before .before .before .before .before .before .before .before .before .if1 .left), c .before .before .before .before .before .before .before .before .before .before .before .before .before .before .entry .ensures .is, c .before .before .before .before .before .before .before .before .before .before .before .before .if3 .taken, c .before .before .put-consumer4 .ensures, c .before .before .before .before .before .before .put-consumer3 .ensures, c .before .before .before .before .before .before .before .before .before .before .put-consumer2 .ensures, add-one (c .before .before .before .before .before .before .before .before .before .before .before .before .before .before .before .before .before .before .before .before .before .args .h)) refl
 
 -- src/lib.rt:98:9
 same-length-4 : tie.Need-same-length-4
@@ -66,7 +82,9 @@ same-length-4 c = search needs
 
 -- src/lib.rt:98:9
 returns-4 : tie.Need-returns-4
-returns-4 c = ?
+unfolding applied
+returns-4 c =
+    rw (c .before .before .before .before .before .before .before .before .index-in .ensures .inside (c .before .before .before .before .before .before .if1 .left), c .before .before .before .before .before .before .before .before .index-in .ensures .is (c .before .before .before .before .before .before .if1 .left), handled (c .before .before .before .before .entry .ensures .is) (c .before .before .before .if2 .left) (c .before .before .if3 .left), lt-leb (suc (c .before .before .before .before .before .before .before .before .before .before .before .args .p)) (c .before .before .before .before .before .before .before .before .before .before .before .args .z .starts) (omega arith)) refl
 
 -- src/lib.rt:100:26
 add-put-content : tie.Need-add-put-content
@@ -82,7 +100,9 @@ same-length-5 c = search needs
 
 -- src/lib.rt:77:1
 returns-5 : tie.Need-returns-5
-returns-5 c = ?
+unfolding applied writes
+returns-5 c =
+    rw (c .before .before .before .before .before .before .before .before .before .before .before .before .index-in .ensures .inside (c .before .before .before .before .before .before .before .before .before .before .if1 .left), c .before .before .before .before .before .before .before .before .before .before .before .before .index-in .ensures .is (c .before .before .before .before .before .before .before .before .before .before .if1 .left), handled (c .before .before .before .before .before .before .before .before .entry .ensures .is) (c .before .before .before .before .before .before .before .if2 .left) (c .before .before .before .before .before .before .if3 .left), le-leb (suc (c .before .before .before .before .before .before .before .before .before .before .before .before .before .before .before .args .p)) (c .before .before .before .before .before .before .before .before .before .before .before .before .before .before .before .args .z .starts) (omega arith), c .before .before .put-content .ensures, add-one (c .before .before .before .before .before .before .before .before .before .before .before .before .before .before .before .args .p)) refl
 
 pub front-entry-spec : {M : Type 1} → statement M
 front-entry-spec =

@@ -1,3 +1,14 @@
+use Rattle.rules.specs.Consumer.{readEntry}
+use Rattle.store.specs.Steps.{some, suc-pred}
+use Rattle.store.specs.Shape.{sizes}
+use Rattle.rules.specs.Request.{applied}
+use Rattle.rules.specs.Cell.{reader, writes}
+use denote.Ref.{now}
+use borrow.Author.Tests.{eq-eqb, ne-eqb, le-leb, lt-leb}
+use native.Mathlib.Omega.{arith}
+use native.Mathlib.Numerals.{add-one}
+use Prim.Native.Nat.{suc, _-_}
+use mathlib.Core.Path.{refl}
 use borrow.Author.Needs.{needs}
 use Rattle.dequeue.proofs.read_entry.Statement.{statement}
 use Rattle.dequeue.proofs.read_entry.Tie as tie
@@ -19,7 +30,8 @@ same-length c = search needs
 
 -- src/lib.rt:179:9
 returns : tie.Need-returns
-returns c = ?
+unfolding applied readEntry
+returns c = rw (c .before .consumer .ensures .is, c .if1 .taken) refl
 
 -- src/lib.rt:181:9
 consumer-requires-2 : tie.Need-consumer-requires-2
@@ -39,7 +51,9 @@ same-length-2 c = search needs
 
 -- src/lib.rt:184:9
 returns-2 : tie.Need-returns-2
-returns-2 c = ?
+unfolding applied readEntry
+returns-2 c =
+    rw (some (c .before .before .before .before .before .before .before .consumer .ensures .is) (c .before .before .before .before .before .before .if1 .left), c .before .before .before .before .consumer2 .ensures .is, c .before .before .index-in .ensures .outside (c .if2 .taken)) refl
 
 -- src/lib.rt:186:20
 sub-entry : tie.Need-sub-entry
@@ -67,15 +81,15 @@ put-consumer-requires-2 c κs = search needs
 
 -- src/lib.rt:191:9
 put-consumer-requires-3 : tie.Need-put-consumer-requires-3
-put-consumer-requires-3 c κs = ?
+put-consumer-requires-3 c κs = omega (arith, c .before .before .before .before .before .before .before .before .before .before .before .before .before .before .before .before .before .before .before .before .before .before .before .before .before .before)
 
 -- src/lib.rt:192:9
 put-consumer-requires-4 : tie.Need-put-consumer-requires-4
-put-consumer-requires-4 c κs = ?
+put-consumer-requires-4 c κs = omega (arith, c .before .before .before .before .before .before .before .before .before .before .before .before .before .before .before .before .before .before .before .before .before .before .before .before .before .before .before .before .before .before)
 
 -- src/lib.rt:193:9
 put-consumer-requires-5 : tie.Need-put-consumer-requires-5
-put-consumer-requires-5 c κs = ?
+put-consumer-requires-5 c κs = omega (arith, c .before .before .before .before .before .before .before .before .before .before .before .before .before .before .before .before .before .before .before .before .before .before .before .before .before .before .before .before .before .before .before .before .before .before)
 
 -- src/lib.rt:194:9
 same-length-3 : tie.Need-same-length-3
@@ -83,7 +97,9 @@ same-length-3 c = search needs
 
 -- src/lib.rt:194:9
 returns-3 : tie.Need-returns-3
-returns-3 c = ?
+unfolding applied readEntry writes
+returns-3 c =
+    rw (some (c .before .before .before .before .before .before .before .before .before .before .before .before .before .before .before .before .before .before .before .before .before .before .before .before .before .before .before .before .before .before .before .before .before .before .consumer .ensures .is) (c .before .before .before .before .before .before .before .before .before .before .before .before .before .before .before .before .before .before .before .before .before .before .before .before .before .before .before .before .before .before .before .before .before .if1 .left), c .before .before .before .before .before .before .before .before .before .before .before .before .before .before .before .before .before .before .before .before .before .before .before .before .before .before .before .before .before .before .before .consumer2 .ensures .is, c .before .before .before .before .before .before .before .before .before .before .before .before .before .before .before .before .before .before .before .before .before .before .before .before .before .before .before .before .before .index-in .ensures .inside (c .before .before .before .before .before .before .before .before .before .before .before .before .before .before .before .before .before .before .before .before .before .before .before .before .before .before .before .if2 .left), c .before .before .before .before .before .before .before .before .before .before .before .before .before .before .before .before .before .before .before .before .before .before .before .before .before .before .before .before .before .index-in .ensures .is (c .before .before .before .before .before .before .before .before .before .before .before .before .before .before .before .before .before .before .before .before .before .before .before .before .before .before .before .if2 .left), c .before .before .before .before .before .before .before .before .before .before .before .before .before .before .before .before .before .before .before .before .before .before .before .before .before .entry .ensures .is, eq-eqb _ _ (c .before .before .before .before .before .before .before .before .before .before .before .before .before .before .before .before .before .before .before .before .before .before .before .before .if3 .taken), c .before .before .before .before .before .before .before .before .before .before .before .before .before .before .before .before .before .before .before .before .before .before .content .ensures .is, c .before .before .before .before .before .before .before .before .before .before .before .before .before .before .before .before .before .before .before .before .content2 .ensures .is, suc-pred (c .before .before .before .before .before .before .before .before .before .before .before .before .before .before .before .before .before .before .before .before .before .before .before .before .before .before .before .before .before .before .before .before .before .if1 .left), c .before .before .put-consumer5 .ensures, c .before .before .before .before .before .before .put-consumer4 .ensures, c .before .before .before .before .before .before .before .before .before .before .put-consumer3 .ensures, c .before .before .before .before .before .before .before .before .before .before .before .before .before .before .put-consumer2 .ensures, c .before .before .before .before .before .before .before .before .before .before .before .before .before .before .before .before .before .before .put-consumer .ensures) refl
 
 -- src/lib.rt:197:9
 same-length-4 : tie.Need-same-length-4
@@ -91,7 +107,9 @@ same-length-4 c = search needs
 
 -- src/lib.rt:197:9
 returns-4 : tie.Need-returns-4
-returns-4 c = ?
+unfolding applied readEntry
+returns-4 c =
+    rw (some (c .before .before .before .before .before .before .before .before .before .before .before .before .consumer .ensures .is) (c .before .before .before .before .before .before .before .before .before .before .before .if1 .left), c .before .before .before .before .before .before .before .before .before .consumer2 .ensures .is, c .before .before .before .before .before .before .before .index-in .ensures .inside (c .before .before .before .before .before .if2 .left), c .before .before .before .before .before .before .before .index-in .ensures .is (c .before .before .before .before .before .if2 .left), c .before .before .before .entry .ensures .is, ne-eqb _ _ (c .before .before .if3 .left), lt-leb (suc (c .before .before .before .before .before .before .before .before .before .consumer2 .result)) (c .before .before .before .before .before .before .before .before .before .before .before .before .before .before .before .args .z .starts) (omega arith)) refl
 
 -- src/lib.rt:199:27
 add-put-consumer : tie.Need-add-put-consumer
@@ -111,7 +129,9 @@ same-length-5 c = search needs
 
 -- src/lib.rt:173:1
 returns-5 : tie.Need-returns-5
-returns-5 c = ?
+unfolding applied readEntry writes
+returns-5 c =
+    rw (some (c .before .before .before .before .before .before .before .before .before .before .before .before .before .before .before .before .before .before .before .before .consumer .ensures .is) (c .before .before .before .before .before .before .before .before .before .before .before .before .before .before .before .before .before .before .before .if1 .left), c .before .before .before .before .before .before .before .before .before .before .before .before .before .before .before .before .before .consumer2 .ensures .is, c .before .before .before .before .before .before .before .before .before .before .before .before .before .before .before .index-in .ensures .inside (c .before .before .before .before .before .before .before .before .before .before .before .before .before .if2 .left), c .before .before .before .before .before .before .before .before .before .before .before .before .before .before .before .index-in .ensures .is (c .before .before .before .before .before .before .before .before .before .before .before .before .before .if2 .left), c .before .before .before .before .before .before .before .before .before .before .before .entry .ensures .is, ne-eqb _ _ (c .before .before .before .before .before .before .before .before .before .before .if3 .left), le-leb (suc (c .before .before .before .before .before .before .before .before .before .before .before .before .before .before .before .before .before .consumer2 .result)) (c .before .before .before .before .before .before .before .before .before .before .before .before .before .before .before .before .before .before .before .before .before .before .before .args .z .starts) (omega arith), c .before .before .put-consumer7 .ensures, c .before .before .before .before .before .before .put-consumer6 .ensures, add-one (c .before .before .before .before .before .before .before .before .before .before .before .before .before .before .before .before .before .consumer2 .result)) refl
 
 pub read-entry-spec : {M : Type 1} → statement M
 read-entry-spec =

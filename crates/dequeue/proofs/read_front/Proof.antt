@@ -1,3 +1,15 @@
+use Rattle.dequeue.specs.Front.{at-end, not-end}
+use Rattle.rules.specs.Consumer.{front}
+use Rattle.store.specs.Steps.{some, suc-pred}
+use Rattle.store.specs.Shape.{sizes}
+use Rattle.rules.specs.Request.{applied}
+use Rattle.rules.specs.Cell.{reader, writes}
+use denote.Ref.{now}
+use borrow.Author.Tests.{eq-eqb, ne-eqb, le-leb, lt-leb}
+use native.Mathlib.Omega.{arith}
+use native.Mathlib.Numerals.{add-one}
+use Prim.Native.Nat.{suc, _-_}
+use mathlib.Core.Path.{refl}
 use borrow.Author.Needs.{needs}
 use Rattle.dequeue.proofs.read_front.Statement.{statement}
 use Rattle.dequeue.proofs.read_front.Tie as tie
@@ -18,7 +30,8 @@ same-length c = search needs
 
 -- src/lib.rt:111:9
 returns : tie.Need-returns
-returns c = ?
+unfolding applied front
+returns c = rw (c .before .content .ensures .is, c .if1 .taken) refl
 
 -- src/lib.rt:113:9
 content-requires-2 : tie.Need-content-requires-2
@@ -46,7 +59,9 @@ same-length-2 c = search needs
 
 -- src/lib.rt:115:9
 returns-2 : tie.Need-returns-2
-returns-2 c = ?
+unfolding front
+returns-2 c =
+    rw (some (c .before .before .before .before .before .before .before .before .before .before .content .ensures .is) (c .before .before .before .before .before .before .before .before .before .if1 .left), c .before .before .before .before .before .before .before .content2 .ensures .is, at-end (c .before .before .before .before .before .record-end .ensures .0) (c .before .before .before .before .if2 .taken)) (c .before .before .front-end .ensures)
 
 -- src/lib.rt:117:23
 sub-front-entry : tie.Need-sub-front-entry
@@ -62,7 +77,9 @@ same-length-3 c = search needs
 
 -- src/lib.rt:105:1
 returns-3 : tie.Need-returns-3
-returns-3 c = ?
+unfolding front
+returns-3 c =
+    rw (some (c .before .before .before .before .before .before .before .before .before .before .content .ensures .is) (c .before .before .before .before .before .before .before .before .before .if1 .left), c .before .before .before .before .before .before .before .content2 .ensures .is, not-end (c .before .before .before .before .before .record-end .ensures .0) (c .before .before .before .before .if2 .left)) (c .before .before .front-entry .ensures)
 
 pub read-front-spec : {M : Type 1} → statement M
 read-front-spec =

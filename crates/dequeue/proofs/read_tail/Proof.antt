@@ -1,3 +1,14 @@
+use Rattle.rules.specs.Consumer.{readTail}
+use Rattle.store.specs.Steps.{some, suc-pred}
+use Rattle.store.specs.Shape.{sizes}
+use Rattle.rules.specs.Request.{applied}
+use Rattle.rules.specs.Cell.{reader, writes}
+use denote.Ref.{now}
+use borrow.Author.Tests.{eq-eqb, ne-eqb, le-leb, lt-leb}
+use native.Mathlib.Omega.{arith}
+use native.Mathlib.Numerals.{add-one}
+use Prim.Native.Nat.{suc, _-_}
+use mathlib.Core.Path.{refl}
 use borrow.Author.Needs.{needs}
 use Rattle.dequeue.proofs.read_tail.Statement.{statement}
 use Rattle.dequeue.proofs.read_tail.Tie as tie
@@ -25,7 +36,8 @@ same-length c = search needs
 
 -- src/lib.rt:128:9
 returns : tie.Need-returns
-returns c = ?
+unfolding applied readTail writes
+returns c = rw (c .before .before .before .before .before .before .before .content .ensures .is, c .before .before .before .before .before .content2 .ensures .is, eq-eqb _ _ (c .before .before .before .before .if1 .taken), c .before .before .clear-consumer .ensures) refl
 
 -- src/lib.rt:131:9
 same-length-2 : tie.Need-same-length-2
@@ -33,7 +45,9 @@ same-length-2 c = search needs
 
 -- src/lib.rt:131:9
 returns-2 : tie.Need-returns-2
-returns-2 c = ?
+unfolding applied readTail
+returns-2 c =
+    rw (c .before .before .before .before .before .content .ensures .is, c .before .before .before .content2 .ensures .is, ne-eqb _ _ (c .before .before .if1 .left), lt-leb (suc (c .before .before .before .before .before .content .result)) (c .before .before .before .before .before .before .before .before .args .z .starts) (omega arith)) refl
 
 -- src/lib.rt:133:9
 content-requires-3 : tie.Need-content-requires-3
@@ -61,7 +75,9 @@ same-length-3 c = search needs
 
 -- src/lib.rt:121:1
 returns-3 : tie.Need-returns-3
-returns-3 c = ?
+unfolding applied readTail writes
+returns-3 c =
+    rw (c .before .before .before .before .before .before .before .before .before .before .before .before .before .before .before .before .before .before .before .content .ensures .is, c .before .before .before .before .before .before .before .before .before .before .before .before .before .before .before .before .before .content2 .ensures .is, c .before .before .before .before .before .before .before .before .before .before .before .before .content3 .ensures .is, ne-eqb _ _ (c .before .before .before .before .before .before .before .before .before .before .before .before .before .before .before .before .if1 .left), le-leb (suc (c .before .before .before .before .before .before .before .before .before .before .before .before .before .before .before .before .before .before .before .content .result)) (c .before .before .before .before .before .before .before .before .before .before .before .before .before .before .before .before .before .before .before .before .before .before .args .z .starts) (omega arith), c .before .before .put-consumer3 .ensures, c .before .before .before .before .before .before .put-consumer2 .ensures, c .before .before .before .before .before .before .before .before .before .before .put-consumer .ensures, add-one (c .before .before .before .before .before .before .before .before .before .before .before .before .before .before .before .before .before .before .before .content .result)) refl
 
 pub read-tail-spec : {M : Type 1} → statement M
 read-tail-spec =
