@@ -29,7 +29,7 @@ pub enum Reply {
 }
 
 // The first word of record r.
-fn record_at(z: Shape, r: u32) -> u32
+pub fn record_at(z: Shape, r: u32) -> u32
     requires { ⌜ (z .entries ≤ 64) × (z .producers ≤ 16) × (r < 64) ⌝ }
     ensures { λ at. ⌜ (at ≡ firstRecord (sizes z) + r * recordWords (sizes z)) × (at ≤ 12696) ⌝ }
 {
