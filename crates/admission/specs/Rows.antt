@@ -1,0 +1,170 @@
+-- The range tests as the code makes them, word by word: a word of a sort is one that is at most the sort's cap.
+use mathlib.Core.Path.{_≡_, refl, ap, ap₂, sym, _∙_}
+use mathlib.Core.Bool.{Bool, true, false, _&&_, and-true}
+use mathlib.Core.List.{List, [], _∷_, map}
+use Prim.Native.Nat.{ℕ, zero, suc, _+_, _*_, _≤_, _<_}
+use native.Mathlib.Decide.{decLe}
+use native.Mathlib.Omega.{arith}
+use native.Mathlib.Nat.{mul-le-mul-right}
+use lib.Dec.{leb, eqb}
+use lib.ListN.{length, getD, drop}
+use borrow.Author.Tests.{eq-eqb, ne-eqb, le-leb, lt-leb}
+use Rattle.rules.specs.Sizes.{Sizes, mostPlace, firstRecord, recordWords, storeWords}
+use Rattle.rules.specs.Cell.{Reader, reader, content, consumer, producer, part, entry}
+use Rattle.rules.specs.Range.{Sort, unused, exactly, number, link, record-number, most, any, ofSort, ofSorts, every, threadInRange, producerInRange, consumerInRange, contentSorts, entrySorts, partSorts, recordInRange, producerSorts, consumerSorts, idleSorts, placedSorts, cursorSorts}
+use Rattle.rules.specs.Address.{both, There}
+use Rattle.rules.specs.Readback.{true-false}
+use Rattle.rules.specs.Request.{sizesOf}
+use Rattle.store.specs.Caps.{cap, mostWord}
+use Rattle.store.specs.Words.{word-at}
+
+-- words k, k + 1, .. of a row are at most these
+abbrev pub atMost : (ℕ → ℕ) → ℕ → List ℕ → Bool
+atMost row k [] = true
+atMost row k (b ∷ bs) = leb (row k) b && atMost row (suc k) bs
+
+-- the words from `at` on
+abbrev pub from : List ℕ → ℕ → ℕ → ℕ
+from m at k = getD m (at + k) 0
+
+-- sorts that are bounds
+abbrev capped : Sort → Bool
+capped unused = true
+capped (exactly n) = false
+capped number = true
+capped link = true
+capped record-number = false
+capped (most n) = true
+capped any = true
+
+abbrev pub allCapped : List Sort → Bool
+allCapped [] = true
+allCapped (s ∷ ss) = capped s && allCapped ss
+
+zero-test : (x : ℕ) → eqb x 0 ≡ leb x 0
+zero-test zero = refl
+zero-test (suc x) = ne-eqb (suc x) 0 (λ e. omega arith) ∙ sym (lt-leb (suc x) 0 (omega arith))
+
+sort-test : (z : Sizes) (s : Sort) (x : ℕ) → capped s ≡ true → x ≤ mostWord → ofSort z s x ≡ leb x (cap z s)
+sort-test z unused x c w = zero-test x
+sort-test z (exactly n) x c w = absurd (true-false c refl)
+sort-test z number x c w = refl
+sort-test z link x c w = refl
+sort-test z record-number x c w = absurd (true-false c refl)
+sort-test z (most n) x c w = refl
+sort-test z any x c w = sym (le-leb x mostWord w)
+
+-- a row of sorts is a row of bounds
+pub row-test : (z : Sizes) (σ row : ℕ → ℕ) (ss : List Sort) (k : ℕ) → allCapped ss ≡ true
+    → ((j : ℕ) → j < k + length ss → (σ j ≡ row j) × (row j ≤ mostWord))
+    → ofSorts z σ k ss ≡ atMost row k (map (cap z) ss)
+row-test z σ row [] k c h = refl
+row-test z σ row (s ∷ ss) k c h =
+    let e = h k (omega arith) in
+    let d = both (capped s) (allCapped ss) c in
+    ap₂ _&&_ (ap (ofSort z s) (e .0) ∙ sort-test z s (row k) (d .0) (e .1))
+    (row-test z σ row ss (suc k) (d .1) (λ j l. h j (omega arith)))
+
+-- a thread's words in a phase
+pub thread-test : (z : Sizes) (last : ℕ) (sorts : List (List Sort)) (σ row : ℕ → ℕ) (p : ℕ) (ss : List Sort) → σ 0 ≡ p → p ≤ last
+    → getD sorts p [] ≡ ss → allCapped ss ≡ true → length ss ≡ 7 → ((j : ℕ) → j < 8 → (σ j ≡ row j) × (row j ≤ mostWord))
+    → threadInRange z last sorts σ ≡ atMost row 1 (map (cap z) ss)
+thread-test z last sorts σ row p ss e l g c n h =
+    rw (e, le-leb p last l, g) (row-test z σ row ss 1 c (λ j i. h j (omega arith)))
+
+pub thread-past : (z : Sizes) (last : ℕ) (sorts : List (List Sort)) (σ : ℕ → ℕ) (p : ℕ) → σ 0 ≡ p → last < p → threadInRange z last sorts σ ≡ false
+thread-past z last sorts σ p e l = rw (e, lt-leb p last l) refl
+
+-- the same of a producer and of the consumer, from the lent words
+module _ (z : Sizes) (m : List ℕ) (fit : (j : ℕ) → getD m j 0 ≤ mostWord) where
+  producer-phase : (t : ℕ) → (1 ≤ t) × (t ≤ z .P) → (p : ℕ) → getD m (16 + 8 * t) 0 ≡ p → reader z m (producer t 0) ≡ p
+  producer-phase t h p e = word-at z m (producer t 0) (h .0, h .1, omega arith) ∙ ap (λ (x : ℕ). getD m x 0) (omega arith) ∙ e
+
+  pub producer-row : (t : ℕ) → (1 ≤ t) × (t ≤ z .P) → (p : ℕ) (ss : List Sort) → getD m (16 + 8 * t) 0 ≡ p → p ≤ 11 → getD producerSorts p [] ≡ ss
+      → allCapped ss ≡ true → length ss ≡ 7 → producerInRange z (reader z m) t ≡ atMost (from m (16 + 8 * t)) 1 (map (cap z) ss)
+  producer-row t h p ss e l g c n =
+      thread-test z 11 producerSorts (λ j. reader z m (producer t j)) (from m (16 + 8 * t)) p ss (producer-phase t h p e) l g c n
+      (λ j i. (word-at z m (producer t j) (h .0, h .1, i), fit (16 + 8 * t + j)))
+
+  pub producer-past : (t : ℕ) → (1 ≤ t) × (t ≤ z .P) → (p : ℕ) → getD m (16 + 8 * t) 0 ≡ p → 11 < p → producerInRange z (reader z m) t ≡ false
+  producer-past t h p e l = thread-past z 11 producerSorts (λ j. reader z m (producer t j)) p (producer-phase t h p e) l
+
+  pub consumer-row : (p : ℕ) (ss : List Sort) → getD m 16 0 ≡ p → p ≤ 7 → getD consumerSorts p [] ≡ ss
+      → allCapped ss ≡ true → length ss ≡ 7 → consumerInRange z (reader z m) ≡ atMost (from m 16) 1 (map (cap z) ss)
+  consumer-row p ss e l g c n =
+      thread-test z 7 consumerSorts (λ j. reader z m (consumer j)) (from m 16) p ss (word-at z m (consumer 0) (omega arith) ∙ e) l g c n
+      (λ j i. (word-at z m (consumer j) i, fit (16 + j)))
+
+  pub consumer-past : (p : ℕ) → getD m 16 0 ≡ p → 7 < p → consumerInRange z (reader z m) ≡ false
+  consumer-past p e l = thread-past z 7 consumerSorts (λ j. reader z m (consumer j)) p (word-at z m (consumer 0) (omega arith) ∙ e) l
+
+-- the producer's phases but 0, 1, 5, 10 and 11; the consumer's but 3 to 7
+pub placed-phase : (p : ℕ) → p ≤ 11 → (p ≡ 0 → ⊥) → (p ≡ 1 → ⊥) → (p ≡ 5 → ⊥) → (p ≡ 10 → ⊥) → (p ≡ 11 → ⊥) → getD producerSorts p [] ≡ placedSorts
+placed-phase zero h a b c d e = absurd (a refl)
+placed-phase (suc zero) h a b c d e = absurd (b refl)
+placed-phase (suc (suc zero)) h a b c d e = refl
+placed-phase (suc (suc (suc zero))) h a b c d e = refl
+placed-phase (suc (suc (suc (suc zero)))) h a b c d e = refl
+placed-phase (suc (suc (suc (suc (suc zero))))) h a b c d e = absurd (c refl)
+placed-phase (suc (suc (suc (suc (suc (suc zero)))))) h a b c d e = refl
+placed-phase (suc (suc (suc (suc (suc (suc (suc zero))))))) h a b c d e = refl
+placed-phase (suc (suc (suc (suc (suc (suc (suc (suc zero)))))))) h a b c d e = refl
+placed-phase (suc (suc (suc (suc (suc (suc (suc (suc (suc zero))))))))) h a b c d e = refl
+placed-phase (suc (suc (suc (suc (suc (suc (suc (suc (suc (suc zero)))))))))) h a b c d e = absurd (d refl)
+placed-phase (suc (suc (suc (suc (suc (suc (suc (suc (suc (suc (suc zero))))))))))) h a b c d e = absurd (e refl)
+placed-phase (suc (suc (suc (suc (suc (suc (suc (suc (suc (suc (suc (suc p)))))))))))) h a b c d e = absurd (omega arith)
+
+pub idle-phase : (p : ℕ) → p < 3 → getD consumerSorts p [] ≡ idleSorts
+idle-phase zero h = refl
+idle-phase (suc zero) h = refl
+idle-phase (suc (suc zero)) h = refl
+idle-phase (suc (suc (suc p))) h = absurd (omega arith)
+
+pub cursor-phase : (p : ℕ) → 3 ≤ p → p ≤ 7 → (p ≡ 5 → ⊥) → (p ≡ 6 → ⊥) → (p ≡ 7 → ⊥) → getD consumerSorts p [] ≡ cursorSorts
+cursor-phase zero l h a b c = absurd (omega arith)
+cursor-phase (suc zero) l h a b c = absurd (omega arith)
+cursor-phase (suc (suc zero)) l h a b c = absurd (omega arith)
+cursor-phase (suc (suc (suc zero))) l h a b c = refl
+cursor-phase (suc (suc (suc (suc zero)))) l h a b c = refl
+cursor-phase (suc (suc (suc (suc (suc zero))))) l h a b c = absurd (a refl)
+cursor-phase (suc (suc (suc (suc (suc (suc zero)))))) l h a b c = absurd (b refl)
+cursor-phase (suc (suc (suc (suc (suc (suc (suc zero))))))) l h a b c = absurd (c refl)
+cursor-phase (suc (suc (suc (suc (suc (suc (suc (suc p)))))))) l h a b c = absurd (omega arith)
+
+-- tests that agree below n
+pub every-same : (n : ℕ) (p q : ℕ → Bool) → ((i : ℕ) → i < n → p i ≡ q i) → every n p ≡ every n q
+every-same zero p q h = refl
+every-same (suc n) p q h = ap₂ _&&_ (every-same n p q (λ i l. h i (omega arith))) (h n (omega arith))
+
+-- an entry's words from `at` on, `at` its record's first entry
+abbrev pub entryTest : List ℕ → (at top i : ℕ) → Bool
+entryTest m at top i = leb (getD m (at + 3 * i) 0) 2 && leb (getD m (at + 3 * i + 1) 0) top
+
+-- a record's words from `at` on
+pub record-test : (z : Sizes) (m : List ℕ) (r at : ℕ) → r < z .N → at ≡ firstRecord z + r * recordWords z
+    → recordInRange z (reader z m) r
+    ≡ (leb (getD m at 0) mostPlace && (leb (getD m (at + 1) 0) (z .N) && (leb (getD m (at + 2) 0) (z .N) && leb (getD m (at + 3) 0) 3)) && every (z .B) (entryTest m (at + 4) (z .M)))
+record-test z m r at h e = ap₂ _&&_ parts (every-same (z .B) _ (entryTest m (at + 4) (z .M)) entries)
+  where
+    word : (k a : ℕ) → k < 4 → at + k ≡ a → reader z m (part r k) ≡ getD m a 0
+    word k a l i = word-at z m (part r k) (h, l) ∙ ap (λ (x : ℕ). getD m x 0) (omega arith)
+
+    parts : ofSorts z (λ k. reader z m (part r k)) 0 partSorts
+        ≡ (leb (getD m at 0) mostPlace && (leb (getD m (at + 1) 0) (z .N) && (leb (getD m (at + 2) 0) (z .N) && leb (getD m (at + 3) 0) 3)))
+    parts =
+        rw (word 0 at (omega arith) (omega arith), word 1 (at + 1) (omega arith) (omega arith), word 2 (at + 2) (omega arith) (omega arith), word 3 (at + 3) (omega arith) (omega arith), and-true (leb (getD m (at + 3) 0) 3)) refl
+
+    entries : (i : ℕ) → i < z .B → ofSorts z (λ k. reader z m (entry r i k)) 0 entrySorts ≡ entryTest m (at + 4) (z .M) i
+    entries i l =
+        let a : reader z m (entry r i 0) ≡ getD m (at + 4 + 3 * i) 0 = word-at z m (entry r i 0) (h, l, omega arith) ∙ ap (λ (x : ℕ). getD m x 0) (omega arith) in
+        let b : reader z m (entry r i 1) ≡ getD m (at + 4 + 3 * i + 1) 0 = word-at z m (entry r i 1) (h, l, omega arith) ∙ ap (λ (x : ℕ). getD m x 0) (omega arith) in
+        rw (a, b, and-true (leb (getD m (at + 4 + 3 * i + 1) 0) (z .M))) refl
+
+-- contents word by word, words 0 to 3 being the sizes
+pub contents-test : (z : Sizes) (m : List ℕ) → z ≡ sizesOf m
+    → ofSorts z (λ k. reader z m (content k)) 0 (contentSorts z) ≡ ofSorts z (λ k. getD m k 0) 4 (drop 4 (contentSorts z))
+contents-test z m e =
+    rw (word 0 (omega arith), word 1 (omega arith), word 2 (omega arith), word 3 (omega arith), word 4 (omega arith), word 5 (omega arith), word 6 (omega arith), word 7 (omega arith), word 8 (omega arith), word 9 (omega arith), word 10 (omega arith), word 11 (omega arith), word 12 (omega arith), word 13 (omega arith), word 14 (omega arith), word 15 (omega arith), eq-eqb (getD m 0 0) (z .B) (sym (ap (λ (y : Sizes). y .B) e)), eq-eqb (getD m 1 0) (z .N) (sym (ap (λ (y : Sizes). y .N) e)), eq-eqb (getD m 2 0) (z .P) (sym (ap (λ (y : Sizes). y .P) e)), eq-eqb (getD m 3 0) (z .M) (sym (ap (λ (y : Sizes). y .M) e))) refl
+  where
+    word : (k : ℕ) → k < 16 → reader z m (content k) ≡ getD m k 0
+    word k h = word-at z m (content k) h

@@ -1,0 +1,204 @@
+// Admission: refusals 2 and 3 (document 01, "Where a call is turned down"), in one pass over the lent words.
+ghost use mathlib.Core.Path.{_≡_};
+ghost use mathlib.Core.List.{[], _∷_};
+ghost use Prim.Native.Nat.{suc, _+_, _*_, _≤_, _<_};
+ghost use lib.ListN.{length};
+ghost use Rattle.rules.specs.Sizes.{sizesInRange, storeWords};
+ghost use Rattle.rules.specs.Cell.{reader, content};
+ghost use Rattle.rules.specs.Range.{ofSorts, contentSorts, every, consumerInRange, producerInRange, recordInRange, inRange};
+ghost use Rattle.rules.specs.Request.{sizesOf};
+ghost use Rattle.store.specs.Shape.{sizes};
+ghost use Rattle.store.specs.Store.{Room};
+ghost use Rattle.admission.specs.Refusal.{refusal};
+ghost use Rattle.admission.specs.Rows.{atMost, from, entryTest};
+use store::Shape;
+use store::record_at;
+
+// Any 32-bit number.
+const ANY: u32 = 4294967295;
+
+// Whether entries i = 0 to count - 1 from word `at` on are in range: state at most 2, call number at most `most`.
+fn entries_in_range(s: &[u32], at: usize, count: usize, most: u32) -> bool
+    requires { ⌜ (at + 3 * count ≤ length (now s)) × (count ≤ 64) ⌝ }
+    ensures { λ ok. ⌜ every count (entryTest (now (s .entry)) at most) ≡ ok ⌝ }
+{
+    let mut ok = true;
+    let mut i: usize = 0;
+    while i < count {
+        ok = ok & ((s[at + 3 * i] <= 2) & (s[at + 3 * i + 1] <= most));
+        i += 1;
+    }
+    ok
+}
+
+// Place, next, prev, use and the entries of record r.
+fn record_in_range(s: &[u32], z: Shape, r: u32) -> bool
+    requires { ⌜ Room (sizes z) (now s) ⌝ }
+    requires { ⌜ r < z .records ⌝ }
+    ensures { λ ok. ⌜ recordInRange (sizes z) (reader (sizes z) (now (s .entry))) r ≡ ok ⌝ }
+{
+    let at = record_at(z, r) as usize;
+    let n = z.records;
+    let parts = (s[at] <= 500002) & ((s[at + 1] <= n) & ((s[at + 2] <= n) & (s[at + 3] <= 3)));
+    parts & entries_in_range(s, at + 4, z.entries as usize, z.starts)
+}
+
+fn records_in_range(s: &[u32], z: Shape) -> bool
+    requires { ⌜ Room (sizes z) (now s) ⌝ }
+    ensures { λ ok. ⌜ every (z .records) (recordInRange (sizes z) (reader (sizes z) (now (s .entry)))) ≡ ok ⌝ }
+{
+    let mut ok = true;
+    let mut r: u32 = 0;
+    while r < z.records {
+        ok = ok & record_in_range(s, z, r);
+        r += 1;
+    }
+    ok
+}
+
+// Whether words 1 to 6 from word `at` on are at most a to f, and word 7 is zero.
+fn row_at_most(s: &[u32], at: u32, a: u32, b: u32, c: u32, d: u32, e: u32, f: u32) -> bool
+    requires { ⌜ (at ≤ 12696) × (at + 7 < length (now s)) ⌝ }
+    ensures { λ ok. ⌜ atMost (from (now (s .entry)) at) 1 (a ∷ b ∷ c ∷ d ∷ e ∷ f ∷ 0 ∷ []) ≡ ok ⌝ }
+{
+    let i = at as usize;
+    let last = (s[i + 5] <= e) & ((s[i + 6] <= f) & (s[i + 7] <= 0));
+    (s[i + 1] <= a) & ((s[i + 2] <= b) & ((s[i + 3] <= c) & ((s[i + 4] <= d) & last)))
+}
+
+// Phase 0 to 11 of producer t, and the words that the phase uses: call number, value, position, held, claimed, whether
+// phase 7 was taken.
+fn producer_in_range(s: &[u32], z: Shape, t: u32) -> bool
+    requires { ⌜ Room (sizes z) (now s) ⌝ }
+    requires { ⌜ (1 ≤ t) × (t ≤ z .producers) ⌝ }
+    ensures { λ ok. ⌜ producerInRange (sizes z) (reader (sizes z) (now (s .entry))) t ≡ ok ⌝ }
+{
+    let at = 16 + 8 * t;
+    let m = z.starts;
+    let n = z.records;
+    let phase = s[at as usize];
+    if 11 < phase {
+        return false;
+    }
+    match phase {
+        0 => row_at_most(s, at, 0, 0, 0, 0, 0, 0),
+        1 => row_at_most(s, at, m, ANY, 0, 0, 0, 0),
+        5 => row_at_most(s, at, m, ANY, m, n, n, 1),
+        10 => row_at_most(s, at, m, ANY, m, n, 0, 0),
+        11 => row_at_most(s, at, m, ANY, m, n, n, 0),
+        _ => row_at_most(s, at, m, ANY, m, n, 0, 1),
+    }
+}
+
+fn producers_in_range(s: &[u32], z: Shape) -> bool
+    requires { ⌜ Room (sizes z) (now s) ⌝ }
+    ensures { λ ok. ⌜ every (z .producers) (λ p. producerInRange (sizes z) (reader (sizes z) (now (s .entry))) (suc p)) ≡ ok ⌝ }
+{
+    let mut ok = true;
+    let mut t: u32 = 0;
+    while t < z.producers {
+        ok = ok & producer_in_range(s, z, t + 1);
+        t += 1;
+    }
+    ok
+}
+
+// Phase 0 to 7 of the consumer, and the words that the phase uses: cursor record and position, found record and position, the
+// item's call number and value.
+fn consumer_in_range(s: &[u32], z: Shape) -> bool
+    requires { ⌜ Room (sizes z) (now s) ⌝ }
+    ensures { λ ok. ⌜ consumerInRange (sizes z) (reader (sizes z) (now (s .entry))) ≡ ok ⌝ }
+{
+    let m = z.starts;
+    let n = z.records;
+    let phase = s[16];
+    if 7 < phase {
+        return false;
+    }
+    if phase < 3 {
+        return row_at_most(s, 16, 0, 0, 0, 0, 0, 0);
+    }
+    match phase {
+        5 => row_at_most(s, 16, n, m, n, m, 0, 0),
+        6 => row_at_most(s, 16, 0, 0, n, m, 0, 0),
+        7 => row_at_most(s, 16, 0, 0, n, m, m, ANY),
+        _ => row_at_most(s, 16, n, m, 0, 0, 0, 0),
+    }
+}
+
+// Contents as *open* writes them.
+fn contents_in_range(s: &[u32], z: Shape) -> bool
+    requires { ⌜ Room (sizes z) (now s) ⌝ }
+    requires { ⌜ sizes z ≡ sizesOf (now s) ⌝ }
+    ensures { λ ok. ⌜ ofSorts (sizes z) (λ k. reader (sizes z) (now (s .entry)) (content k)) 0 (contentSorts (sizes z)) ≡ ok ⌝ }
+{
+    let m = z.starts;
+    let n = z.records;
+    let first = 16 + 8 * (z.producers + 1);
+    let spare = (s[11] == 0) & ((s[12] == 0) & ((s[13] == 0) & ((s[14] == 0) & (s[15] == 0))));
+    let counts = (s[9] <= m) & ((s[10] <= m) & spare);
+    let records = ((1 <= s[7]) & (s[7] <= n)) & (((1 <= s[8]) & (s[8] <= n)) & counts);
+    (s[4] == 16) & ((s[5] == first) & ((s[6] <= m) & records))
+}
+
+// Every word is in its range.
+fn in_range(s: &[u32], z: Shape) -> bool
+    requires { ⌜ Room (sizes z) (now s) ⌝ }
+    requires { ⌜ sizes z ≡ sizesOf (now s) ⌝ }
+    ensures { λ ok. ⌜ inRange (sizes z) (reader (sizes z) (now (s .entry))) ≡ ok ⌝ }
+{
+    contents_in_range(s, z) & consumer_in_range(s, z) & producers_in_range(s, z) & records_in_range(s, z)
+}
+
+// The sizes that words 0 to 3 give.
+pub fn shape_of(s: &[u32]) -> Shape
+    requires { ⌜ 4 ≤ length (now s) ⌝ }
+    ensures { λ z. ⌜ sizes z ≡ sizesOf (now (s .entry)) ⌝ }
+{
+    Shape {
+        entries: s[0],
+        records: s[1],
+        producers: s[2],
+        starts: s[3],
+    }
+}
+
+// B 2 to 64, N 2 to 64, P 1 to 16, M 1 to 1,000,000.
+pub fn sizes_in_range(z: Shape) -> bool
+    ensures { λ ok. ⌜ sizesInRange (sizes z) ≡ ok ⌝ }
+{
+    let entries = (2 <= z.entries) & (z.entries <= 64);
+    let records = (2 <= z.records) & (z.records <= 64);
+    let producers = (1 <= z.producers) & (z.producers <= 16);
+    let starts = (1 <= z.starts) & (z.starts <= 1000000);
+    entries & records & producers & starts
+}
+
+// The words that a store of these sizes takes.
+pub fn store_words(z: Shape) -> usize
+    requires { ⌜ (z .entries ≤ 64) × (z .records ≤ 64) × (z .producers ≤ 16) ⌝ }
+    ensures { λ n. ⌜ (storeWords (sizes z) ≡ n) × (n ≤ 12696) ⌝ }
+{
+    let words = 16 + 8 * (z.producers + 1) + z.records * (3 * z.entries + 4);
+    words as usize
+}
+
+// The number of the first test that fails, 0 where the words are admitted.
+pub fn admit(s: &[u32]) -> u32
+    ensures { λ n. ⌜ refusal (now (s .entry)) ≡ n ⌝ }
+{
+    if s.len() < 16 {
+        return 2;
+    }
+    let z = shape_of(s);
+    if !sizes_in_range(z) {
+        return 3;
+    }
+    if s.len() < store_words(z) {
+        return 2;
+    }
+    if !in_range(s, z) {
+        return 3;
+    }
+    0
+}

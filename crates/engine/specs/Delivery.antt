@@ -1,0 +1,17 @@
+-- What an export gives back, from what the call inside it says.
+use mathlib.Core.Path.{_≡_, refl, subst}
+use mathlib.Core.List.{List}
+use Prim.Native.Nat.{ℕ}
+use Rattle.rules.specs.Request.{Result}
+use Rattle.store.specs.declared.Reply.{Reply}
+use Rattle.store.specs.Outcome.{response, left}
+use Rattle.engine.specs.Export.{code, replyWords, Returned, returned, Replied, replied}
+
+pub returned-of : (r : Reply) {n : ℕ} {m : List ℕ} {l : Result} → n ≡ code (response r) → left r m ≡ l
+    → _≡_ {A = Returned} (record { number = n; store = m }) (returned l)
+returned-of r {n} {m} c e = subst (λ (l : Result). _≡_ {A = Returned} (record { number = n; store = m }) (returned l)) e (rw c refl)
+
+pub replied-of : (r : Reply) (w : List ℕ) {n : ℕ} {m v : List ℕ} {l : Result} → n ≡ code (response r) → v ≡ replyWords (response r) w → left r m ≡ l
+    → _≡_ {A = Replied} (record { number = n; store = m; reply = v }) (replied l w)
+replied-of r w {n} {m} {v} c f e =
+    subst (λ (l : Result). _≡_ {A = Replied} (record { number = n; store = m; reply = v }) (replied l w)) e (rw (c, f) refl)

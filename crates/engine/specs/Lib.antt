@@ -1,0 +1,3 @@
+pub mod Export
+pub mod Calls
+pub mod Delivery

@@ -1,0 +1,292 @@
+// The calls *open*, *start enqueue*, *start dequeue* and *step* on the lent words (document 01, "Calls"), and their C interface.
+ghost use mathlib.Core.Path.{_≡_};
+ghost use mathlib.Core.Bool.{cond};
+ghost use mathlib.Core.List.{[], _∷_};
+ghost use Prim.Native.Nat.{_≤_};
+ghost use lib.Dec.{eqb};
+ghost use Rattle.rules.specs.Sizes.{firstRecord};
+ghost use Rattle.rules.specs.Cell.{writes, _:=_, content, tailRecord, headRecord, place, used, phase, consumerPhase};
+ghost use Rattle.rules.specs.Free.{lowestFree};
+ghost use Rattle.rules.specs.Rule.{refuse};
+ghost use Rattle.rules.specs.Producer.{producerStep};
+ghost use Rattle.rules.specs.Consumer.{consumerStep};
+ghost use Rattle.rules.specs.Request.{startEnqueue, startDequeue, step, startingEnqueue, startingDequeue, stepping, result, open-store};
+ghost use Rattle.store.specs.Shape.{sizes};
+ghost use Rattle.store.specs.Outcome.{response, left, does};
+ghost use Rattle.store.specs.Store.{Room, Admitted};
+ghost use Rattle.engine.specs.Export.{code, replyWords, returned, replied};
+use admission::admit;
+use admission::shape_of;
+use admission::sizes_in_range;
+use admission::store_words;
+use claim::claim_ahead;
+use claim::claim_record;
+use dequeue::mark_handled;
+use dequeue::read_entry;
+use dequeue::read_front;
+use dequeue::read_item;
+use dequeue::read_tail;
+use dequeue::rescan_on;
+use dequeue::scan_on;
+use enqueue::go_back;
+use enqueue::link_ahead;
+use enqueue::link_claimed;
+use enqueue::load_tail;
+use enqueue::look_next;
+use enqueue::set_entry;
+use enqueue::shift_tail;
+use enqueue::take_position;
+use enqueue::write_entry;
+use store::Reply;
+use store::Shape;
+use store::clear;
+use store::consumer;
+use store::content;
+use store::producer;
+use store::put_consumer;
+use store::put_content;
+use store::put_part;
+use store::put_producer;
+
+// The sizes and first words of a store.
+fn write_contents(s: &mut [u32], z: Shape)
+    requires { ⌜ Room (sizes z) (now s) ⌝ }
+    ensures { λ _. ⌜ now (s .exit) ≡ writes (sizes z) (now (s .entry)) (content 0 := z .entries ∷ content 1 := z .records ∷ content 2 := z .producers ∷ content 3 := z .starts ∷ content 4 := 16 ∷ content 5 := firstRecord (sizes z) ∷ []) ⌝ }
+{
+    put_content(s, z, 0, z.entries);
+    put_content(s, z, 1, z.records);
+    put_content(s, z, 2, z.producers);
+    put_content(s, z, 3, z.starts);
+    put_content(s, z, 4, 16);
+    put_content(s, z, 5, 16 + 8 * (z.producers + 1));
+}
+
+// Record 0 linked with place 1 as head and tail record.
+fn link_first(s: &mut [u32], z: Shape)
+    requires { ⌜ Room (sizes z) (now s) ⌝ }
+    ensures { λ _. ⌜ now (s .exit) ≡ writes (sizes z) (now (s .entry)) (tailRecord := 1 ∷ headRecord := 1 ∷ place 0 := 1 ∷ used 0 := 2 ∷ []) ⌝ }
+{
+    put_content(s, z, 7, 1);
+    put_content(s, z, 8, 1);
+    put_part(s, z, 0, 0, 1);
+    put_part(s, z, 0, 3, 2);
+}
+
+// *Open* zeroes the store, writes the contents, and links record 0.
+pub fn open_store(s: &mut [u32], z: Shape) -> Reply
+    ensures { λ r. ⌜ left r (now (s .exit)) ≡ open-store (sizes z) (now (s .entry)) ⌝ }
+{
+    if !sizes_in_range(z) {
+        return Reply::Refused(1);
+    }
+    let words = store_words(z);
+    if s.len() < words {
+        return Reply::Refused(2);
+    }
+    clear(s, 0, words as u32);
+    write_contents(s, z);
+    link_first(s, z);
+    Reply::Ok
+}
+
+// *Start enqueue* on admitted words: call number starts + 1, phase 1.
+fn begin_enqueue(s: &mut [u32], z: Shape, t: u32, v: u32) -> Reply
+    requires { ⌜ Admitted (sizes z) (now s) ⌝ }
+    ensures { λ r. ⌜ left r (now (s .exit)) ≡ does (startingEnqueue t v) z (now (s .entry)) ⌝ }
+{
+    if t == 0 {
+        return Reply::Refused(4);
+    }
+    if z.producers < t {
+        return Reply::Refused(4);
+    }
+    if producer(s, z, t, 0) != 0 {
+        return Reply::Refused(5);
+    }
+    let starts = content(s, z, 10);
+    if starts == z.starts {
+        return Reply::Refused(6);
+    }
+    put_content(s, z, 10, starts + 1);
+    put_producer(s, z, t, 0, 1);
+    put_producer(s, z, t, 1, starts + 1);
+    put_producer(s, z, t, 2, v);
+    Reply::Started(starts + 1)
+}
+
+// *Start dequeue* on admitted words puts the consumer in phase 1.
+fn begin_dequeue(s: &mut [u32], z: Shape) -> Reply
+    requires { ⌜ Admitted (sizes z) (now s) ⌝ }
+    ensures { λ r. ⌜ left r (now (s .exit)) ≡ does startingDequeue z (now (s .entry)) ⌝ }
+{
+    if consumer(s, z, 0) != 0 {
+        return Reply::Refused(5);
+    }
+    put_consumer(s, z, 0, 1);
+    Reply::Ok
+}
+
+// One phase of producer t.
+fn step_producer(s: &mut [u32], z: Shape, t: u32) -> Reply
+    requires { ⌜ Admitted (sizes z) (now s) ⌝ }
+    requires { ⌜ (1 ≤ t) × (t ≤ z .producers) ⌝ }
+    ensures { λ r. ⌜ left r (now (s .exit)) ≡ does (λ z σ. cond (eqb (σ (phase t)) 0) (refuse 7) (producerStep (lowestFree z σ) z σ t)) z (now (s .entry)) ⌝ }
+{
+    let phase = producer(s, z, t, 0);
+    match phase {
+        1 => take_position(s, z, t),
+        2 => load_tail(s, z, t),
+        3 => look_next(s, z, t),
+        4 => claim_record(s, z, t),
+        5 => link_claimed(s, z, t),
+        6 => shift_tail(s, z, t),
+        7 => go_back(s, z, t),
+        8 => write_entry(s, z, t),
+        9 => set_entry(s, z, t),
+        10 => claim_ahead(s, z, t),
+        11 => link_ahead(s, z, t),
+        0 | 12..=4294967295 => Reply::Refused(7),
+    }
+}
+
+// One phase of the consumer.
+fn step_consumer(s: &mut [u32], z: Shape) -> Reply
+    requires { ⌜ Admitted (sizes z) (now s) ⌝ }
+    ensures { λ r. ⌜ left r (now (s .exit)) ≡ does (λ z σ. cond (eqb (σ consumerPhase) 0) (refuse 7) (consumerStep z σ)) z (now (s .entry)) ⌝ }
+{
+    let phase = consumer(s, z, 0);
+    match phase {
+        1 => read_front(s, z),
+        2 => read_tail(s, z),
+        3 => scan_on(s, z),
+        4 => read_entry(s, z),
+        5 => rescan_on(s, z),
+        6 => read_item(s, z),
+        7 => mark_handled(s, z),
+        0 | 8..=4294967295 => Reply::Refused(7),
+    }
+}
+
+// *Step* (thread) on admitted words does one phase.
+fn step_thread(s: &mut [u32], z: Shape, t: u32) -> Reply
+    requires { ⌜ Admitted (sizes z) (now s) ⌝ }
+    ensures { λ r. ⌜ left r (now (s .exit)) ≡ does (stepping lowestFree t) z (now (s .entry)) ⌝ }
+{
+    if z.producers < t {
+        return Reply::Refused(4);
+    }
+    if t == 0 {
+        return step_consumer(s, z);
+    }
+    step_producer(s, z, t)
+}
+
+// *Start enqueue* (producer, value).
+pub fn start_enqueue(s: &mut [u32], t: u32, v: u32) -> Reply
+    ensures { λ r. ⌜ left r (now (s .exit)) ≡ result lowestFree (startEnqueue t v) (now (s .entry)) ⌝ }
+{
+    let n = admit(s);
+    if n != 0 {
+        return Reply::Refused(n);
+    }
+    begin_enqueue(s, shape_of(s), t, v)
+}
+
+// *Start dequeue*.
+pub fn start_dequeue(s: &mut [u32]) -> Reply
+    ensures { λ r. ⌜ left r (now (s .exit)) ≡ result lowestFree startDequeue (now (s .entry)) ⌝ }
+{
+    let n = admit(s);
+    if n != 0 {
+        return Reply::Refused(n);
+    }
+    begin_dequeue(s, shape_of(s))
+}
+
+// *Step* (thread).
+pub fn step(s: &mut [u32], t: u32) -> Reply
+    ensures { λ r. ⌜ left r (now (s .exit)) ≡ result lowestFree (step t) (now (s .entry)) ⌝ }
+{
+    let n = admit(s);
+    if n != 0 {
+        return Reply::Refused(n);
+    }
+    step_thread(s, shape_of(s), t)
+}
+
+// The number that a reply is returned as.
+fn returned_code(r: Reply) -> u32
+    ensures { λ n. ⌜ n ≡ code (response r) ⌝ }
+{
+    match r {
+        Reply::Refused(n) => n,
+        Reply::Ok => 0,
+        Reply::Started(_) => 0,
+        Reply::Going => 100,
+        Reply::Ended => 101,
+        Reply::Empty => 102,
+        Reply::Item(_, _) => 103,
+    }
+}
+
+// The call number and the value of a reply, stored for the caller.
+fn store_reply(r: Reply, reply: &mut [u32; 4])
+    ensures { λ _. ⌜ now (reply .exit) ≡ replyWords (response r) (now (reply .entry)) ⌝ }
+{
+    match r {
+        Reply::Refused(_) => {}
+        Reply::Ok => {}
+        Reply::Started(number) => {
+            reply[0] = number;
+        }
+        Reply::Going => {}
+        Reply::Ended => {}
+        Reply::Empty => {}
+        Reply::Item(number, value) => {
+            reply[0] = number;
+            reply[1] = value;
+        }
+    }
+}
+
+// *Open* a store of these sizes.
+#[no_mangle]
+pub extern "C" fn intake_open(store: &mut [u32], entries: u32, records: u32, producers: u32, starts: u32) -> u32
+    ensures { λ n. ⌜ record { number = n; store = now (store .exit) } ≡ returned (open-store (record { B = entries; N = records; P = producers; M = starts }) (now (store .entry))) ⌝ }
+{
+    let z = Shape {
+        entries,
+        records,
+        producers,
+        starts,
+    };
+    returned_code(open_store(store, z))
+}
+
+// *Start enqueue*; the call number goes to word 0 of the reply.
+#[no_mangle]
+pub extern "C" fn intake_start_enqueue(store: &mut [u32], producer: u32, value: u32, reply: &mut [u32; 4]) -> u32
+    ensures { λ n. ⌜ record { number = n; store = now (store .exit); reply = now (reply .exit) } ≡ replied (result lowestFree (startEnqueue producer value) (now (store .entry))) (now (reply .entry)) ⌝ }
+{
+    let r = start_enqueue(store, producer, value);
+    store_reply(r, reply);
+    returned_code(r)
+}
+
+// *Start dequeue*.
+#[no_mangle]
+pub extern "C" fn intake_start_dequeue(store: &mut [u32]) -> u32
+    ensures { λ n. ⌜ record { number = n; store = now (store .exit) } ≡ returned (result lowestFree startDequeue (now (store .entry))) ⌝ }
+{
+    returned_code(start_dequeue(store))
+}
+
+// *Step*; an item's call number and value go to words 0 and 1 of the reply.
+#[no_mangle]
+pub extern "C" fn intake_step(store: &mut [u32], thread: u32, reply: &mut [u32; 4]) -> u32
+    ensures { λ n. ⌜ record { number = n; store = now (store .exit); reply = now (reply .exit) } ≡ replied (result lowestFree (step thread) (now (store .entry))) (now (reply .entry)) ⌝ }
+{
+    let r = step(store, thread);
+    store_reply(r, reply);
+    returned_code(r)
+}

@@ -1,0 +1,235 @@
+// The producer's phases but the claims, a function each (document 01, "Calls"). The words are admitted and t is a producer.
+ghost use mathlib.Core.Path.{_≡_};
+ghost use Prim.Native.Nat.{_≤_, _<_};
+ghost use Rattle.rules.specs.Cell.{reader};
+ghost use Rattle.rules.specs.Producer.{choose, takePosition, loadTail, lookNext, linkClaimed, shiftTail, goBack, writeEntry, setEntry, linkAhead};
+ghost use Rattle.store.specs.Shape.{sizes};
+ghost use Rattle.store.specs.Outcome.{left, does};
+ghost use Rattle.store.specs.Store.{Admitted};
+ghost use Rattle.enqueue.specs.Link.{Linked};
+use store::Reply;
+use store::Shape;
+use store::clear_producer;
+use store::content;
+use store::index_in;
+use store::part;
+use store::producer;
+use store::put_content;
+use store::put_entry;
+use store::put_part;
+use store::put_producer;
+use store::record_end;
+
+// 1. Take: L becomes tail, tail grows by one; to 2.
+pub fn take_position(s: &mut [u32], z: Shape, t: u32) -> Reply
+    requires { ⌜ Admitted (sizes z) (now s) ⌝ }
+    requires { ⌜ (1 ≤ t) × (t ≤ z .producers) ⌝ }
+    ensures { λ r. ⌜ left r (now (s .exit)) ≡ does (λ z σ. takePosition z σ t) z (now (s .entry)) ⌝ }
+{
+    let tail = content(s, z, 6);
+    if z.starts <= tail {
+        return Reply::Refused(9);
+    }
+    put_producer(s, z, t, 3, tail);
+    put_content(s, z, 6, tail + 1);
+    put_producer(s, z, t, 0, 2);
+    Reply::Going
+}
+
+// "choose" means: L at or past B × place of the held record goes to 3; L below B × (place − 1) goes to 7; otherwise 8.
+fn choose_phase(s: &[u32], z: Shape, t: u32, r: u32) -> u32
+    requires { ⌜ Admitted (sizes z) (now s) ⌝ }
+    requires { ⌜ (1 ≤ t) × (t ≤ z .producers) × (r < z .records) ⌝ }
+    ensures { λ p. ⌜ choose (sizes z) (reader (sizes z) (now (s .entry))) t r ≡ p ⌝ }
+{
+    let position = producer(s, z, t, 3);
+    let end = record_end(s, z, r);
+    if end <= position {
+        return 3;
+    }
+    if position + z.entries < end {
+        return 7;
+    }
+    8
+}
+
+// 2. Load: hold the tail record; choose.
+pub fn load_tail(s: &mut [u32], z: Shape, t: u32) -> Reply
+    requires { ⌜ Admitted (sizes z) (now s) ⌝ }
+    requires { ⌜ (1 ≤ t) × (t ≤ z .producers) ⌝ }
+    ensures { λ r. ⌜ left r (now (s .exit)) ≡ does (λ z σ. loadTail z σ t) z (now (s .entry)) ⌝ }
+{
+    let tail_record = content(s, z, 7);
+    if tail_record == 0 {
+        return Reply::Refused(9);
+    }
+    let phase = choose_phase(s, z, t, tail_record - 1);
+    put_producer(s, z, t, 4, tail_record);
+    put_producer(s, z, t, 0, phase);
+    Reply::Going
+}
+
+// 3. Look at next of held: none goes to 4, otherwise 6.
+pub fn look_next(s: &mut [u32], z: Shape, t: u32) -> Reply
+    requires { ⌜ Admitted (sizes z) (now s) ⌝ }
+    requires { ⌜ (1 ≤ t) × (t ≤ z .producers) ⌝ }
+    ensures { λ r. ⌜ left r (now (s .exit)) ≡ does (λ z σ. lookNext z σ t) z (now (s .entry)) ⌝ }
+{
+    let held = producer(s, z, t, 4);
+    if held == 0 {
+        return Reply::Refused(9);
+    }
+    if part(s, z, held - 1, 1) == 0 {
+        put_producer(s, z, t, 0, 4);
+        return Reply::Going;
+    }
+    put_producer(s, z, t, 0, 6);
+    Reply::Going
+}
+
+// Link: if next of held is none, the claimed record becomes it, linked, prev held, place one more. Otherwise it is given
+// back, use 0. False, and nothing stored, where a needed link is none or the place would leave its range.
+fn link(s: &mut [u32], z: Shape, t: u32) -> bool
+    requires { ⌜ Admitted (sizes z) (now s) ⌝ }
+    requires { ⌜ (1 ≤ t) × (t ≤ z .producers) ⌝ }
+    ensures { λ ok. ⌜ Linked (sizes z) (now (s .entry)) t ok (now (s .exit)) ⌝ }
+{
+    let held = producer(s, z, t, 4);
+    if held == 0 {
+        return false;
+    }
+    let claimed = producer(s, z, t, 5);
+    if claimed == 0 {
+        return false;
+    }
+    if part(s, z, held - 1, 1) != 0 {
+        put_part(s, z, claimed - 1, 3, 0);
+        return true;
+    }
+    let place = part(s, z, held - 1, 0);
+    if 500002 <= place {
+        return false;
+    }
+    put_part(s, z, held - 1, 1, claimed);
+    put_part(s, z, claimed - 1, 3, 2);
+    put_part(s, z, claimed - 1, 2, held);
+    put_part(s, z, claimed - 1, 0, place + 1);
+    true
+}
+
+// 5. Link. To 6.
+pub fn link_claimed(s: &mut [u32], z: Shape, t: u32) -> Reply
+    requires { ⌜ Admitted (sizes z) (now s) ⌝ }
+    requires { ⌜ (1 ≤ t) × (t ≤ z .producers) ⌝ }
+    ensures { λ r. ⌜ left r (now (s .exit)) ≡ does (λ z σ. linkClaimed z σ t) z (now (s .entry)) ⌝ }
+{
+    if !link(s, z, t) {
+        return Reply::Refused(9);
+    }
+    put_producer(s, z, t, 5, 0);
+    put_producer(s, z, t, 0, 6);
+    Reply::Going
+}
+
+// 6. Shift: if the tail record is the held one, it becomes next of held. To 2.
+pub fn shift_tail(s: &mut [u32], z: Shape, t: u32) -> Reply
+    requires { ⌜ Admitted (sizes z) (now s) ⌝ }
+    requires { ⌜ (1 ≤ t) × (t ≤ z .producers) ⌝ }
+    ensures { λ r. ⌜ left r (now (s .exit)) ≡ does (λ z σ. shiftTail z σ t) z (now (s .entry)) ⌝ }
+{
+    let held = producer(s, z, t, 4);
+    if held == 0 {
+        return Reply::Refused(9);
+    }
+    if content(s, z, 7) != held {
+        put_producer(s, z, t, 0, 2);
+        return Reply::Going;
+    }
+    let next = part(s, z, held - 1, 1);
+    if next == 0 {
+        return Reply::Refused(9);
+    }
+    put_content(s, z, 7, next);
+    put_producer(s, z, t, 0, 2);
+    Reply::Going
+}
+
+// 7. Back: hold prev of held; choose.
+pub fn go_back(s: &mut [u32], z: Shape, t: u32) -> Reply
+    requires { ⌜ Admitted (sizes z) (now s) ⌝ }
+    requires { ⌜ (1 ≤ t) × (t ≤ z .producers) ⌝ }
+    ensures { λ r. ⌜ left r (now (s .exit)) ≡ does (λ z σ. goBack z σ t) z (now (s .entry)) ⌝ }
+{
+    let held = producer(s, z, t, 4);
+    if held == 0 {
+        return Reply::Refused(9);
+    }
+    let prev = part(s, z, held - 1, 2);
+    if prev == 0 {
+        return Reply::Refused(9);
+    }
+    let phase = choose_phase(s, z, t, prev - 1);
+    put_producer(s, z, t, 4, prev);
+    put_producer(s, z, t, 6, 1);
+    put_producer(s, z, t, 0, phase);
+    Reply::Going
+}
+
+// 8. Write call number and value into the entry; to 9.
+pub fn write_entry(s: &mut [u32], z: Shape, t: u32) -> Reply
+    requires { ⌜ Admitted (sizes z) (now s) ⌝ }
+    requires { ⌜ (1 ≤ t) × (t ≤ z .producers) ⌝ }
+    ensures { λ r. ⌜ left r (now (s .exit)) ≡ does (λ z σ. writeEntry z σ t) z (now (s .entry)) ⌝ }
+{
+    let held = producer(s, z, t, 4);
+    if held == 0 {
+        return Reply::Refused(9);
+    }
+    let i = index_in(s, z, held - 1, producer(s, z, t, 3));
+    if z.entries <= i {
+        return Reply::Refused(9);
+    }
+    let call = producer(s, z, t, 1);
+    let value = producer(s, z, t, 2);
+    put_entry(s, z, held - 1, i, 1, call);
+    put_entry(s, z, held - 1, i, 2, value);
+    put_producer(s, z, t, 0, 9);
+    Reply::Going
+}
+
+// 9. Set the entry. If the index is 1 and phase 7 was never taken, to 10; otherwise end.
+pub fn set_entry(s: &mut [u32], z: Shape, t: u32) -> Reply
+    requires { ⌜ Admitted (sizes z) (now s) ⌝ }
+    requires { ⌜ (1 ≤ t) × (t ≤ z .producers) ⌝ }
+    ensures { λ r. ⌜ left r (now (s .exit)) ≡ does (λ z σ. setEntry z σ t) z (now (s .entry)) ⌝ }
+{
+    let held = producer(s, z, t, 4);
+    if held == 0 {
+        return Reply::Refused(9);
+    }
+    let i = index_in(s, z, held - 1, producer(s, z, t, 3));
+    if z.entries <= i {
+        return Reply::Refused(9);
+    }
+    let ahead = (i == 1) & (producer(s, z, t, 6) == 0);
+    put_entry(s, z, held - 1, i, 0, 1);
+    if ahead {
+        put_producer(s, z, t, 0, 10);
+        return Reply::Going;
+    }
+    clear_producer(s, z, t);
+    Reply::Ended
+}
+
+// 11. As 5, then end. The tail record does not move.
+pub fn link_ahead(s: &mut [u32], z: Shape, t: u32) -> Reply
+    requires { ⌜ Admitted (sizes z) (now s) ⌝ }
+    requires { ⌜ (1 ≤ t) × (t ≤ z .producers) ⌝ }
+    ensures { λ r. ⌜ left r (now (s .exit)) ≡ does (λ z σ. linkAhead z σ t) z (now (s .entry)) ⌝ }
+{
+    if !link(s, z, t) {
+        return Reply::Refused(9);
+    }
+    clear_producer(s, z, t);
+    Reply::Ended
+}

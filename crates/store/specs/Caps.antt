@@ -1,0 +1,38 @@
+-- The most that a word in range may hold, whatever the phase.
+use mathlib.Core.List.{List, [], _∷_}
+use Prim.Native.Nat.{ℕ}
+use lib.ListN.{getD}
+use Rattle.rules.specs.Sizes.{Sizes, mostPlace}
+use Rattle.rules.specs.Cell.{Cell, content, consumer, producer, part, entry}
+use Rattle.rules.specs.Range.{Sort, unused, exactly, number, link, record-number, most, any}
+
+-- the largest 32-bit number
+abbrev pub mostWord : ℕ
+mostWord = 4294967295
+
+-- the most that a word of a sort may hold
+abbrev pub cap : Sizes → Sort → ℕ
+cap z unused = 0
+cap z (exactly n) = n
+cap z number = z .M
+cap z link = z .N
+cap z record-number = z .N
+cap z (most n) = n
+cap z any = mostWord
+
+-- words 1 to 7 of a producer and of the consumer, in any phase
+abbrev pub producerCaps : Sizes → List ℕ
+producerCaps z = z .M ∷ mostWord ∷ z .M ∷ z .N ∷ z .N ∷ 1 ∷ 0 ∷ []
+
+abbrev pub consumerCaps : Sizes → List ℕ
+consumerCaps z = z .N ∷ z .M ∷ z .N ∷ z .M ∷ z .M ∷ mostWord ∷ 0 ∷ []
+
+abbrev pub contentCaps : Sizes → List ℕ
+contentCaps z = z .B ∷ z .N ∷ z .P ∷ z .M ∷ 16 ∷ mostWord ∷ z .M ∷ z .N ∷ z .N ∷ z .M ∷ z .M ∷ 0 ∷ 0 ∷ 0 ∷ 0 ∷ 0 ∷ []
+
+abbrev pub capOf : Sizes → Cell → ℕ
+capOf z (content k) = getD (contentCaps z) k 0
+capOf z (consumer k) = getD (7 ∷ consumerCaps z) k 0
+capOf z (producer t k) = getD (11 ∷ producerCaps z) k 0
+capOf z (part r k) = getD (mostPlace ∷ z .N ∷ z .N ∷ 3 ∷ []) k 0
+capOf z (entry r i k) = getD (2 ∷ z .M ∷ mostWord ∷ []) k 0

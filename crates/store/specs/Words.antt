@@ -1,0 +1,157 @@
+-- Laws of the accessors: a cell that is there is one word, a word in range is at most its cap, and zeros written one by one.
+use mathlib.Core.Path.{_≡_, refl, ap, sym, _∙_, subst}
+use mathlib.Core.Bool.{Bool, true, false, _&&_, cond}
+use mathlib.Core.List.{List, [], _∷_, _++_}
+use Prim.Native.Nat.{ℕ, zero, suc, _+_, _*_, _≤_, _<_}
+use native.Mathlib.Nat.{mul-le-mul-left, mul-le-mul-right}
+use native.Mathlib.Omega.{arith}
+use lib.Dec.{leb, eqb}
+use lib.ListN.{length, getD, set, drop, replicate, length-replicate}
+use lib.Seq.{sets, sets-eq}
+use borrow.Author.Tests.{leb-true, eqb-true}
+use Rattle.rules.specs.Sizes.{Sizes, recordWords, firstRecord, storeWords}
+use Rattle.rules.specs.Cell.{Cell, content, consumer, producer, part, entry, address, there, Reader, reader}
+use Rattle.rules.specs.Range.{Sort, unused, exactly, number, link, record-number, most, any, ofSort, ofSorts, threadInRange, consumerSorts, producerSorts, contentSorts}
+use Rattle.rules.specs.Address.{both, There, there-is, address-below}
+use Rattle.rules.specs.InRange.{InRange, sorts-at, sortOf}
+use Rattle.store.specs.Caps.{cap, capOf, mostWord, producerCaps, consumerCaps, contentCaps}
+use Rattle.store.specs.Store.{Room, Admitted, Reads}
+
+-- a cell that is there is the word at its address
+pub word-at : (z : Sizes) (m : List ℕ) (c : Cell) → There z c → reader z m c ≡ getD m (address z c) 0
+unfolding reader
+word-at z m c h = rw (there-is z c h)
+
+-- a word of a sort is at most the sort's cap
+sort-cap : (z : Sizes) (s : Sort) (x : ℕ) → x ≤ mostWord → ofSort z s x ≡ true → x ≤ cap z s
+sort-cap z unused x w e = omega (arith, eqb-true x 0 e)
+sort-cap z (exactly n) x w e = omega (arith, eqb-true x n e)
+sort-cap z number x w e = leb-true x (z .M) e
+sort-cap z link x w e = leb-true x (z .N) e
+sort-cap z record-number x w e = leb-true x (z .N) (both (leb 1 x) (leb x (z .N)) e .1)
+sort-cap z (most n) x w e = leb-true x n e
+sort-cap z any x w e = w
+
+-- the caps of the sorts are within these
+abbrev Under : Sizes → List Sort → List ℕ → Type 0
+Under z [] [] = Unit
+Under z [] (b ∷ bs) = ⊥
+Under z (s ∷ ss) [] = ⊥
+Under z (s ∷ ss) (b ∷ bs) = (cap z s ≤ b) × Under z ss bs
+
+under-at : (z : Sizes) (ss : List Sort) (bs : List ℕ) → Under z ss bs → (j : ℕ) → j < length bs → cap z (getD ss j any) ≤ getD bs j 0
+under-at z [] [] u j h = absurd (omega arith)
+under-at z [] (b ∷ bs) u j h = absurd u
+under-at z (s ∷ ss) [] u j h = absurd u
+under-at z (s ∷ ss) (b ∷ bs) u zero h = u .0
+under-at z (s ∷ ss) (b ∷ bs) u (suc j) h = under-at z ss bs (u .1) j (omega arith)
+
+-- a thread's words 1 to 7 in any phase
+producer-under : (z : Sizes) (p : ℕ) → p ≤ 11 → Under z (getD producerSorts p []) (producerCaps z)
+producer-under z zero h = omega arith
+producer-under z (suc zero) h = omega arith
+producer-under z (suc (suc zero)) h = omega arith
+producer-under z (suc (suc (suc zero))) h = omega arith
+producer-under z (suc (suc (suc (suc zero)))) h = omega arith
+producer-under z (suc (suc (suc (suc (suc zero))))) h = omega arith
+producer-under z (suc (suc (suc (suc (suc (suc zero)))))) h = omega arith
+producer-under z (suc (suc (suc (suc (suc (suc (suc zero))))))) h = omega arith
+producer-under z (suc (suc (suc (suc (suc (suc (suc (suc zero)))))))) h = omega arith
+producer-under z (suc (suc (suc (suc (suc (suc (suc (suc (suc zero))))))))) h = omega arith
+producer-under z (suc (suc (suc (suc (suc (suc (suc (suc (suc (suc zero)))))))))) h = omega arith
+producer-under z (suc (suc (suc (suc (suc (suc (suc (suc (suc (suc (suc zero))))))))))) h = omega arith
+producer-under z (suc (suc (suc (suc (suc (suc (suc (suc (suc (suc (suc (suc p)))))))))))) h = absurd (omega arith)
+
+consumer-under : (z : Sizes) (p : ℕ) → p ≤ 7 → Under z (getD consumerSorts p []) (consumerCaps z)
+consumer-under z zero h = omega arith
+consumer-under z (suc zero) h = omega arith
+consumer-under z (suc (suc zero)) h = omega arith
+consumer-under z (suc (suc (suc zero))) h = omega arith
+consumer-under z (suc (suc (suc (suc zero)))) h = omega arith
+consumer-under z (suc (suc (suc (suc (suc zero))))) h = omega arith
+consumer-under z (suc (suc (suc (suc (suc (suc zero)))))) h = omega arith
+consumer-under z (suc (suc (suc (suc (suc (suc (suc zero))))))) h = omega arith
+consumer-under z (suc (suc (suc (suc (suc (suc (suc (suc p)))))))) h = absurd (omega arith)
+
+-- two rows of the same length
+under-length : (z : Sizes) (ss : List Sort) (bs : List ℕ) → Under z ss bs → length bs ≤ length ss
+under-length z [] [] u = omega arith
+under-length z [] (b ∷ bs) u = absurd u
+under-length z (s ∷ ss) [] u = absurd u
+under-length z (s ∷ ss) (b ∷ bs) u = let h = under-length z ss bs (u .1) in omega arith
+
+-- a word of a thread whose phase is at most `last` is within the caps, if the sorts of every phase are
+thread-cap : (z : Sizes) (last : ℕ) (sorts : List (List Sort)) (bs : List ℕ) (row : ℕ → ℕ)
+    → ((p : ℕ) → p ≤ last → Under z (getD sorts p []) bs)
+    → threadInRange z last sorts row ≡ true → (k : ℕ) → k < suc (length bs) → row k ≤ mostWord → row k ≤ getD (last ∷ bs) k 0
+thread-cap z last sorts bs row under e zero h w =
+    leb-true (row 0) last (both (leb (row 0) last) (ofSorts z row 1 (getD sorts (row 0) [])) e .0)
+thread-cap z last sorts bs row under e (suc j) h w =
+    let b = both (leb (row 0) last) (ofSorts z row 1 (getD sorts (row 0) [])) e in
+    let u = under (row 0) (leb-true (row 0) last (b .0)) in
+    let n = under-length z (getD sorts (row 0) []) bs u in
+    let x = sort-cap z (getD (getD sorts (row 0) []) j any) (row (suc j)) w (sorts-at z row 1 (getD sorts (row 0) []) (b .1) j (suc j) (omega arith) (omega arith)) in
+    let y = under-at z (getD sorts (row 0) []) bs u j (omega arith) in
+    omega arith
+
+part-cap : (z : Sizes) (k : ℕ) → k < 4 → cap z (sortOf z (part 0 k)) ≤ capOf z (part 0 k)
+part-cap z zero h = omega arith
+part-cap z (suc zero) h = omega arith
+part-cap z (suc (suc zero)) h = omega arith
+part-cap z (suc (suc (suc zero))) h = omega arith
+part-cap z (suc (suc (suc (suc k)))) h = absurd (omega arith)
+
+entry-cap : (z : Sizes) (k : ℕ) → k < 3 → cap z (sortOf z (entry 0 0 k)) ≤ capOf z (entry 0 0 k)
+entry-cap z zero h = omega arith
+entry-cap z (suc zero) h = omega arith
+entry-cap z (suc (suc zero)) h = omega arith
+entry-cap z (suc (suc (suc k))) h = absurd (omega arith)
+
+content-under : (z : Sizes) → firstRecord z ≤ mostWord → Under z (contentSorts z) (contentCaps z)
+content-under z f = omega arith
+
+-- a word in range is at most its cap
+in-range-most : (z : Sizes) (m : List ℕ) → Admitted z m → (c : Cell) → There z c → reader z m c ≤ mostWord → reader z m c ≤ capOf z c
+in-range-most z m a (content k) h w =
+    let x = sort-cap z (getD (contentSorts z) k any) (reader z m (content k)) w (a .ranges .words (content k) h) in
+    let y = under-at z (contentSorts z) (contentCaps z) (content-under z (omega arith)) k h in
+    omega arith
+in-range-most z m a (consumer k) h w =
+    thread-cap z 7 consumerSorts (consumerCaps z) (λ j. reader z m (consumer j)) (consumer-under z) (a .ranges .consuming) k h w
+in-range-most z m a (producer t k) h w =
+    thread-cap z 11 producerSorts (producerCaps z) (λ j. reader z m (producer t j)) (producer-under z) (a .ranges .producing t (h .0) (h .1)) k (h .2) w
+in-range-most z m a (part r k) h w =
+    let x = sort-cap z (sortOf z (part r k)) (reader z m (part r k)) w (a .ranges .words (part r k) h) in
+    let y = part-cap z k (h .1) in
+    omega arith
+in-range-most z m a (entry r i k) h w =
+    let x = sort-cap z (sortOf z (entry r i k)) (reader z m (entry r i k)) w (a .ranges .words (entry r i k) h) in
+    let y = entry-cap z k (h .2) in
+    omega arith
+
+-- What a read of the word at a cell's address answers.
+pub reads-word : (z : Sizes) (m : List ℕ) (c : Cell) → Admitted z m → There z c → (at : ℕ) → at ≡ address z c → getD m at 0 ≤ mostWord → Reads z m c (getD m at 0)
+reads-word z m c a h at e w =
+    let i : reader z m c ≡ getD m at 0 = word-at z m c h ∙ ap (λ (x : ℕ). getD m x 0) (sym e) in
+    record { is = i; most = subst (λ (x : ℕ). x ≤ capOf z c) i (in-range-most z m a c h (rw i w)) }
+
+-- a cell's address is in the lent words
+pub inside-words : (z : Sizes) (m : List ℕ) (c : Cell) → Room z m → There z c → address z c < length m
+inside-words z m c r h = omega (arith, address-below z c h)
+
+-- zeros written one by one
+pub clear-more : (n : ℕ) (l : List ℕ) (at : ℕ) → set (sets l at (replicate n 0)) (at + n) 0 ≡ sets l at (replicate (suc n) 0)
+clear-more zero l at = ap (λ (i : ℕ). set l i 0) (omega arith)
+clear-more (suc n) l at = ap (λ (i : ℕ). set (sets (set l at 0) (suc at) (replicate n 0)) i 0) (omega arith) ∙ clear-more n (set l at 0) (suc at)
+
+-- the last record's first word, from the first record's
+pub record-below : (B r : ℕ) → B ≤ 64 → r < 64 → r * (3 * B + 4) ≤ 12348
+record-below B r b h = let l : r ≤ 63 = omega arith in omega (arith, mul-le-mul-right (3 * B + 4) l)
+
+-- a record is in the lent words
+pub record-inside : (z : Sizes) (m : List ℕ) (r : ℕ) → Room z m → r < z .N → firstRecord z + r * recordWords z + recordWords z ≤ length m
+record-inside z m r room h = omega (arith, mul-le-mul-right (recordWords z) h)
+
+-- B × place fits
+pub end-below : (B q : ℕ) → B ≤ 64 → q ≤ 500002 → B * q ≤ 32000128
+end-below B q b h = omega (arith, mul-le-mul-right q b, mul-le-mul-left 64 h)
