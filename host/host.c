@@ -1,0 +1,98 @@
+/*
+ * A host of the intake: sixteen producers and the consumer under a seeded random scheduler.
+ *
+ *     host [SEED [ITEMS]]
+ *
+ * Each producer enqueues ITEMS values, its number times 65,536 plus 0, 1, 2, ..; the host picks at random whose step is next, and now and
+ * then stops a producer for a while. It prints what the consumer received and checks that each producer's values arrive whole and in the
+ * order in which it enqueued them.
+ */
+#include <stdio.h>
+#include <stdlib.h>
+
+#include "intake.h"
+
+enum { ENTRIES = 8, RECORDS = 12, PRODUCERS = 16, PRINTED = 12 };
+
+static uint32_t store[INTAKE_WORDS(ENTRIES, RECORDS, PRODUCERS)];
+static const size_t words = sizeof store / sizeof store[0];
+
+static uint64_t state;
+
+/* xorshift, so that a seed gives the same run everywhere */
+static uint32_t draw(uint32_t below) {
+    state ^= state << 13;
+    state ^= state >> 7;
+    state ^= state << 17;
+    return (uint32_t)((state >> 33) % below);
+}
+
+static void fail(const char *what, uint32_t number) {
+    fprintf(stderr, "host: %s: %u\n", what, (unsigned)number);
+    exit(1);
+}
+
+int main(int argc, char **argv) {
+    uint32_t seed = argc > 1 ? (uint32_t)strtoul(argv[1], NULL, 10) : 1;
+    uint32_t items = argc > 2 ? (uint32_t)strtoul(argv[2], NULL, 10) : 500;
+    uint32_t sent[PRODUCERS + 1] = {0}, received[PRODUCERS + 1] = {0}, busy[PRODUCERS + 1] = {0}, stopped[PRODUCERS + 1] = {0};
+    uint32_t total = 0, empties = 0, refusals = 0;
+    uint64_t steps = 0;
+
+    if (items == 0 || items > 60000) fail("items must be 1 to 60000, not", items);
+    state = 0x9e3779b97f4a7c15u ^ seed;
+    uint32_t opened = intake_open(store, words, ENTRIES, RECORDS, PRODUCERS, PRODUCERS * items);
+    if (opened != INTAKE_OK) fail("open", opened);
+
+    while (total < PRODUCERS * items) {
+        uint32_t reply[4] = {0}, thread = draw(PRODUCERS + 1), answer;
+        if (stopped[thread] > 0) {
+            stopped[thread]--;
+            continue;
+        }
+        if (thread > 0 && draw(50) == 0) stopped[thread] = draw(200);
+        if (!busy[thread]) {
+            if (thread == 0) {
+                answer = intake_start_dequeue(store, words);
+            } else if (sent[thread] == items) {
+                continue;
+            } else {
+                answer = intake_start_enqueue(store, words, thread, thread * 65536 + sent[thread]++, reply);
+            }
+            if (answer != INTAKE_OK) fail("start", answer);
+            busy[thread] = 1;
+            continue;
+        }
+        answer = intake_step(store, words, thread, reply);
+        steps++;
+        switch (answer) {
+        case INTAKE_GOING:
+            break;
+        case INTAKE_END:
+            busy[thread] = 0;
+            break;
+        case INTAKE_EMPTY:
+            busy[thread] = 0;
+            empties++;
+            break;
+        case INTAKE_ITEM: {
+            uint32_t from = reply[1] / 65536, place = reply[1] % 65536;
+            busy[thread] = 0;
+            if (total < PRINTED) printf("call %u: producer %u, its item %u\n", (unsigned)reply[0], (unsigned)from, (unsigned)place);
+            if (total == PRINTED) printf("..\n");
+            if (from < 1 || from > PRODUCERS || place != received[from]) fail("an item out of its producer's order", reply[1]);
+            received[from]++;
+            total++;
+            break;
+        }
+        case 8: /* no record free: the consumer or a stopped producer must go on first */
+            refusals++;
+            break;
+        default:
+            fail("step", answer);
+        }
+    }
+    printf("%u items received, each producer's in its order; %llu steps, %u empty answers, %u times no record free\n", (unsigned)total,
+           (unsigned long long)steps, (unsigned)empties, (unsigned)refusals);
+    return 0;
+}

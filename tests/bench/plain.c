@@ -1,0 +1,321 @@
+/* The rules of the intake in plain C, with the same admission: the yardstick for the engine's speed. Written from the paper by hand;
+ * bench.c also holds it to the engine word for word. */
+#include "plain.h"
+
+enum { TAIL = 6, TAIL_RECORD, HEAD_RECORD, HEAD_POSITION, STARTS };
+enum { PHASE, CALL, VALUE, POSITION, HELD, CLAIMED, BACKED };
+enum { CURSOR_RECORD = 1, CURSOR_POSITION, FOUND_RECORD, FOUND_POSITION, ITEM_NUMBER, ITEM_VALUE };
+enum { PLACE, NEXT, PREV, USE };
+enum { MOST_PLACE = 500002 };
+
+typedef struct {
+    uint32_t *s, B, N, P, M, first, size;
+} Store;
+
+static uint32_t *record(Store *z, uint32_t stored) { return z->s + z->first + (size_t)(stored - 1) * z->size; }
+static uint32_t *thread(Store *z, uint32_t t) { return z->s + 16 + 8 * (size_t)t; }
+
+static int number_ok(const Store *z, uint32_t x) { return x <= z->M; }
+static int link_ok(const Store *z, uint32_t x) { return x <= z->N; }
+
+static int producer_ok(const Store *z, const uint32_t *w) {
+    uint32_t p = w[PHASE];
+    if (p > 11) return 0;
+    if (p == 0) return (w[1] | w[2] | w[3] | w[4] | w[5] | w[6] | w[7]) == 0;
+    if (!number_ok(z, w[CALL]) || w[7] != 0) return 0;
+    if (p == 1) return (w[3] | w[4] | w[5] | w[6]) == 0;
+    if (!number_ok(z, w[POSITION]) || !link_ok(z, w[HELD])) return 0;
+    if (p == 5 || p == 11 ? !link_ok(z, w[CLAIMED]) : w[CLAIMED] != 0) return 0;
+    return p >= 10 ? w[BACKED] == 0 : w[BACKED] <= 1;
+}
+
+static int consumer_ok(const Store *z, const uint32_t *w) {
+    uint32_t p = w[PHASE];
+    if (p > 7 || w[7] != 0) return 0;
+    int cursor = p >= 3 && p <= 5, found = p >= 5, item = p == 7;
+    if (cursor ? !link_ok(z, w[1]) || !number_ok(z, w[2]) : (w[1] | w[2]) != 0) return 0;
+    if (found ? !link_ok(z, w[3]) || !number_ok(z, w[4]) : (w[3] | w[4]) != 0) return 0;
+    return item ? number_ok(z, w[5]) : (w[5] | w[6]) == 0;
+}
+
+static int record_ok(const Store *z, const uint32_t *w) {
+    uint32_t bad = (w[PLACE] > MOST_PLACE) | (w[NEXT] > z->N) | (w[PREV] > z->N) | (w[USE] > 3);
+    for (uint32_t i = 0; i < z->B; i++) bad |= (w[4 + 3 * i] > 2) | (w[5 + 3 * i] > z->M);
+    return !bad;
+}
+
+static uint32_t admit(Store *z, uint32_t *s, size_t words) {
+    if (words < 16) return 2;
+    *z = (Store){s, s[0], s[1], s[2], s[3], 0, 0};
+    if (z->B < 2 || z->B > 64 || z->N < 2 || z->N > 64 || z->P < 1 || z->P > 16 || z->M < 1 || z->M > 1000000) return 3;
+    z->first = 16 + 8 * (z->P + 1);
+    z->size = 3 * z->B + 4;
+    if (words < z->first + (size_t)z->N * z->size) return 2;
+    if (s[4] != 16 || s[5] != z->first || s[TAIL] > z->M || s[TAIL_RECORD] < 1 || s[TAIL_RECORD] > z->N || s[HEAD_RECORD] < 1 ||
+        s[HEAD_RECORD] > z->N || s[HEAD_POSITION] > z->M || s[STARTS] > z->M || (s[11] | s[12] | s[13] | s[14] | s[15]) != 0)
+        return 3;
+    if (!consumer_ok(z, thread(z, 0))) return 3;
+    for (uint32_t t = 1; t <= z->P; t++)
+        if (!producer_ok(z, thread(z, t))) return 3;
+    for (uint32_t r = 1; r <= z->N; r++)
+        if (!record_ok(z, record(z, r))) return 3;
+    return 0;
+}
+
+static void clear(uint32_t *w, uint32_t n) {
+    for (uint32_t i = 0; i < n; i++) w[i] = 0;
+}
+
+static uint32_t end(uint32_t *w, uint32_t answer) {
+    clear(w, 8);
+    return answer;
+}
+
+static uint32_t choose(const Store *z, uint32_t L, uint32_t place) {
+    uint32_t e = z->B * place;
+    return L >= e ? 3 : L + z->B < e ? 7 : 8;
+}
+
+/* the entry at position p of a record, or none if the index leaves it */
+static uint32_t *entry(Store *z, uint32_t *r, uint32_t p) {
+    uint32_t e = z->B * r[PLACE];
+    return p < e && e <= p + z->B ? r + 4 + 3 * (p + z->B - e) : 0;
+}
+
+static int is_free(Store *z, uint32_t r) {
+    uint32_t use = record(z, r)[USE];
+    if (use != 3) return use == 0;
+    for (uint32_t t = 1; t <= z->P; t++)
+        if (thread(z, t)[HELD] == r || thread(z, t)[CLAIMED] == r) return 0;
+    return 1;
+}
+
+static int claim(Store *z, uint32_t *w, uint32_t phase) {
+    for (uint32_t r = 1; r <= z->N; r++)
+        if (is_free(z, r)) {
+            clear(record(z, r), z->size);
+            record(z, r)[USE] = 1;
+            w[CLAIMED] = r;
+            w[PHASE] = phase;
+            return 1;
+        }
+    return 0;
+}
+
+static int link_claimed(Store *z, uint32_t *w) {
+    if (!w[HELD] || !w[CLAIMED]) return 0;
+    uint32_t *h = record(z, w[HELD]), *c = record(z, w[CLAIMED]);
+    if (h[NEXT] == 0) {
+        uint32_t place = h[PLACE] + 1;
+        if (place > MOST_PLACE) return 0;
+        h[NEXT] = w[CLAIMED];
+        c[USE] = 2;
+        c[PREV] = w[HELD];
+        c[PLACE] = place;
+    } else {
+        c[USE] = 0;
+    }
+    return 1;
+}
+
+static uint32_t produce(Store *z, uint32_t t) {
+    uint32_t *w = thread(z, t), *s = z->s, *h = w[HELD] ? record(z, w[HELD]) : 0, *e, L = w[POSITION];
+    switch (w[PHASE]) {
+    case 1:
+        if (s[TAIL] == z->M) return 9;
+        w[POSITION] = s[TAIL]++;
+        w[PHASE] = 2;
+        return 100;
+    case 2:
+        w[HELD] = s[TAIL_RECORD];
+        w[PHASE] = choose(z, L, record(z, w[HELD])[PLACE]);
+        return 100;
+    case 3:
+        if (!h) return 9;
+        w[PHASE] = h[NEXT] ? 6 : 4;
+        return 100;
+    case 4:
+        return claim(z, w, 5) ? 100 : 8;
+    case 5:
+        if (!link_claimed(z, w)) return 9;
+        w[CLAIMED] = 0;
+        w[PHASE] = 6;
+        return 100;
+    case 6:
+        if (!h) return 9;
+        if (s[TAIL_RECORD] == w[HELD]) {
+            if (!h[NEXT]) return 9;
+            s[TAIL_RECORD] = h[NEXT];
+        }
+        w[PHASE] = 2;
+        return 100;
+    case 7:
+        if (!h || !h[PREV]) return 9;
+        w[HELD] = h[PREV];
+        w[BACKED] = 1;
+        w[PHASE] = choose(z, L, record(z, w[HELD])[PLACE]);
+        return 100;
+    case 8:
+        if (!h || !(e = entry(z, h, L))) return 9;
+        e[1] = w[CALL];
+        e[2] = w[VALUE];
+        w[PHASE] = 9;
+        return 100;
+    case 9:
+        if (!h || !(e = entry(z, h, L))) return 9;
+        e[0] = 1;
+        if (e == h + 7 && !w[BACKED]) {
+            w[PHASE] = 10;
+            return 100;
+        }
+        return end(w, 101);
+    case 10:
+        return claim(z, w, 11) ? 100 : end(w, 101);
+    default:
+        return link_claimed(z, w) ? end(w, 101) : 9;
+    }
+}
+
+/* the record behind r and its first position; 0 if a link or a number is not there */
+static int cross(Store *z, const uint32_t *r, uint32_t *to, uint32_t *at) {
+    if (!r[NEXT]) return 0;
+    uint32_t place = record(z, r[NEXT])[PLACE];
+    if (!place || (uint64_t)z->B * (place - 1) > z->M) return 0;
+    *to = r[NEXT];
+    *at = z->B * (place - 1);
+    return 1;
+}
+
+static uint32_t consume(Store *z, uint32_t reply[4]) {
+    uint32_t *w = thread(z, 0), *s = z->s, *r, *e, to, at;
+    switch (w[PHASE]) {
+    case 1:
+        r = record(z, s[HEAD_RECORD]);
+        if (s[HEAD_POSITION] == z->B * r[PLACE]) {
+            if (s[HEAD_RECORD] == s[TAIL_RECORD]) return end(w, 102);
+            if (!cross(z, r, &to, &at)) return 9;
+            s[HEAD_RECORD] = to;
+            s[HEAD_POSITION] = at;
+            r[USE] = 3;
+            return 100;
+        }
+        if (!(e = entry(z, r, s[HEAD_POSITION]))) return 9;
+        if (e[0] == 0) {
+            w[PHASE] = 2;
+        } else if (e[0] == 1) {
+            w[FOUND_RECORD] = s[HEAD_RECORD];
+            w[FOUND_POSITION] = s[HEAD_POSITION];
+            w[PHASE] = 6;
+        } else {
+            if (s[HEAD_POSITION] == z->M) return 9;
+            s[HEAD_POSITION]++;
+        }
+        return 100;
+    case 2:
+        if (s[TAIL] == s[HEAD_POSITION]) return end(w, 102);
+        if (s[HEAD_POSITION] == z->M) return 9;
+        w[CURSOR_RECORD] = s[HEAD_RECORD];
+        w[CURSOR_POSITION] = s[HEAD_POSITION] + 1;
+        w[PHASE] = 3;
+        return 100;
+    case 3:
+        if (!w[CURSOR_RECORD]) return 9;
+        r = record(z, w[CURSOR_RECORD]);
+        if (w[CURSOR_POSITION] == z->B * r[PLACE]) {
+            if (w[CURSOR_RECORD] == s[TAIL_RECORD]) return end(w, 102);
+            if (!cross(z, r, &to, &at)) return 9;
+            w[CURSOR_RECORD] = to;
+            w[CURSOR_POSITION] = at;
+            return 100;
+        }
+        if (w[CURSOR_POSITION] == s[TAIL]) return end(w, 102);
+        w[PHASE] = 4;
+        return 100;
+    case 4:
+        if (!w[CURSOR_RECORD] || !(e = entry(z, record(z, w[CURSOR_RECORD]), w[CURSOR_POSITION]))) return 9;
+        if (e[0] == 1) {
+            w[FOUND_RECORD] = w[CURSOR_RECORD];
+            w[FOUND_POSITION] = w[CURSOR_POSITION];
+            w[CURSOR_RECORD] = s[HEAD_RECORD];
+            w[CURSOR_POSITION] = s[HEAD_POSITION];
+            w[PHASE] = 5;
+        } else {
+            if (w[CURSOR_POSITION] == z->M) return 9;
+            w[CURSOR_POSITION]++;
+            w[PHASE] = 3;
+        }
+        return 100;
+    case 5:
+        if (!w[CURSOR_RECORD]) return 9;
+        r = record(z, w[CURSOR_RECORD]);
+        if (w[CURSOR_POSITION] == z->B * r[PLACE]) {
+            if (!cross(z, r, &to, &at)) return 9;
+            w[CURSOR_RECORD] = to;
+            w[CURSOR_POSITION] = at;
+        } else {
+            if (!(e = entry(z, r, w[CURSOR_POSITION]))) return 9;
+            if (e[0] == 1) {
+                w[FOUND_RECORD] = w[CURSOR_RECORD];
+                w[FOUND_POSITION] = w[CURSOR_POSITION];
+                w[CURSOR_RECORD] = s[HEAD_RECORD];
+                w[CURSOR_POSITION] = s[HEAD_POSITION];
+            } else {
+                if (w[CURSOR_POSITION] == z->M) return 9;
+                w[CURSOR_POSITION]++;
+            }
+        }
+        if (w[CURSOR_POSITION] == w[FOUND_POSITION]) {
+            w[CURSOR_RECORD] = w[CURSOR_POSITION] = 0;
+            w[PHASE] = 6;
+        }
+        return 100;
+    case 6:
+        if (!w[FOUND_RECORD] || !(e = entry(z, record(z, w[FOUND_RECORD]), w[FOUND_POSITION]))) return 9;
+        w[ITEM_NUMBER] = e[1];
+        w[ITEM_VALUE] = e[2];
+        w[PHASE] = 7;
+        return 100;
+    default:
+        if (!w[FOUND_RECORD] || !(e = entry(z, record(z, w[FOUND_RECORD]), w[FOUND_POSITION]))) return 9;
+        if (w[FOUND_POSITION] == s[HEAD_POSITION]) {
+            if (s[HEAD_POSITION] == z->M) return 9;
+            s[HEAD_POSITION]++;
+        }
+        e[0] = 2;
+        reply[0] = w[ITEM_NUMBER];
+        reply[1] = w[ITEM_VALUE];
+        return end(w, 103);
+    }
+}
+
+uint32_t plain_start_enqueue(uint32_t *s, size_t words, uint32_t t, uint32_t value, uint32_t reply[4]) {
+    Store z;
+    uint32_t no = admit(&z, s, words);
+    if (no) return no;
+    if (t < 1 || t > z.P) return 4;
+    uint32_t *w = thread(&z, t);
+    if (w[PHASE]) return 5;
+    if (s[STARTS] == z.M) return 6;
+    w[PHASE] = 1;
+    reply[0] = w[CALL] = ++s[STARTS];
+    w[VALUE] = value;
+    return 0;
+}
+
+uint32_t plain_start_dequeue(uint32_t *s, size_t words) {
+    Store z;
+    uint32_t no = admit(&z, s, words);
+    if (no) return no;
+    if (s[16]) return 5;
+    s[16] = 1;
+    return 0;
+}
+
+uint32_t plain_step(uint32_t *s, size_t words, uint32_t t, uint32_t reply[4]) {
+    Store z;
+    uint32_t no = admit(&z, s, words);
+    if (no) return no;
+    if (t > z.P) return 4;
+    if (!thread(&z, t)[PHASE]) return 7;
+    return t ? produce(&z, t) : consume(&z, reply);
+}

@@ -1,0 +1,74 @@
+"""The engine's C interface for Python: the static library as a shared object, called through ctypes."""
+
+import ctypes
+import os
+import subprocess
+import tempfile
+
+ROOT = os.path.dirname(os.path.dirname(os.path.abspath(__file__)))
+ARCHIVE = os.path.join(ROOT, 'target', 'staticlib', 'libengine.a')
+
+GOING, END, EMPTY, ITEM = 100, 101, 102, 103
+
+
+def archive():
+    """The engine's archive, proved and written anew if it is not there."""
+    if not os.path.exists(ARCHIVE):
+        subprocess.run(['rt', 'staticlib', 'engine'], cwd=ROOT, check=True, stdout=subprocess.DEVNULL)
+    return ARCHIVE
+
+
+def load():
+    """The engine as a ctypes library."""
+    folder = tempfile.mkdtemp()
+    shared = os.path.join(folder, 'libengine.so')
+    subprocess.run(['gcc', '-shared', '-o', shared, '-Wl,--whole-archive', archive(), '-Wl,--no-whole-archive'], check=True)
+    library = ctypes.CDLL(shared)
+    word, words, size = ctypes.c_uint32, ctypes.POINTER(ctypes.c_uint32), ctypes.c_size_t
+    library.intake_open.argtypes = [words, size, word, word, word, word]
+    library.intake_start_enqueue.argtypes = [words, size, word, word, words]
+    library.intake_start_dequeue.argtypes = [words, size]
+    library.intake_step.argtypes = [words, size, word, words]
+    for name in ('intake_open', 'intake_start_enqueue', 'intake_start_dequeue', 'intake_step'):
+        getattr(library, name).restype = word
+    return library
+
+
+class Engine:
+    """Calls on a store that is lent as an array of words, with a reply buffer of four words."""
+
+    MARK = (0xA5A5A5A5, 0x5A5A5A5A, 0xDEADBEEF, 0x01234567)
+
+    def __init__(self, library, words):
+        self.library = library
+        self.store = (ctypes.c_uint32 * len(words))(*words)
+        self.reply = (ctypes.c_uint32 * 4)()
+
+    def words(self):
+        return list(self.store)
+
+    def open(self, sizes):
+        return self.library.intake_open(self.store, len(self.store), *sizes)
+
+    def call(self, call):
+        """The number that a start or step returns; the reply buffer is marked before."""
+        self.reply[:] = self.MARK
+        n = len(self.store)
+        if call[0] == 'e':
+            return self.library.intake_start_enqueue(self.store, n, call[1], call[2], self.reply)
+        if call[0] == 'd':
+            return self.library.intake_start_dequeue(self.store, n)
+        return self.library.intake_step(self.store, n, call[1], self.reply)
+
+
+def expected(reply):
+    """What the interface returns for a reply of the model, and the reply buffer then."""
+    mark = list(Engine.MARK)
+    kind = reply[0]
+    if kind == 'refused':
+        return reply[1], mark
+    if kind == 'ok':
+        return 0, ([reply[1]] if len(reply) == 2 else mark[:1]) + mark[1:]
+    if kind == 'item':
+        return ITEM, [reply[1], reply[2]] + mark[2:]
+    return {'going': GOING, 'end': END, 'empty': EMPTY}[kind], mark

@@ -1,0 +1,145 @@
+"""The engine through its C interface, word for word against the independent model."""
+
+import os
+import random
+import subprocess
+import unittest
+
+import engine_library
+import intake_model as model
+
+LARGEST = (64, 64, 16, 1000000)
+
+
+def random_sizes(rng):
+    return rng.choice([(2, 2, 1, 9), (2, 2, 2, 12), (2, 3, 3, 20), (3, 4, 4, 30), (4, 3, 5, 40), (5, 5, 16, 64), (8, 6, 7, 50)])
+
+
+def random_call(rng, producers):
+    """A start or a step, sometimes of a thread that there is not."""
+    thread = rng.randint(0, producers) if rng.random() < 0.97 else rng.choice([producers + 1, 17, 2**31, 2**32 - 1])
+    draw = rng.random()
+    if draw < 0.12:
+        return ('e', thread, rng.choice([0, 1, 7, 2**32 - 1, rng.getrandbits(32)]))
+    if draw < 0.17:
+        return ('d',)
+    return ('s', thread)
+
+
+def damaged(rng, words):
+    """The store with a few words changed, or of another length, or all at random."""
+    words = list(words)
+    draw = rng.random()
+    if draw < 0.70:
+        for _ in range(rng.choice([1, 1, 1, 2, 3])):
+            at = rng.randrange(len(words))
+            words[at] = rng.choice([0, 1, 2, 3, 4, words[at] + 1, max(words[at], 1) - 1, rng.randrange(70), 2**32 - 1, 500002, 500003]) % 2**32
+    elif draw < 0.80:
+        words = words[: rng.randrange(len(words) + 1)]
+    elif draw < 0.90:
+        words = [rng.choice([0, 0, 1, 2, 3, rng.getrandbits(32)]) for _ in range(rng.randrange(120))]
+    else:
+        words += [rng.getrandbits(32) for _ in range(rng.randrange(1, 9))]
+    return words
+
+
+class Differential(unittest.TestCase):
+    @classmethod
+    def setUpClass(cls):
+        cls.library = engine_library.load()
+
+    def both(self, engine, words, call):
+        """One call on both; replies, reply buffers and all words must be the same."""
+        before = list(words)
+        want = model.do(words, call)
+        number, buffer = engine_library.expected(want)
+        self.assertEqual(engine.call(call), number, (before, call))
+        self.assertEqual(list(engine.reply), buffer, (before, call))
+        self.assertEqual(engine.words(), words, (before, call))
+        if want[0] == 'refused':
+            self.assertEqual(words, before)
+        return want
+
+    def test_schedules(self):
+        """A phase, a reply or a word that differs from the rules on stores that only the engine has written."""
+        rng, seen, calls = random.Random(11), {}, 0
+        while calls < 170000:
+            sizes = random_sizes(rng)
+            words = [rng.getrandbits(32) for _ in range(model.needed_words(*sizes[:3]) + rng.randrange(3))]
+            engine = engine_library.Engine(self.library, words)
+            self.assertEqual(model.open_store(words, *sizes), ('ok',))
+            self.assertEqual(engine.open(sizes), 0)
+            self.assertEqual(engine.words(), words)
+            for _ in range(rng.randrange(100, 1200)):
+                reply = self.both(engine, words, random_call(rng, sizes[2]))
+                seen[reply[:2] if reply[0] == 'refused' else reply[0]] = True
+                calls += 1
+        for kind in ('ok', 'going', 'end', 'empty', 'item', ('refused', 4), ('refused', 5), ('refused', 6), ('refused', 7), ('refused', 8)):
+            self.assertIn(kind, seen)
+
+    def test_damaged_stores(self):
+        """A damaged store that is followed and not refused, or refused with another number, or changed by a refusal."""
+        rng, seen, calls = random.Random(12), {}, 0
+        while calls < 45000:
+            sizes = random_sizes(rng)
+            run = model.Recorder(*sizes)
+            for _ in range(rng.randrange(200)):
+                run.call(random_call(rng, sizes[2]))
+            for _ in range(60):
+                words = damaged(rng, run.words)
+                reply = self.both(engine_library.Engine(self.library, words), words, random_call(rng, sizes[2]))
+                seen[reply[:2] if reply[0] == 'refused' else reply[0]] = seen.get(reply[:2] if reply[0] == 'refused' else reply[0], 0) + 1
+                calls += 1
+        for number in (2, 3, 4, 5, 7, 9):
+            self.assertGreater(seen.get(('refused', number), 0), 0, number)
+
+    def test_largest_store(self):
+        """A bound or an address that fails only at the largest sizes."""
+        rng = random.Random(13)
+        words = [1] * (model.needed_words(*LARGEST[:3]) + 2)
+        engine = engine_library.Engine(self.library, words)
+        model.open_store(words, *LARGEST)
+        self.assertEqual(engine.open(LARGEST), 0)
+        for _ in range(2500):
+            self.both(engine, words, random_call(rng, 16))
+        for at in [0, 5, 15, 16, 143, 151, 152, 155, 12695] + [rng.randrange(12696) for _ in range(150)]:
+            spoiled = list(words)
+            spoiled[at] = 2**32 - 1
+            self.both(engine_library.Engine(self.library, spoiled), spoiled, random_call(rng, 16))
+
+    def test_open(self):
+        """An open that takes sizes outside the limits, a short store, or writes past the store."""
+        rng = random.Random(14)
+        limits = [0, 1, 2, 3, 63, 64, 65, 2**32 - 1]
+        for _ in range(3000):
+            sizes = (rng.choice(limits), rng.choice(limits), rng.choice([0, 1, 2, 15, 16, 17]), rng.choice([0, 1, 9, 1000000, 1000001]))
+            need = model.needed_words(*sizes[:3]) if max(sizes[:3]) < 70 else 100
+            length = max(0, rng.choice([need, need - 1, need + 3, 0, 15, 16]))
+            words = [rng.getrandbits(32)] * min(length, 13000)
+            engine = engine_library.Engine(self.library, words)
+            number, _ = engine_library.expected(model.open_store(words, *sizes))
+            self.assertEqual(engine.open(sizes), number, sizes)
+            self.assertEqual(engine.words(), words)
+
+
+class Host(unittest.TestCase):
+    def make(self, target):
+        return subprocess.run(['make', '-s', '-C', os.path.join(engine_library.ROOT, 'host'), target], capture_output=True, text=True)
+
+    def test_host(self):
+        """A host that does not build without warnings, or that sees a producer's items out of order."""
+        engine_library.archive()
+        done = self.make('run')
+        self.assertEqual(done.returncode, 0, done.stderr)
+        self.assertIn("8000 items received, each producer's in its order", done.stdout)
+
+    def test_host_sanitized(self):
+        """An access outside the lent memory, or undefined behaviour, at the boundary."""
+        engine_library.archive()
+        done = self.make('sanitized')
+        self.assertEqual(done.returncode, 0, done.stderr)
+        self.assertIn("800 items received, each producer's in its order", done.stdout)
+
+
+if __name__ == '__main__':
+    unittest.main()
