@@ -18,7 +18,7 @@
  *     5  that thread has a call under way
  *     6  all enqueue starts have been used
  *     7  the thread is idle
- *     8  no record is free (a step of an enqueue; try again after a dequeue, or after a stopped producer has been stepped on)
+ *     8  no record is free: a step of an enqueue, which may be made again once one is (docs/STEPS.md, "Room", says how to avoid it)
  *     9  a link is missing, an index leaves its record or a number its range (never on a store that only the engine has written)
  */
 #ifndef INTAKE_H
@@ -38,6 +38,9 @@ enum {
     INTAKE_EMPTY = 102, /* step: the dequeue has ended, nothing was there */
     INTAKE_ITEM = 103   /* step: the dequeue has ended with an item */
 };
+
+/* Two words of the store that a host may read between calls: the positions taken so far, and the position of the head. */
+enum { INTAKE_TAIL = 6, INTAKE_HEAD = 9 };
 
 /* The words that a store of these sizes takes. */
 #define INTAKE_WORDS(entries, records, producers) (16u + 8u * ((producers) + 1u) + (records) * (3u * (entries) + 4u))
