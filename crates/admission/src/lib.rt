@@ -168,7 +168,10 @@ fn in_range(s: &[u32], z: Shape) -> bool
     requires { ⌜ sizes z ≡ sizesOf (now s) ⌝ }
     ensures { λ ok. ⌜ inRange (sizes z) (reader (sizes z) (now (s .entry))) ≡ ok ⌝ }
 {
-    contents_in_range(s, z) & consumer_in_range(s, z) & producers_in_range(s, z) & records_in_range(s, z)
+    contents_in_range(s, z)
+        & consumer_in_range(s, z)
+        & producers_in_range(s, z)
+        & records_in_range(s, z)
 }
 
 // The sizes that words 0 to 3 give.

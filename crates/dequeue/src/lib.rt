@@ -36,15 +36,24 @@ fn cross_from(s: &[u32], z: Shape, r: u32) -> Crossing
 {
     let next = part(s, z, r, 1);
     if next == 0 {
-        return Crossing { record: 0, position: 0 };
+        return Crossing {
+            record: 0,
+            position: 0,
+        };
     }
     let place = part(s, z, next - 1, 0);
     if place == 0 {
-        return Crossing { record: 0, position: 0 };
+        return Crossing {
+            record: 0,
+            position: 0,
+        };
     }
     let position = z.entries * (place - 1);
     if z.starts < position {
-        return Crossing { record: 0, position: 0 };
+        return Crossing {
+            record: 0,
+            position: 0,
+        };
     }
     Crossing {
         record: next,

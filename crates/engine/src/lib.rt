@@ -251,7 +251,13 @@ fn store_reply(r: Reply, reply: &mut [u32; 4])
 
 // *Open* a store of these sizes.
 #[no_mangle]
-pub extern "C" fn intake_open(store: &mut [u32], entries: u32, records: u32, producers: u32, starts: u32) -> u32
+pub extern "C" fn intake_open(
+    store: &mut [u32],
+    entries: u32,
+    records: u32,
+    producers: u32,
+    starts: u32,
+) -> u32
     ensures { λ n. ⌜ record { number = n; store = now (store .exit) } ≡ returned (open-store (record { B = entries; N = records; P = producers; M = starts }) (now (store .entry))) ⌝ }
 {
     let z = Shape {
@@ -265,7 +271,12 @@ pub extern "C" fn intake_open(store: &mut [u32], entries: u32, records: u32, pro
 
 // *Start enqueue*; the call number goes to word 0 of the reply.
 #[no_mangle]
-pub extern "C" fn intake_start_enqueue(store: &mut [u32], producer: u32, value: u32, reply: &mut [u32; 4]) -> u32
+pub extern "C" fn intake_start_enqueue(
+    store: &mut [u32],
+    producer: u32,
+    value: u32,
+    reply: &mut [u32; 4],
+) -> u32
     ensures { λ n. ⌜ record { number = n; store = now (store .exit); reply = now (reply .exit) } ≡ replied (result lowestFree (startEnqueue producer value) (now (store .entry))) (now (reply .entry)) ⌝ }
 {
     let r = start_enqueue(store, producer, value);

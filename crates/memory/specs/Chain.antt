@@ -50,20 +50,20 @@ module _ {N lo hi : ℕ} {r place next prev used : ℕ → ℕ} (nonempty : lo �
       → Chain N lo hi r place′ next′ prev′ used′
   chain-kept place′ next′ prev′ used′ same none =
       let on : (k : ℕ) → lo ≤ k → k ≤ hi → (place′ (r k) ≡ place (r k)) × (next′ (r k) ≡ next (r k)) × (prev′ (r k) ≡ prev (r k)) × (used′ (r k) ≡ 2) =
-          λ k a b. same (r k) (c .linked k a b) in
-      record
-        { fits = c .fits
-        ; linked = λ k a b. on k a b .3
-        ; placed = λ k a b. on k a b .0 ∙ c .placed k a b
-        ; nexts = λ k a b. on k a (omega arith) .1 ∙ c .nexts k a b
-        ; last = on hi nonempty (omega arith) .1 ∙ c .last
-        ; prevs = λ k a b. on (suc k) (omega arith) b .2 ∙ c .prevs k a b
-        ; only =
+      λ k a b. same (r k) (c .linked k a b) in
+      record {
+        fits = c .fits;
+        linked = λ k a b. on k a b .3;
+        placed = λ k a b. on k a b .0 ∙ c .placed k a b;
+        nexts = λ k a b. on k a (omega arith) .1 ∙ c .nexts k a b;
+        last = on hi nonempty (omega arith) .1 ∙ c .last;
+        prevs = λ k a b. on (suc k) (omega arith) b .2 ∙ c .prevs k a b;
+        only =
             λ x u.
             let o = c .only x (none x u) in
             let e = same x (none x u) .0 in
-            (rw e (o .0), rw e (o .1), ap r e ∙ o .2)
-        }
+            (rw e (o .0), rw e (o .1), ap r e ∙ o .2);
+      }
 
   -- A record x that was not linked is linked behind the last one.
   pub chain-grows : (place′ next′ prev′ used′ : ℕ → ℕ) (x : ℕ) → x < N → (used x ≡ 2 → ⊥)
@@ -73,15 +73,15 @@ module _ {N lo hi : ℕ} {r place next prev used : ℕ → ℕ} (nonempty : lo �
       → ((y : ℕ) → (y ≡ x → ⊥) → (y ≡ r hi → ⊥) → next′ y ≡ next y)
       → Chain N lo (suc hi) (at r (suc hi) x) place′ next′ prev′ used′
   chain-grows place′ next′ prev′ used′ x fits unlinked p n v u joined same others =
-      record
-        { fits = each (λ k y. y < N) fits (c .fits)
-        ; linked = each (λ k y. used′ y ≡ 2) u (λ k a b. same (r k) (other k a b) .2 ∙ c .linked k a b)
-        ; placed = each (λ k y. place′ y ≡ k) p (λ k a b. same (r k) (other k a b) .0 ∙ c .placed k a b)
-        ; nexts = λ k a b. rw (old k (omega arith)) (behind k a b (ℕ-discrete k hi))
-        ; last = rw new n
-        ; prevs = λ k a b. rw (old k (omega arith)) (before k a b (ℕ-discrete k hi))
-        ; only = λ y w. found y w (ℕ-discrete y x)
-        }
+      record {
+        fits = each (λ k y. y < N) fits (c .fits);
+        linked = each (λ k y. used′ y ≡ 2) u (λ k a b. same (r k) (other k a b) .2 ∙ c .linked k a b);
+        placed = each (λ k y. place′ y ≡ k) p (λ k a b. same (r k) (other k a b) .0 ∙ c .placed k a b);
+        nexts = λ k a b. rw (old k (omega arith)) (behind k a b (ℕ-discrete k hi));
+        last = rw new n;
+        prevs = λ k a b. rw (old k (omega arith)) (before k a b (ℕ-discrete k hi));
+        only = λ y w. found y w (ℕ-discrete y x);
+      }
     where
       new : at r (suc hi) x (suc hi) ≡ x
       new = at-same r (suc hi) x
@@ -122,15 +122,15 @@ module _ {N lo hi : ℕ} {r place next prev used : ℕ → ℕ} (nonempty : lo �
   pub chain-shrinks : (used′ : ℕ → ℕ) → lo < hi → used′ (r lo) ≡ 3 → ((y : ℕ) → (y ≡ r lo → ⊥) → used′ y ≡ used y)
       → Chain N (suc lo) hi r place next prev used′
   chain-shrinks used′ more gone same =
-      record
-        { fits = λ k a b. c .fits k (omega arith) b
-        ; linked = λ k a b. same (r k) (other k a b) ∙ c .linked k (omega arith) b
-        ; placed = λ k a b. c .placed k (omega arith) b
-        ; nexts = λ k a b. c .nexts k (omega arith) b
-        ; last = c .last
-        ; prevs = λ k a b. c .prevs k (omega arith) b
-        ; only = λ y w. found y w (ℕ-discrete y (r lo))
-        }
+      record {
+        fits = λ k a b. c .fits k (omega arith) b;
+        linked = λ k a b. same (r k) (other k a b) ∙ c .linked k (omega arith) b;
+        placed = λ k a b. c .placed k (omega arith) b;
+        nexts = λ k a b. c .nexts k (omega arith) b;
+        last = c .last;
+        prevs = λ k a b. c .prevs k (omega arith) b;
+        only = λ y w. found y w (ℕ-discrete y (r lo));
+      }
     where
       other : (k : ℕ) → suc lo ≤ k → k ≤ hi → r k ≡ r lo → ⊥
       other k a b e =

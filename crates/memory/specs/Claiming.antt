@@ -44,8 +44,8 @@ free-has z σ r e = go (eqb (σ (used r)) 0) refl
         inr (eqb-true (σ (used r)) 3 (p .0), unheld (p .1))
 
 module _ (z : Sizes) (σ : Reader) (g : Shape) (m : Memory z σ g) (t r p : ℕ)
-         (a-producer : (1 ≤ t) × (t ≤ z .P)) (fits : r < z .N) (is-free : free z σ r ≡ true)
-         (holds-one : σ (held t) ≢ 0) where
+    (a-producer : (1 ≤ t) × (t ≤ z .P)) (fits : r < z .N) (is-free : free z σ r ≡ true)
+    (holds-one : σ (held t) ≢ 0) where
   abbrev σ′ : Reader
   σ′ = after σ (claimWrites t r p)
 
@@ -85,26 +85,26 @@ module _ (z : Sizes) (σ : Reader) (g : Shape) (m : Memory z σ g) (t r p : ℕ)
   new-blank : Blank (z .N) σ′ r
   new-blank =
       let e : eqb r r ≡ true = eq-eqb r r refl in
-      record
-        { fits = fits
-        ; claimed-use = rw e refl
-        ; no-place = rw e refl
-        ; no-next = rw e refl
-        ; no-prev = rw e refl
-        ; no-entry = λ i k. rw e refl
-        }
+      record {
+        fits = fits;
+        claimed-use = rw e refl;
+        no-place = rw e refl;
+        no-next = rw e refl;
+        no-prev = rw e refl;
+        no-entry = λ i k. rw e refl;
+      }
 
   claimed-word : rowOf σ′ t 5 ≡ suc r
   claimed-word = rw (eq-eqb t t refl) refl
 
   own-row : ThreadOk (z .N) (g .lo) σ′ (rowOf σ′ t)
   own-row =
-      record
-        { holding = held-kept (z .N) (g .lo) (g .lo) σ σ′ (σ (held t)) (λ x e h. held-others t x e h) (m .threads t .holding)
-        ; claiming = rw claimed-word new-blank
-        ; has-held = λ h. holds-one
-        ; has-claimed = λ h q. omega (arith, claimed-word)
-        }
+      record {
+        holding = held-kept (z .N) (g .lo) (g .lo) σ σ′ (σ (held t)) (λ x e h. held-others t x e h) (m .threads t .holding);
+        claiming = rw claimed-word new-blank;
+        has-held = λ h. holds-one;
+        has-claimed = λ h q. omega (arith, claimed-word);
+      }
 
   other-rows : (u : ℕ) → (t ≡ u → ⊥) → ThreadOk (z .N) (g .lo) σ′ (rowOf σ u)
   other-rows u n =
@@ -123,26 +123,26 @@ module _ (z : Sizes) (σ : Reader) (g : Shape) (m : Memory z σ g) (t r p : ℕ)
 
   pub claim-keeps : Memory z (after σ (claimWrites t r p)) g
   claim-keeps =
-      record
-        { head-tail = m .head-tail
-        ; tail-last = m .tail-last
-        ; chain =
+      record {
+        head-tail = m .head-tail;
+        tail-last = m .tail-last;
+        chain =
             chain-kept (omega (arith, m .head-tail, m .tail-last)) (m .chain)
             (λ x. σ′ (place x))
             (λ x. σ′ (next x))
             (λ x. σ′ (prev x))
             (λ x. σ′ (used x))
             (λ x l. let o = others x (λ q. not-linked (rw q l)) in (o .0 0, o .0 1, o .0 2, o .0 3 ∙ l))
-            used-word
-        ; tail-is = m .tail-is
-        ; head-is = m .head-is
-        ; threads = every-row t σ σ′ kept (λ u row. ThreadOk (z .N) (g .lo) σ′ row) own-row other-rows
-        ; apart = λ u v x e f. alone u v x e f (ℕ-discrete t u) (ℕ-discrete t v)
-        ; cursor = linked-kept (σ cursorRecord) (m .cursor)
-        ; found = linked-kept (σ foundRecord) (m .found)
-        ; unset = λ x i a b n e. still-unset x i a b n e (ℕ-discrete r x)
-        ; outside = outside-kept z t σ σ′ a-producer kept (m .outside)
-        }
+            used-word;
+        tail-is = m .tail-is;
+        head-is = m .head-is;
+        threads = every-row t σ σ′ kept (λ u row. ThreadOk (z .N) (g .lo) σ′ row) own-row other-rows;
+        apart = λ u v x e f. alone u v x e f (ℕ-discrete t u) (ℕ-discrete t v);
+        cursor = linked-kept (σ cursorRecord) (m .cursor);
+        found = linked-kept (σ foundRecord) (m .found);
+        unset = λ x i a b n e. still-unset x i a b n e (ℕ-discrete r x);
+        outside = outside-kept z t σ σ′ a-producer kept (m .outside);
+      }
     where
       new-word : (u x : ℕ) → t ≡ u → rowOf σ′ u 5 ≡ suc x → r ≡ x
       new-word u x q e =

@@ -26,12 +26,12 @@ module _ (N lo lo′ : ℕ) (σ σ′ : Reader) where
       → ((r : ℕ) → row 5 ≡ suc r → Blank N σ r → Blank N σ′ r)
       → ThreadOk N lo σ row → ThreadOk N lo′ σ′ row
   thread-kept row f g i =
-      record
-        { holding = held-kept (row 4) f (i .holding)
-        ; claiming = claimed-kept (row 5) g (i .claiming)
-        ; has-held = i .has-held
-        ; has-claimed = i .has-claimed
-        }
+      record {
+        holding = held-kept (row 4) f (i .holding);
+        claiming = claimed-kept (row 5) g (i .claiming);
+        has-held = i .has-held;
+        has-claimed = i .has-claimed;
+      }
 
 -- A record whose words stay as they were may be held, or is claimed, as before.
 abbrev pub Untouched : Reader → Reader → ℕ → Type 0
@@ -43,14 +43,14 @@ holdable-kept lo σ σ′ x e (inr u) = inr (e .0 3 ∙ u .0, (λ q. u .1 (sym (
 
 pub blank-kept : (N : ℕ) (σ σ′ : Reader) (x : ℕ) → Untouched σ σ′ x → Blank N σ x → Blank N σ′ x
 blank-kept N σ σ′ x e b =
-    record
-      { fits = b .fits
-      ; claimed-use = e .0 3 ∙ b .claimed-use
-      ; no-place = e .0 0 ∙ b .no-place
-      ; no-next = e .0 1 ∙ b .no-next
-      ; no-prev = e .0 2 ∙ b .no-prev
-      ; no-entry = λ i k. e .1 i k ∙ b .no-entry i k
-      }
+    record {
+      fits = b .fits;
+      claimed-use = e .0 3 ∙ b .claimed-use;
+      no-place = e .0 0 ∙ b .no-place;
+      no-next = e .0 1 ∙ b .no-next;
+      no-prev = e .0 2 ∙ b .no-prev;
+      no-entry = λ i k. e .1 i k ∙ b .no-entry i k;
+    }
 
 -- The other producers' words stay as they were.
 abbrev pub OthersKept : ℕ → Reader → Reader → Type 0

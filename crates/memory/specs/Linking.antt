@@ -17,10 +17,10 @@ pub record LetGo (σ σ′ : Reader) (t : ℕ) : Type 0 where
   pub holds-on : (rowOf σ′ t 4 ≡ rowOf σ t 4) ⊎ (rowOf σ′ t 4 ≡ 0) × (rowOf σ′ t 0 ≡ 0)
 
 module _ (z : Sizes) (σ σ′ : Reader) (g : Shape) (m : Memory z σ g) (t h c : ℕ)
-         (a-producer : (1 ≤ t) × (t ≤ z .P)) (holds : σ (held t) ≡ suc h) (claims : σ (claimed t) ≡ suc c)
-         (kept : OthersKept t σ σ′) (own : LetGo σ σ′ t)
-         (tail-kept : σ′ tailRecord ≡ σ tailRecord) (head-kept : σ′ headRecord ≡ σ headRecord)
-         (cursor-kept : σ′ cursorRecord ≡ σ cursorRecord) (found-kept : σ′ foundRecord ≡ σ foundRecord) where
+    (a-producer : (1 ≤ t) × (t ≤ z .P)) (holds : σ (held t) ≡ suc h) (claims : σ (claimed t) ≡ suc c)
+    (kept : OthersKept t σ σ′) (own : LetGo σ σ′ t)
+    (tail-kept : σ′ tailRecord ≡ σ tailRecord) (head-kept : σ′ headRecord ≡ σ headRecord)
+    (cursor-kept : σ′ cursorRecord ≡ σ cursorRecord) (found-kept : σ′ foundRecord ≡ σ foundRecord) where
   c-blank : Blank (z .N) σ c
   c-blank = claimed-is m t c claims
 
@@ -42,15 +42,15 @@ module _ (z : Sizes) (σ σ′ : Reader) (g : Shape) (m : Memory z σ g) (t h c 
   -- t's own clause: what it holds may be held still
   own-row : ((x : ℕ) → Holdable (g .lo) σ x → Holdable (g .lo) σ′ x) → ThreadOk (z .N) (g .lo) σ′ (rowOf σ′ t)
   own-row still =
-      record
-        { holding = ⊎-elim (λ e. rw e (held-kept (z .N) (g .lo) (g .lo) σ σ′ (σ (held t)) (λ x q. still x) (m .threads t .holding))) (λ e. rw (e .0) tt) (own .holds-on)
-        ; claiming = rw (own .claims-none) tt
-        ; has-held = λ l e. ⊎-elim (λ q. omega arith) (λ q. omega arith) (own .holds-on)
-        ; has-claimed = λ p. absurd (own .in-phase p)
-        }
+      record {
+        holding = ⊎-elim (λ e. rw e (held-kept (z .N) (g .lo) (g .lo) σ σ′ (σ (held t)) (λ x q. still x) (m .threads t .holding))) (λ e. rw (e .0) tt) (own .holds-on);
+        claiming = rw (own .claims-none) tt;
+        has-held = λ l e. ⊎-elim (λ q. omega arith) (λ q. omega arith) (own .holds-on);
+        has-claimed = λ p. absurd (own .in-phase p);
+      }
 
   module _ (use-c : σ′ (used c) ≡ 0) (entries-c : (i k : ℕ) → σ′ (entry c i k) ≡ σ (entry c i k))
-           (others : (x : ℕ) → (x ≡ c → ⊥) → Untouched σ σ′ x) where
+      (others : (x : ℕ) → (x ≡ c → ⊥) → Untouched σ σ′ x) where
     give-linked : (x : ℕ) → Linked σ x → Linked σ′ x
     give-linked zero l = l
     give-linked (suc x) l = others x (linked-not-c x l) .0 3 ∙ l
@@ -72,33 +72,33 @@ module _ (z : Sizes) (σ σ′ : Reader) (g : Shape) (m : Memory z σ g) (t h c 
     pub give-back-keeps : Memory z σ′ g
     give-back-keeps =
         let still : (x : ℕ) → Holdable (g .lo) σ x → Holdable (g .lo) σ′ x =
-            λ x h. holdable-kept (g .lo) σ σ′ x (others x (held-not-c x h)) h in
-        record
-          { head-tail = m .head-tail
-          ; tail-last = m .tail-last
-          ; chain =
+        λ x h. holdable-kept (g .lo) σ σ′ x (others x (held-not-c x h)) h in
+        record {
+          head-tail = m .head-tail;
+          tail-last = m .tail-last;
+          chain =
               chain-kept (omega (arith, m .head-tail, m .tail-last)) (m .chain)
               (λ x. σ′ (place x))
               (λ x. σ′ (next x))
               (λ x. σ′ (prev x))
               (λ x. σ′ (used x))
               (λ x l. let o = others x (linked-not-c x l) in (o .0 0, o .0 1, o .0 2, o .0 3 ∙ l))
-              give-used
-          ; tail-is = tail-kept ∙ m .tail-is
-          ; head-is = head-kept ∙ m .head-is
-          ; threads =
+              give-used;
+          tail-is = tail-kept ∙ m .tail-is;
+          head-is = head-kept ∙ m .head-is;
+          threads =
               every-row t σ σ′ kept (λ u row. ThreadOk (z .N) (g .lo) σ′ row) (own-row still)
               (λ u n.
               thread-kept (z .N) (g .lo) (g .lo) σ σ′ (rowOf σ u)
               (λ x e. still x)
               (λ x e b. blank-kept (z .N) σ σ′ x (others x (other-claim u x n e)) b)
-              (m .threads u))
-          ; apart = apart-kept t σ σ′ kept (own .claims-none) (m .apart)
-          ; cursor = rw cursor-kept (give-linked (σ cursorRecord) (m .cursor))
-          ; found = rw found-kept (give-linked (σ foundRecord) (m .found))
-          ; unset = λ x i a b n e. give-unset x i a b n e (ℕ-discrete x c)
-          ; outside = outside-kept z t σ σ′ a-producer kept (m .outside)
-          }
+              (m .threads u));
+          apart = apart-kept t σ σ′ kept (own .claims-none) (m .apart);
+          cursor = rw cursor-kept (give-linked (σ cursorRecord) (m .cursor));
+          found = rw found-kept (give-linked (σ foundRecord) (m .found));
+          unset = λ x i a b n e. give-unset x i a b n e (ℕ-discrete x c);
+          outside = outside-kept z t σ σ′ a-producer kept (m .outside);
+        }
 
   -- the held record has no next, so it is the last one
   pub held-last : σ (next h) ≡ 0 → (σ (used h) ≡ 2) × (σ (place h) ≡ g .hi) × (g .at (g .hi) ≡ h)
@@ -111,11 +111,11 @@ module _ (z : Sizes) (σ σ′ : Reader) (g : Shape) (m : Memory z σ g) (t h c 
       go (inr u) = absurd (u .1 none)
 
   module _ (none : σ (next h) ≡ 0)
-           (place-c : σ′ (place c) ≡ suc (σ (place h))) (next-c : σ′ (next c) ≡ σ (next c))
-           (prev-c : σ′ (prev c) ≡ suc h) (used-c : σ′ (used c) ≡ 2) (next-h : σ′ (next h) ≡ suc c)
-           (others : (x : ℕ) → (x ≡ c → ⊥) → (σ′ (place x) ≡ σ (place x)) × (σ′ (prev x) ≡ σ (prev x)) × (σ′ (used x) ≡ σ (used x)))
-           (nexts : (x : ℕ) → (x ≡ c → ⊥) → (x ≡ h → ⊥) → σ′ (next x) ≡ σ (next x))
-           (entries : (x i k : ℕ) → σ′ (entry x i k) ≡ σ (entry x i k)) where
+      (place-c : σ′ (place c) ≡ suc (σ (place h))) (next-c : σ′ (next c) ≡ σ (next c))
+      (prev-c : σ′ (prev c) ≡ suc h) (used-c : σ′ (used c) ≡ 2) (next-h : σ′ (next h) ≡ suc c)
+      (others : (x : ℕ) → (x ≡ c → ⊥) → (σ′ (place x) ≡ σ (place x)) × (σ′ (prev x) ≡ σ (prev x)) × (σ′ (used x) ≡ σ (used x)))
+      (nexts : (x : ℕ) → (x ≡ c → ⊥) → (x ≡ h → ⊥) → σ′ (next x) ≡ σ (next x))
+      (entries : (x i k : ℕ) → σ′ (entry x i k) ≡ σ (entry x i k)) where
     -- the chain with the claimed record behind the last one
     abbrev pub grown : Shape
     grown = record { lo = g .lo; tp = g .tp; hi = suc (g .hi); at = at (g .at) (suc (g .hi)) c }
@@ -136,14 +136,14 @@ module _ (z : Sizes) (σ σ′ : Reader) (g : Shape) (m : Memory z σ g) (t h c 
     link-blank x n b =
         let l : σ (used h) ≡ 2 = held-last none .0 in
         let k : x ≡ h → ⊥ = λ e. let w : σ (used x) ≡ σ (used h) = ap (λ (y : ℕ). σ (used y)) e in omega (arith, b .claimed-use) in
-        record
-          { fits = b .fits
-          ; claimed-use = others x n .2 ∙ b .claimed-use
-          ; no-place = others x n .0 ∙ b .no-place
-          ; no-next = nexts x n k ∙ b .no-next
-          ; no-prev = others x n .1 ∙ b .no-prev
-          ; no-entry = λ i j. entries x i j ∙ b .no-entry i j
-          }
+        record {
+          fits = b .fits;
+          claimed-use = others x n .2 ∙ b .claimed-use;
+          no-place = others x n .0 ∙ b .no-place;
+          no-next = nexts x n k ∙ b .no-next;
+          no-prev = others x n .1 ∙ b .no-prev;
+          no-entry = λ i j. entries x i j ∙ b .no-entry i j;
+        }
 
     link-unset : (x i : ℕ) → x < z .N → i < z .B → (σ′ (used x) ≡ 2 → ⊥) → σ′ (state x i) ≡ 1 → Dec (x ≡ c) → ⊥
     link-unset x i a b n e (yes q) = n (ap (λ (y : ℕ). σ′ (used y)) q ∙ used-c)
@@ -153,10 +153,10 @@ module _ (z : Sizes) (σ σ′ : Reader) (g : Shape) (m : Memory z σ g) (t h c 
     link-keeps =
         let l = held-last none in
         let span : g .lo ≤ g .hi = omega (arith, m .head-tail, m .tail-last) in
-        record
-          { head-tail = m .head-tail
-          ; tail-last = omega (arith, m .tail-last)
-          ; chain =
+        record {
+          head-tail = m .head-tail;
+          tail-last = omega (arith, m .tail-last);
+          chain =
               chain-grows span (m .chain) (λ x. σ′ (place x)) (λ x. σ′ (next x)) (λ x. σ′ (prev x)) (λ x. σ′ (used x)) c (c-blank .fits)
               (λ e. linked-not-c c e refl)
               (place-c ∙ ap suc (l .1))
@@ -165,19 +165,19 @@ module _ (z : Sizes) (σ σ′ : Reader) (g : Shape) (m : Memory z σ g) (t h c 
               used-c
               (rw (l .2) next-h)
               others
-              (λ x n k. nexts x n (λ e. k (e ∙ sym (l .2))))
-          ; tail-is = tail-kept ∙ m .tail-is ∙ ap suc (sym (at-other (g .at) (suc (g .hi)) c (g .tp) (λ e. omega (arith, m .tail-last))))
-          ; head-is = head-kept ∙ m .head-is ∙ ap suc (sym (at-other (g .at) (suc (g .hi)) c (g .lo) (λ e. omega arith)))
-          ; threads =
+              (λ x n k. nexts x n (λ e. k (e ∙ sym (l .2))));
+          tail-is = tail-kept ∙ m .tail-is ∙ ap suc (sym (at-other (g .at) (suc (g .hi)) c (g .tp) (λ e. omega (arith, m .tail-last))));
+          head-is = head-kept ∙ m .head-is ∙ ap suc (sym (at-other (g .at) (suc (g .hi)) c (g .lo) (λ e. omega arith)));
+          threads =
               every-row t σ σ′ kept (λ u row. ThreadOk (z .N) (g .lo) σ′ row) (own-row link-holdable)
               (λ u n.
               thread-kept (z .N) (g .lo) (g .lo) σ σ′ (rowOf σ u)
               (λ x e. link-holdable x)
               (λ x e b. link-blank x (other-claim u x n e) b)
-              (m .threads u))
-          ; apart = apart-kept t σ σ′ kept (own .claims-none) (m .apart)
-          ; cursor = rw cursor-kept (link-linked (σ cursorRecord) (m .cursor))
-          ; found = rw found-kept (link-linked (σ foundRecord) (m .found))
-          ; unset = λ x i a b n e. link-unset x i a b n e (ℕ-discrete x c)
-          ; outside = outside-kept z t σ σ′ a-producer kept (m .outside)
-          }
+              (m .threads u));
+          apart = apart-kept t σ σ′ kept (own .claims-none) (m .apart);
+          cursor = rw cursor-kept (link-linked (σ cursorRecord) (m .cursor));
+          found = rw found-kept (link-linked (σ foundRecord) (m .found));
+          unset = λ x i a b n e. link-unset x i a b n e (ℕ-discrete x c);
+          outside = outside-kept z t σ σ′ a-producer kept (m .outside);
+        }

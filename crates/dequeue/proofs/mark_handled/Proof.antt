@@ -1,130 +1,96 @@
-use Rattle.rules.specs.Consumer.{markHandled}
-use Rattle.store.specs.Steps.{some, suc-pred}
-use Rattle.store.specs.Shape.{sizes}
-use Rattle.rules.specs.Request.{applied}
-use Rattle.rules.specs.Cell.{reader, writes}
-use denote.Ref.{now}
-use borrow.Author.Tests.{eq-eqb, ne-eqb, le-leb, lt-leb}
-use native.Mathlib.Omega.{arith}
-use native.Mathlib.Numerals.{add-one}
-use Prim.Native.Nat.{suc, _-_}
+-- `dequeue::mark_handled` meets its contract.
 use mathlib.Core.Path.{refl}
+use Prim.Native.Nat.{suc}
+use native.Mathlib.Numerals.{add-one}
+use native.Mathlib.Omega.{arith}
 use borrow.Author.Needs.{needs}
+use borrow.Author.Tests.{eq-eqb, ne-eqb, le-leb, lt-leb}
+use Rattle.rules.specs.Cell.{writes}
+use Rattle.rules.specs.Consumer.{markHandled}
+use Rattle.rules.specs.Request.{applied}
+use Rattle.store.specs.Steps.{some}
 use Rattle.dequeue.proofs.mark_handled.Statement.{statement}
 use Rattle.dequeue.proofs.mark_handled.Tie as tie
-use Rattle.dequeue.proofs.mark_handled.Reads as reads
-use Rattle.dequeue.proofs.mark_handled.Lts as lts
-use Rattle.store.proofs.clear_consumer.Reads as clear-consumer-reads
-use Rattle.store.proofs.consumer.Reads as consumer-reads
-use Rattle.store.proofs.content.Reads as content-reads
-use Rattle.store.proofs.index_in.Reads as index-in-reads
-use Rattle.store.proofs.put_content.Reads as put-content-reads
-use Rattle.store.proofs.put_entry.Reads as put-entry-reads
 
--- src/lib.rt:320:9
 consumer-requires : tie.Need-consumer-requires
 consumer-requires c κs = search needs
 
--- src/lib.rt:322:9
 same-length : tie.Need-same-length
 same-length c = search needs
 
--- src/lib.rt:322:9
 returns : tie.Need-returns
 unfolding applied markHandled
 returns c = rw (c .before .consumer .ensures .is, c .if1 .taken) refl
 
--- src/lib.rt:324:9
 consumer-requires-2 : tie.Need-consumer-requires-2
 consumer-requires-2 c κs = search needs
 
--- src/lib.rt:325:28
 sub-index-in : tie.Need-sub-index-in
 sub-index-in c = search needs
 
--- src/lib.rt:325:9
 index-in-requires : tie.Need-index-in-requires
 index-in-requires c κs = search needs
 
--- src/lib.rt:327:9
 same-length-2 : tie.Need-same-length-2
 same-length-2 c = search needs
 
--- src/lib.rt:327:9
 returns-2 : tie.Need-returns-2
 unfolding applied markHandled
 returns-2 c =
     rw (some (c .before .before .before .before .before .before .before .consumer .ensures .is) (c .before .before .before .before .before .before .if1 .left), c .before .before .before .before .consumer2 .ensures .is, c .before .before .index-in .ensures .outside (c .if2 .taken)) refl
 
--- src/lib.rt:329:9
 consumer-requires-3 : tie.Need-consumer-requires-3
 consumer-requires-3 c κs = search needs
 
--- src/lib.rt:330:9
 consumer-requires-4 : tie.Need-consumer-requires-4
 consumer-requires-4 c κs = search needs
 
--- src/lib.rt:331:9
 content-requires : tie.Need-content-requires
 content-requires c κs = search needs
 
--- src/lib.rt:333:25
 sub-put-entry : tie.Need-sub-put-entry
 sub-put-entry c = search needs
 
--- src/lib.rt:333:9
 put-entry-requires : tie.Need-put-entry-requires
 put-entry-requires c κs = search needs
 
--- src/lib.rt:334:9
 clear-consumer-requires : tie.Need-clear-consumer-requires
 clear-consumer-requires c κs = search needs
 
--- src/lib.rt:335:9
 same-length-3 : tie.Need-same-length-3
 same-length-3 c = search needs
 
--- src/lib.rt:335:9
 returns-3 : tie.Need-returns-3
 unfolding applied markHandled writes
 returns-3 c =
     rw (some (c .before .before .before .before .before .before .before .before .before .before .before .before .before .before .before .before .before .before .before .before .before .before .consumer .ensures .is) (c .before .before .before .before .before .before .before .before .before .before .before .before .before .before .before .before .before .before .before .before .before .if1 .left), c .before .before .before .before .before .before .before .before .before .before .before .before .before .before .before .before .before .before .before .consumer2 .ensures .is, c .before .before .before .before .before .before .before .before .before .before .before .before .before .before .before .before .before .index-in .ensures .inside (c .before .before .before .before .before .before .before .before .before .before .before .before .before .before .before .if2 .left), c .before .before .before .before .before .before .before .before .before .before .before .before .before .before .before .before .before .index-in .ensures .is (c .before .before .before .before .before .before .before .before .before .before .before .before .before .before .before .if2 .left), c .before .before .before .before .before .before .before .before .before .before .before .before .before .consumer3 .ensures .is, c .before .before .before .before .before .before .before .before .before .before .before .consumer4 .ensures .is, c .before .before .before .before .before .before .before .before .before .content .ensures .is, ne-eqb _ _ (c .before .before .before .before .before .before .before .before .if3 .taken), c .before .before .clear-consumer .ensures, c .before .before .before .before .before .before .put-entry .ensures) refl
 
--- src/lib.rt:338:9
 same-length-4 : tie.Need-same-length-4
 same-length-4 c = search needs
 
--- src/lib.rt:338:9
 returns-4 : tie.Need-returns-4
 unfolding applied markHandled
 returns-4 c =
     rw (some (c .before .before .before .before .before .before .before .before .before .before .before .before .before .before .before .before .consumer .ensures .is) (c .before .before .before .before .before .before .before .before .before .before .before .before .before .before .before .if1 .left), c .before .before .before .before .before .before .before .before .before .before .before .before .before .consumer2 .ensures .is, c .before .before .before .before .before .before .before .before .before .before .before .index-in .ensures .inside (c .before .before .before .before .before .before .before .before .before .if2 .left), c .before .before .before .before .before .before .before .before .before .before .before .index-in .ensures .is (c .before .before .before .before .before .before .before .before .before .if2 .left), c .before .before .before .content .ensures .is, eq-eqb _ _ (c .before .before .if3 .left), lt-leb (suc (c .before .before .before .content .result)) (c .before .before .before .before .before .before .before .before .before .before .before .before .before .before .before .before .before .before .before .args .z .starts) (omega arith)) refl
 
--- src/lib.rt:340:21
 sub-put-entry-2 : tie.Need-sub-put-entry-2
 sub-put-entry-2 c = search needs
 
--- src/lib.rt:340:5
 put-entry-requires-2 : tie.Need-put-entry-requires-2
 put-entry-requires-2 c κs = search needs
 
--- src/lib.rt:341:26
 add-put-content : tie.Need-add-put-content
 add-put-content c = search needs
 
--- src/lib.rt:341:5
 put-content-requires : tie.Need-put-content-requires
 put-content-requires c κs = omega (arith, c .before .before .before .before .before .before .before .before .before .before .before .before .before .before .before .before .before .before .before .before .before .before .before .before)
 
--- src/lib.rt:342:5
 clear-consumer-requires-2 : tie.Need-clear-consumer-requires-2
 clear-consumer-requires-2 c κs = omega (arith, c .before .before .before .before .before .before .before .before .before .before .before .before .before .before .before .before .before .before .before .before .before .before .before .before .before .before .before .before)
 
--- src/lib.rt:316:1
 same-length-5 : tie.Need-same-length-5
 same-length-5 c = search needs
 
--- src/lib.rt:316:1
 returns-5 : tie.Need-returns-5
 unfolding applied markHandled writes
 returns-5 c =

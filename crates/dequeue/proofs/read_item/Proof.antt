@@ -1,92 +1,65 @@
-use Rattle.rules.specs.Consumer.{readItem}
-use Rattle.store.specs.Steps.{some, suc-pred}
-use Rattle.store.specs.Shape.{sizes}
-use Rattle.rules.specs.Request.{applied}
-use Rattle.rules.specs.Cell.{reader, writes}
-use denote.Ref.{now}
-use borrow.Author.Tests.{eq-eqb, ne-eqb, le-leb, lt-leb}
-use native.Mathlib.Omega.{arith}
-use native.Mathlib.Numerals.{add-one}
-use Prim.Native.Nat.{suc, _-_}
+-- `dequeue::read_item` meets its contract.
 use mathlib.Core.Path.{refl}
+use native.Mathlib.Omega.{arith}
 use borrow.Author.Needs.{needs}
+use Rattle.rules.specs.Cell.{writes}
+use Rattle.rules.specs.Consumer.{readItem}
+use Rattle.rules.specs.Request.{applied}
+use Rattle.store.specs.Steps.{some}
 use Rattle.dequeue.proofs.read_item.Statement.{statement}
 use Rattle.dequeue.proofs.read_item.Tie as tie
-use Rattle.dequeue.proofs.read_item.Reads as reads
-use Rattle.dequeue.proofs.read_item.Lts as lts
-use Rattle.store.proofs.consumer.Reads as consumer-reads
-use Rattle.store.proofs.entry.Reads as entry-reads
-use Rattle.store.proofs.index_in.Reads as index-in-reads
-use Rattle.store.proofs.put_consumer.Reads as put-consumer-reads
 
--- src/lib.rt:299:9
 consumer-requires : tie.Need-consumer-requires
 consumer-requires c κs = search needs
 
--- src/lib.rt:301:9
 same-length : tie.Need-same-length
 same-length c = search needs
 
--- src/lib.rt:301:9
 returns : tie.Need-returns
 unfolding applied readItem
 returns c = rw (c .before .consumer .ensures .is, c .if1 .taken) refl
 
--- src/lib.rt:303:28
 sub-index-in : tie.Need-sub-index-in
 sub-index-in c = search needs
 
--- src/lib.rt:303:39
 consumer-requires-2 : tie.Need-consumer-requires-2
 consumer-requires-2 c κs = search needs
 
--- src/lib.rt:303:9
 index-in-requires : tie.Need-index-in-requires
 index-in-requires c κs = search needs
 
--- src/lib.rt:305:9
 same-length-2 : tie.Need-same-length-2
 same-length-2 c = search needs
 
--- src/lib.rt:305:9
 returns-2 : tie.Need-returns-2
 unfolding applied readItem
 returns-2 c =
     rw (some (c .before .before .before .before .before .before .consumer .ensures .is) (c .before .before .before .before .before .if1 .left), c .before .before .before .consumer2 .ensures .is, c .before .before .index-in .ensures .outside (c .if2 .taken)) refl
 
--- src/lib.rt:307:30
 sub-entry : tie.Need-sub-entry
 sub-entry c = search needs
 
--- src/lib.rt:307:9
 entry-requires : tie.Need-entry-requires
 entry-requires c κs = search needs
 
--- src/lib.rt:308:29
 sub-entry-2 : tie.Need-sub-entry-2
 sub-entry-2 c = search needs
 
--- src/lib.rt:308:9
 entry-requires-2 : tie.Need-entry-requires-2
 entry-requires-2 c κs = search needs
 
--- src/lib.rt:309:5
 put-consumer-requires : tie.Need-put-consumer-requires
 put-consumer-requires c κs = search needs
 
--- src/lib.rt:310:5
 put-consumer-requires-2 : tie.Need-put-consumer-requires-2
 put-consumer-requires-2 c κs = search needs
 
--- src/lib.rt:311:5
 put-consumer-requires-3 : tie.Need-put-consumer-requires-3
 put-consumer-requires-3 c κs = omega (arith, c .before .before .before .before .before .before .before .before .before .before .before .before .before .before .before .before .before .before .before .before .before .before)
 
--- src/lib.rt:295:1
 same-length-3 : tie.Need-same-length-3
 same-length-3 c = search needs
 
--- src/lib.rt:295:1
 returns-3 : tie.Need-returns-3
 unfolding applied readItem writes
 returns-3 c =

@@ -1,69 +1,48 @@
-use Rattle.store.specs.Steps.{some, suc-pred}
-use Rattle.store.specs.Shape.{sizes}
-use Rattle.rules.specs.Request.{applied}
-use Rattle.rules.specs.Cell.{reader, writes}
-use denote.Ref.{now}
-use borrow.Author.Tests.{eq-eqb, ne-eqb, le-leb, lt-leb}
-use native.Mathlib.Omega.{arith}
-use native.Mathlib.Numerals.{add-one}
-use Prim.Native.Nat.{suc, _-_}
+-- `dequeue::rescan_found` meets its contract.
 use mathlib.Core.Path.{refl}
+use native.Mathlib.Numerals.{add-one}
 use borrow.Author.Needs.{needs}
+use borrow.Author.Tests.{eq-eqb, ne-eqb}
+use Rattle.rules.specs.Cell.{writes}
+use Rattle.rules.specs.Request.{applied}
 use Rattle.dequeue.proofs.rescan_found.Statement.{statement}
 use Rattle.dequeue.proofs.rescan_found.Tie as tie
-use Rattle.dequeue.proofs.rescan_found.Reads as reads
-use Rattle.dequeue.proofs.rescan_found.Lts as lts
-use Rattle.dequeue.proofs.settle.Reads as settle-reads
-use Rattle.store.proofs.content.Reads as content-reads
-use Rattle.store.proofs.put_consumer.Reads as put-consumer-reads
 
--- src/lib.rt:239:9
 content-requires : tie.Need-content-requires
 content-requires c κs = search needs
 
--- src/lib.rt:240:9
 content-requires-2 : tie.Need-content-requires-2
 content-requires-2 c κs = search needs
 
--- src/lib.rt:241:27
 add-put-consumer : tie.Need-add-put-consumer
 add-put-consumer c = search needs
 
--- src/lib.rt:241:5
 put-consumer-requires : tie.Need-put-consumer-requires
 put-consumer-requires c κs = search needs
 
--- src/lib.rt:242:5
 put-consumer-requires-2 : tie.Need-put-consumer-requires-2
 put-consumer-requires-2 c κs = search needs
 
--- src/lib.rt:244:9
 settle-requires : tie.Need-settle-requires
 settle-requires c κs = search needs
 
--- src/lib.rt:245:9
 same-length : tie.Need-same-length
 same-length c = search needs
 
--- src/lib.rt:245:9
 returns : tie.Need-returns
 unfolding applied writes
 returns c =
     rw (c .before .before .before .before .before .before .before .before .before .before .before .before .before .content2 .ensures .is, eq-eqb _ _ (c .before .before .before .before .if1 .taken), c .before .before .settle .ensures, c .before .before .before .before .before .before .before .put-consumer2 .ensures, c .before .before .before .before .before .before .before .before .before .before .before .put-consumer .ensures, add-one (c .before .before .before .before .before .before .before .before .before .before .before .before .before .before .before .before .before .before .args .r)) refl
 
--- src/lib.rt:247:5
 put-consumer-requires-3 : tie.Need-put-consumer-requires-3
 put-consumer-requires-3 c κs = search needs
 
--- src/lib.rt:248:5
 put-consumer-requires-4 : tie.Need-put-consumer-requires-4
 put-consumer-requires-4 c κs = search needs
 
--- src/lib.rt:234:1
 same-length-2 : tie.Need-same-length-2
 same-length-2 c = search needs
 
--- src/lib.rt:234:1
 returns-2 : tie.Need-returns-2
 unfolding applied writes
 returns-2 c =

@@ -1,81 +1,55 @@
-use Rattle.dequeue.specs.Front.{at-end, not-end}
-use Rattle.rules.specs.Consumer.{rescan}
-use Rattle.store.specs.Steps.{some, suc-pred}
-use Rattle.store.specs.Shape.{sizes}
-use Rattle.rules.specs.Request.{applied}
-use Rattle.rules.specs.Cell.{reader, writes}
-use denote.Ref.{now}
-use borrow.Author.Tests.{eq-eqb, ne-eqb, le-leb, lt-leb}
-use native.Mathlib.Omega.{arith}
-use native.Mathlib.Numerals.{add-one}
-use Prim.Native.Nat.{suc, _-_}
+-- `dequeue::rescan_on` meets its contract.
 use mathlib.Core.Path.{refl}
 use borrow.Author.Needs.{needs}
+use Rattle.rules.specs.Consumer.{rescan}
+use Rattle.rules.specs.Request.{applied}
+use Rattle.store.specs.Steps.{some}
+use Rattle.dequeue.specs.Front.{at-end, not-end}
 use Rattle.dequeue.proofs.rescan_on.Statement.{statement}
 use Rattle.dequeue.proofs.rescan_on.Tie as tie
-use Rattle.dequeue.proofs.rescan_on.Reads as reads
-use Rattle.dequeue.proofs.rescan_on.Lts as lts
-use Rattle.dequeue.proofs.rescan_end.Reads as rescan-end-reads
-use Rattle.dequeue.proofs.rescan_entry.Reads as rescan-entry-reads
-use Rattle.store.proofs.consumer.Reads as consumer-reads
-use Rattle.store.proofs.record_end.Reads as record-end-reads
 
--- src/lib.rt:283:9
 consumer-requires : tie.Need-consumer-requires
 consumer-requires c κs = search needs
 
--- src/lib.rt:285:9
 same-length : tie.Need-same-length
 same-length c = search needs
 
--- src/lib.rt:285:9
 returns : tie.Need-returns
 unfolding applied rescan
 returns c = rw (c .before .consumer .ensures .is, c .if1 .taken) refl
 
--- src/lib.rt:287:9
 consumer-requires-2 : tie.Need-consumer-requires-2
 consumer-requires-2 c κs = search needs
 
--- src/lib.rt:288:37
 sub-record-end : tie.Need-sub-record-end
 sub-record-end c = search needs
 
--- src/lib.rt:288:20
 record-end-requires : tie.Need-record-end-requires
 record-end-requires c κs = search needs
 
--- src/lib.rt:289:33
 sub-rescan-end : tie.Need-sub-rescan-end
 sub-rescan-end c = search needs
 
--- src/lib.rt:289:9
 rescan-end-requires : tie.Need-rescan-end-requires
 rescan-end-requires c κs = search needs
 
--- src/lib.rt:289:9
 same-length-2 : tie.Need-same-length-2
 same-length-2 c = search needs
 
--- src/lib.rt:289:9
 returns-2 : tie.Need-returns-2
 unfolding rescan
 returns-2 c =
     rw (some (c .before .before .before .before .before .before .before .before .before .before .consumer .ensures .is) (c .before .before .before .before .before .before .before .before .before .if1 .left), c .before .before .before .before .before .before .before .consumer2 .ensures .is, at-end (c .before .before .before .before .before .record-end .ensures .0) (c .before .before .before .before .if2 .taken)) (c .before .before .rescan-end .ensures)
 
--- src/lib.rt:291:24
 sub-rescan-entry : tie.Need-sub-rescan-entry
 sub-rescan-entry c = search needs
 
--- src/lib.rt:291:5
 rescan-entry-requires : tie.Need-rescan-entry-requires
 rescan-entry-requires c κs = search needs
 
--- src/lib.rt:279:1
 same-length-3 : tie.Need-same-length-3
 same-length-3 c = search needs
 
--- src/lib.rt:279:1
 returns-3 : tie.Need-returns-3
 unfolding rescan
 returns-3 c =

@@ -1,54 +1,41 @@
-use Rattle.rules.specs.Cell.{writes}
-use native.Mathlib.Numerals.{add-one}
+-- `engine::write_contents` meets its contract.
 use mathlib.Core.Path.{refl}
+use native.Mathlib.Numerals.{add-one}
 use borrow.Author.Needs.{needs}
+use Rattle.rules.specs.Cell.{writes}
 use Rattle.engine.proofs.write_contents.Statement.{statement}
 use Rattle.engine.proofs.write_contents.Tie as tie
-use Rattle.engine.proofs.write_contents.Reads as reads
-use Rattle.engine.proofs.write_contents.Lts as lts
-use Rattle.store.proofs.put_content.Reads as put-content-reads
 
--- src/lib.rt:56:5
 put-content-requires : tie.Need-put-content-requires
 put-content-requires c κs = search needs
 
--- src/lib.rt:57:5
 put-content-requires-2 : tie.Need-put-content-requires-2
 put-content-requires-2 c κs = search needs
 
--- src/lib.rt:58:5
 put-content-requires-3 : tie.Need-put-content-requires-3
 put-content-requires-3 c κs = search needs
 
--- src/lib.rt:59:5
 put-content-requires-4 : tie.Need-put-content-requires-4
 put-content-requires-4 c κs = search needs
 
--- src/lib.rt:60:5
 put-content-requires-5 : tie.Need-put-content-requires-5
 put-content-requires-5 c κs = search needs
 
--- src/lib.rt:61:36
 add-put-content : tie.Need-add-put-content
 add-put-content c = search needs
 
--- src/lib.rt:61:31
 mul-put-content : tie.Need-mul-put-content
 mul-put-content c = search needs
 
--- src/lib.rt:61:26
 add-put-content-2 : tie.Need-add-put-content-2
 add-put-content-2 c = search needs
 
--- src/lib.rt:61:5
 put-content-requires-6 : tie.Need-put-content-requires-6
 put-content-requires-6 c κs = search needs
 
--- src/lib.rt:52:1
 same-length : tie.Need-same-length
 same-length c = search needs
 
--- src/lib.rt:52:1
 returns : tie.Need-returns
 unfolding writes
 returns c =

@@ -1,66 +1,49 @@
-use Rattle.enqueue.specs.Link.{not-linked, is-linked}
-use Rattle.store.specs.Steps.{some, suc-pred}
-use Rattle.rules.specs.Request.{applied}
-use Rattle.rules.specs.Cell.{writes}
-use borrow.Author.Tests.{eq-eqb, ne-eqb, le-leb, lt-leb, lt-ltb, le-ltb}
-use native.Mathlib.Omega.{arith}
-use native.Mathlib.Numerals.{add-one}
-use Prim.Native.Nat.{suc}
+-- `enqueue::link` meets its contract.
 use mathlib.Core.Path.{refl}
+use Prim.Native.Nat.{suc}
+use native.Mathlib.Numerals.{add-one}
+use native.Mathlib.Omega.{arith}
 use borrow.Author.Needs.{needs}
+use borrow.Author.Tests.{eq-eqb, ne-eqb, le-leb, lt-leb}
+use Rattle.rules.specs.Cell.{writes}
+use Rattle.store.specs.Steps.{some, suc-pred}
+use Rattle.enqueue.specs.Link.{not-linked, is-linked}
 use Rattle.enqueue.proofs.link.Statement.{statement}
 use Rattle.enqueue.proofs.link.Tie as tie
-use Rattle.enqueue.proofs.link.Reads as reads
-use Rattle.enqueue.proofs.link.Lts as lts
-use Rattle.store.proofs.part.Reads as part-reads
-use Rattle.store.proofs.producer.Reads as producer-reads
-use Rattle.store.proofs.put_part.Reads as put-part-reads
 
--- src/lib.rt:97:9
 producer-requires : tie.Need-producer-requires
 producer-requires c κs = search needs
 
--- src/lib.rt:99:9
 same-length : tie.Need-same-length
 same-length c = search needs
 
--- src/lib.rt:99:9
 returns : tie.Need-returns
 returns c = not-linked (λ f. rw (c .before .producer .ensures .is, c .if1 .taken) refl)
 
--- src/lib.rt:101:9
 producer-requires-2 : tie.Need-producer-requires-2
 producer-requires-2 c κs = search needs
 
--- src/lib.rt:103:9
 same-length-2 : tie.Need-same-length-2
 same-length-2 c = search needs
 
--- src/lib.rt:103:9
 returns-2 : tie.Need-returns-2
 returns-2 c = not-linked (λ f. rw (some (c .before .before .before .before .producer .ensures .is) (c .before .before .before .if1 .left), c .before .producer2 .ensures .is, c .if2 .taken) refl)
 
--- src/lib.rt:105:19
 sub-part : tie.Need-sub-part
 sub-part c = search needs
 
--- src/lib.rt:105:8
 part-requires : tie.Need-part-requires
 part-requires c κs = search needs
 
--- src/lib.rt:106:24
 sub-put-part : tie.Need-sub-put-part
 sub-put-part c = search needs
 
--- src/lib.rt:106:9
 put-part-requires : tie.Need-put-part-requires
 put-part-requires c κs = search needs
 
--- src/lib.rt:107:9
 same-length-3 : tie.Need-same-length-3
 same-length-3 c = search needs
 
--- src/lib.rt:107:9
 returns-3 : tie.Need-returns-3
 unfolding writes
 returns-3 c =
@@ -69,66 +52,51 @@ returns-3 c =
     is-linked (λ f. rw (h, d, c .before .before .before .before .before .part .ensures .is, ne-eqb _ _ (c .before .before .before .before .if3 .taken)) refl)
     (rw (h, d, c .before .before .before .before .before .part .ensures .is, ne-eqb _ _ (c .before .before .before .before .if3 .taken), c .before .before .put-part .ensures) refl)
 
--- src/lib.rt:109:28
 sub-part-2 : tie.Need-sub-part-2
 sub-part-2 c = search needs
 
--- src/lib.rt:109:9
 part-requires-2 : tie.Need-part-requires-2
 part-requires-2 c κs = search needs
 
--- src/lib.rt:111:9
 same-length-4 : tie.Need-same-length-4
 same-length-4 c = search needs
 
--- src/lib.rt:111:9
 returns-4 : tie.Need-returns-4
 returns-4 c =
     not-linked
     (λ f.
     rw (some (c .before .before .before .before .before .before .before .before .before .before .producer .ensures .is) (c .before .before .before .before .before .before .before .before .before .if1 .left), some (c .before .before .before .before .before .before .before .producer2 .ensures .is) (c .before .before .before .before .before .before .if2 .left), c .before .before .before .before .part .ensures .is, eq-eqb _ _ (c .before .before .before .if3 .left), c .before .part2 .ensures .is, lt-leb (suc (c .before .part2 .result)) 500002 (omega arith)) refl)
 
--- src/lib.rt:113:20
 sub-put-part-2 : tie.Need-sub-put-part-2
 sub-put-part-2 c = search needs
 
--- src/lib.rt:113:5
 put-part-requires-2 : tie.Need-put-part-requires-2
 put-part-requires-2 c κs = search needs
 
--- src/lib.rt:114:20
 sub-put-part-3 : tie.Need-sub-put-part-3
 sub-put-part-3 c = search needs
 
--- src/lib.rt:114:5
 put-part-requires-3 : tie.Need-put-part-requires-3
 put-part-requires-3 c κs = search needs
 
--- src/lib.rt:115:20
 sub-put-part-4 : tie.Need-sub-put-part-4
 sub-put-part-4 c = search needs
 
--- src/lib.rt:115:5
 put-part-requires-4 : tie.Need-put-part-requires-4
 put-part-requires-4 c κs = search needs
 
--- src/lib.rt:116:20
 sub-put-part-5 : tie.Need-sub-put-part-5
 sub-put-part-5 c = search needs
 
--- src/lib.rt:116:36
 add-put-part : tie.Need-add-put-part
 add-put-part c = search needs
 
--- src/lib.rt:116:5
 put-part-requires-5 : tie.Need-put-part-requires-5
 put-part-requires-5 c κs = omega (arith, c .before .before .before .before .before .before .before .before .before .before .before .before .before .before .before .before .before .before .before .before .before .before .before .before .before .before, c .before .before .before .before .before .before .before .before .before .before .before .before .before .before .before .before .before .before .before .before .before .before .if1, c .before .before .before .before .before .before .before .before .before .before .before .before .before .before .before .before .before .before .before .if2, c .before .before .before .before .before .before .before .before .before .before .before .before .before .before .before .before .before .before .before .before .before .before .before .producer, c .before .before .before .before .before .before .before .before .before .before .before .before .before .before .before .before .before .before .before .before .producer2)
 
--- src/lib.rt:92:1
 same-length-5 : tie.Need-same-length-5
 same-length-5 c = search needs
 
--- src/lib.rt:92:1
 returns-5 : tie.Need-returns-5
 unfolding writes
 returns-5 c =
