@@ -1,12 +1,11 @@
-// The producer's phases but the claims, a function each (document 01, "Calls"). The words are admitted and t is a producer.
+// The producer's phases 1 to 3 and 6 to 9, a function each (document 01, "Calls"). The words are admitted and t is a producer.
 ghost use mathlib.Core.Path.{_≡_};
 ghost use Prim.Native.Nat.{_≤_, _<_};
 ghost use Rattle.rules.specs.Cell.{reader};
-ghost use Rattle.rules.specs.Producer.{choose, takePosition, loadTail, lookNext, linkClaimed, shiftTail, goBack, writeEntry, setEntry, linkAhead};
+ghost use Rattle.rules.specs.Producer.{choose, takePosition, loadTail, lookNext, shiftTail, goBack, writeEntry, setEntry};
 ghost use Rattle.store.specs.Shape.{sizes};
 ghost use Rattle.store.specs.Outcome.{left, does};
 ghost use Rattle.store.specs.Store.{Admitted};
-ghost use Rattle.enqueue.specs.Link.{Linked};
 use store::Reply;
 use store::Shape;
 use store::clear_producer;
@@ -16,7 +15,6 @@ use store::part;
 use store::producer;
 use store::put_content;
 use store::put_entry;
-use store::put_part;
 use store::put_producer;
 use store::record_end;
 
@@ -83,50 +81,6 @@ pub fn look_next(s: &mut [u32], z: Shape, t: u32) -> Reply
         put_producer(s, z, t, 0, 4);
         return Reply::Going;
     }
-    put_producer(s, z, t, 0, 6);
-    Reply::Going
-}
-
-// Link: if next of held is none, the claimed record becomes it, linked, prev held, place one more. Otherwise it is given
-// back, use 0. False, and nothing stored, where a needed link is none or the place would leave its range.
-fn link(s: &mut [u32], z: Shape, t: u32) -> bool
-    requires { ⌜ Admitted (sizes z) (now s) ⌝ }
-    requires { ⌜ (1 ≤ t) × (t ≤ z .producers) ⌝ }
-    ensures { λ ok. ⌜ Linked (sizes z) (now (s .entry)) t ok (now (s .exit)) ⌝ }
-{
-    let held = producer(s, z, t, 4);
-    if held == 0 {
-        return false;
-    }
-    let claimed = producer(s, z, t, 5);
-    if claimed == 0 {
-        return false;
-    }
-    if part(s, z, held - 1, 1) != 0 {
-        put_part(s, z, claimed - 1, 3, 0);
-        return true;
-    }
-    let place = part(s, z, held - 1, 0);
-    if 500002 <= place {
-        return false;
-    }
-    put_part(s, z, held - 1, 1, claimed);
-    put_part(s, z, claimed - 1, 3, 2);
-    put_part(s, z, claimed - 1, 2, held);
-    put_part(s, z, claimed - 1, 0, place + 1);
-    true
-}
-
-// 5. Link. To 6.
-pub fn link_claimed(s: &mut [u32], z: Shape, t: u32) -> Reply
-    requires { ⌜ Admitted (sizes z) (now s) ⌝ }
-    requires { ⌜ (1 ≤ t) × (t ≤ z .producers) ⌝ }
-    ensures { λ r. ⌜ left r (now (s .exit)) ≡ does (λ z σ. linkClaimed z σ t) z (now (s .entry)) ⌝ }
-{
-    if !link(s, z, t) {
-        return Reply::Refused(9);
-    }
-    put_producer(s, z, t, 5, 0);
     put_producer(s, z, t, 0, 6);
     Reply::Going
 }
@@ -216,19 +170,6 @@ pub fn set_entry(s: &mut [u32], z: Shape, t: u32) -> Reply
     if ahead {
         put_producer(s, z, t, 0, 10);
         return Reply::Going;
-    }
-    clear_producer(s, z, t);
-    Reply::Ended
-}
-
-// 11. As 5, then end. The tail record does not move.
-pub fn link_ahead(s: &mut [u32], z: Shape, t: u32) -> Reply
-    requires { ⌜ Admitted (sizes z) (now s) ⌝ }
-    requires { ⌜ (1 ≤ t) × (t ≤ z .producers) ⌝ }
-    ensures { λ r. ⌜ left r (now (s .exit)) ≡ does (λ z σ. linkAhead z σ t) z (now (s .entry)) ⌝ }
-{
-    if !link(s, z, t) {
-        return Reply::Refused(9);
     }
     clear_producer(s, z, t);
     Reply::Ended

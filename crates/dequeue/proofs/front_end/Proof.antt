@@ -20,7 +20,7 @@ add-if1 : tie.Need-add-if1
 add-if1 c = search needs
 
 clear-consumer-requires : tie.Need-clear-consumer-requires
-clear-consumer-requires c κs = search needs
+clear-consumer-requires c κs = omega (arith, c .before .before .before .before .before)
 
 same-length : tie.Need-same-length
 same-length c = search needs
@@ -43,13 +43,13 @@ returns-2 c =
     rw (c .before .before .before .before .before .content .ensures .is, ne-eqb (c .before .before .before .before .before .content .result) (suc (a .h)) (λ e. c .before .before .before .before .if1 .left (omega arith)), c .before .before .cross-from .ensures .refused (c .if2 .taken) f) refl
 
 put-content-requires : tie.Need-put-content-requires
-put-content-requires c κs = search needs
+put-content-requires c κs = omega (arith, c .before .before .before .before .before .before .before .before .before)
 
 put-content-requires-2 : tie.Need-put-content-requires-2
-put-content-requires-2 c κs = search needs
+put-content-requires-2 c κs = omega (arith, c .before .before .before .before .before .before .before .before .before .before .before .before .before)
 
 put-part-requires : tie.Need-put-part-requires
-put-part-requires c κs = search needs
+put-part-requires c κs = omega (arith, c .before .before .before .before .before .before .before .before .before .before .before .before .before .before .before .before .before)
 
 same-length-3 : tie.Need-same-length-3
 same-length-3 c = search needs

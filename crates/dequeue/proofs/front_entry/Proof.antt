@@ -25,7 +25,7 @@ entry-requires : tie.Need-entry-requires
 entry-requires c κs = search needs
 
 put-consumer-requires : tie.Need-put-consumer-requires
-put-consumer-requires c κs = search needs
+put-consumer-requires c κs = omega (arith, c .before .before .before .before .before .before .before .before .before)
 
 same-length-2 : tie.Need-same-length-2
 same-length-2 c = search needs
@@ -39,13 +39,13 @@ add-put-consumer : tie.Need-add-put-consumer
 add-put-consumer c = search needs
 
 put-consumer-requires-2 : tie.Need-put-consumer-requires-2
-put-consumer-requires-2 c κs = search needs
+put-consumer-requires-2 c κs = omega (arith, c .before .before .before .before .before .before .before .before .before .before)
 
 put-consumer-requires-3 : tie.Need-put-consumer-requires-3
-put-consumer-requires-3 c κs = search needs
+put-consumer-requires-3 c κs = omega (arith, c .before .before .before .before .before .before .before .before .before .before .before .before .before .before)
 
 put-consumer-requires-4 : tie.Need-put-consumer-requires-4
-put-consumer-requires-4 c κs = search needs
+put-consumer-requires-4 c κs = omega (arith, c .before .before .before .before .before .before .before .before .before .before .before .before .before .before .before .before .before .before)
 
 same-length-3 : tie.Need-same-length-3
 same-length-3 c = search needs
@@ -67,7 +67,7 @@ add-put-content : tie.Need-add-put-content
 add-put-content c = search needs
 
 put-content-requires : tie.Need-put-content-requires
-put-content-requires c κs = search needs
+put-content-requires c κs = omega (arith, c .before .before .before .before .before .before .before .before .before .before .before .before)
 
 same-length-5 : tie.Need-same-length-5
 same-length-5 c = search needs

@@ -52,10 +52,10 @@ content-requires-2 : tie.Need-content-requires-2
 content-requires-2 c κs = search needs
 
 put-consumer-requires : tie.Need-put-consumer-requires
-put-consumer-requires c κs = search needs
+put-consumer-requires c κs = omega (arith, c .before .before .before .before .before .before .before .before .before .before .before .before .before .before .before .before .before .before)
 
 put-consumer-requires-2 : tie.Need-put-consumer-requires-2
-put-consumer-requires-2 c κs = search needs
+put-consumer-requires-2 c κs = omega (arith, c .before .before .before .before .before .before .before .before .before .before .before .before .before .before .before .before .before .before .before .before .before .before)
 
 put-consumer-requires-3 : tie.Need-put-consumer-requires-3
 put-consumer-requires-3 c κs = omega (arith, c .before .before .before .before .before .before .before .before .before .before .before .before .before .before .before .before .before .before .before .before .before .before .before .before .before .before)
@@ -86,10 +86,10 @@ add-put-consumer : tie.Need-add-put-consumer
 add-put-consumer c = search needs
 
 put-consumer-requires-6 : tie.Need-put-consumer-requires-6
-put-consumer-requires-6 c κs = search needs
+put-consumer-requires-6 c κs = omega (arith, c .before .before .before .before .before .before .before .before .before .before .before .before .before .before .before .before)
 
 put-consumer-requires-7 : tie.Need-put-consumer-requires-7
-put-consumer-requires-7 c κs = search needs
+put-consumer-requires-7 c κs = omega (arith, c .before .before .before .before .before .before .before .before .before .before .before .before .before .before .before .before .before .before .before .before)
 
 same-length-5 : tie.Need-same-length-5
 same-length-5 c = search needs

@@ -1,5 +1,6 @@
 -- `dequeue::scan_on` meets its contract.
 use mathlib.Core.Path.{refl}
+use native.Mathlib.Omega.{arith}
 use borrow.Author.Needs.{needs}
 use borrow.Author.Tests.{eq-eqb, ne-eqb}
 use denote.Ref.{now}
@@ -35,7 +36,7 @@ content-requires : tie.Need-content-requires
 content-requires c κs = search needs
 
 clear-consumer-requires : tie.Need-clear-consumer-requires
-clear-consumer-requires c κs = search needs
+clear-consumer-requires c κs = omega (arith, c .before .before .before .before .before .before .before .before .before .before .before .before .before)
 
 same-length-2 : tie.Need-same-length-2
 same-length-2 c = search needs
@@ -46,7 +47,7 @@ returns-2 c =
     rw (some (c .before .before .before .before .before .before .before .before .before .before .before .before .before .consumer .ensures .is) (c .before .before .before .before .before .before .before .before .before .before .before .before .if1 .left), c .before .before .before .before .before .before .before .before .before .before .consumer2 .ensures .is, c .before .before .before .before .before .before .before .before .record-end .ensures .0, ne-eqb _ _ (c .before .before .before .before .before .before .before .if2 .taken), c .before .before .before .before .before .content .ensures .is, eq-eqb _ _ (c .before .before .before .before .if3 .taken), c .before .before .clear-consumer .ensures) refl
 
 put-consumer-requires : tie.Need-put-consumer-requires
-put-consumer-requires c κs = search needs
+put-consumer-requires c κs = omega (arith, c .before .before .before .before .before .before .before .before .before .before .before .before .before)
 
 same-length-3 : tie.Need-same-length-3
 same-length-3 c = search needs
@@ -60,7 +61,7 @@ content-requires-2 : tie.Need-content-requires-2
 content-requires-2 c κs = search needs
 
 clear-consumer-requires-2 : tie.Need-clear-consumer-requires-2
-clear-consumer-requires-2 c κs = search needs
+clear-consumer-requires-2 c κs = omega (arith, c .before .before .before .before .before .before .before .before .before .before .before .before .before)
 
 same-length-4 : tie.Need-same-length-4
 same-length-4 c = search needs
@@ -87,10 +88,10 @@ returns-5 c =
     rw (some (c .before .before .before .before .before .before .before .before .before .before .before .before .before .consumer .ensures .is) (c .before .before .before .before .before .before .before .before .before .before .before .before .if1 .left), c .before .before .before .before .before .before .before .before .before .before .consumer2 .ensures .is, c .before .before .before .before .before .before .before .before .record-end .ensures .0, eq-eqb _ _ (c .before .before .before .before .before .before .before .if2 .left), c .before .before .before .before .before .content2 .ensures .is, suc-pred (c .before .before .before .before .before .before .before .before .before .before .before .before .if1 .left), ne-eqb _ _ (c .before .before .before .before .if4 .left), c .before .before .cross-from .ensures .refused (c .if5 .taken) f) refl
 
 put-consumer-requires-2 : tie.Need-put-consumer-requires-2
-put-consumer-requires-2 c κs = search needs
+put-consumer-requires-2 c κs = omega (arith, c .before .before .before .before .before .before .before .before .before .before .before .before .before .before .before .before .before)
 
 put-consumer-requires-3 : tie.Need-put-consumer-requires-3
-put-consumer-requires-3 c κs = search needs
+put-consumer-requires-3 c κs = omega (arith, c .before .before .before .before .before .before .before .before .before .before .before .before .before .before .before .before .before .before .before .before .before)
 
 same-length-6 : tie.Need-same-length-6
 same-length-6 c = search needs

@@ -1,5 +1,6 @@
 -- `enqueue::go_back` meets its contract.
 use mathlib.Core.Path.{refl}
+use native.Mathlib.Omega.{arith}
 use borrow.Author.Needs.{needs}
 use Rattle.rules.specs.Cell.{writes}
 use Rattle.rules.specs.Producer.{goBack}
@@ -38,13 +39,13 @@ choose-phase-requires : tie.Need-choose-phase-requires
 choose-phase-requires c κs = search needs
 
 put-producer-requires : tie.Need-put-producer-requires
-put-producer-requires c κs = search needs
+put-producer-requires c κs = omega (arith, c .before .before .before .before .before .before .before .before .before .before)
 
 put-producer-requires-2 : tie.Need-put-producer-requires-2
-put-producer-requires-2 c κs = search needs
+put-producer-requires-2 c κs = omega (arith, c .before .before .before .before .before .before .before .before .before .before .before .before .before .before)
 
 put-producer-requires-3 : tie.Need-put-producer-requires-3
-put-producer-requires-3 c κs = search needs
+put-producer-requires-3 c κs = omega (arith, c .before .before .before .before .before .before .before .before .before .before .before .before .before .before .before .before .before .before)
 
 same-length-3 : tie.Need-same-length-3
 same-length-3 c = search needs

@@ -1,5 +1,6 @@
 -- `enqueue::load_tail` meets its contract.
 use mathlib.Core.Path.{refl}
+use native.Mathlib.Omega.{arith}
 use borrow.Author.Needs.{needs}
 use Rattle.rules.specs.Cell.{writes}
 use Rattle.rules.specs.Producer.{loadTail}
@@ -25,10 +26,10 @@ choose-phase-requires : tie.Need-choose-phase-requires
 choose-phase-requires c κs = search needs
 
 put-producer-requires : tie.Need-put-producer-requires
-put-producer-requires c κs = search needs
+put-producer-requires c κs = omega (arith, c .before .before .before .before .before .before .before)
 
 put-producer-requires-2 : tie.Need-put-producer-requires-2
-put-producer-requires-2 c κs = search needs
+put-producer-requires-2 c κs = omega (arith, c .before .before .before .before .before .before .before .before .before .before .before)
 
 same-length-2 : tie.Need-same-length-2
 same-length-2 c = search needs

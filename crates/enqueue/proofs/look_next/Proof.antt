@@ -1,5 +1,6 @@
 -- `enqueue::look_next` meets its contract.
 use mathlib.Core.Path.{refl}
+use native.Mathlib.Omega.{arith}
 use borrow.Author.Needs.{needs}
 use borrow.Author.Tests.{eq-eqb, ne-eqb}
 use Rattle.rules.specs.Cell.{writes}
@@ -26,7 +27,7 @@ part-requires : tie.Need-part-requires
 part-requires c κs = search needs
 
 put-producer-requires : tie.Need-put-producer-requires
-put-producer-requires c κs = search needs
+put-producer-requires c κs = omega (arith, c .before .before .before .before .before .before .before .before)
 
 same-length-2 : tie.Need-same-length-2
 same-length-2 c = search needs
@@ -37,7 +38,7 @@ returns-2 c =
     rw (some (c .before .before .before .before .before .before .before .before .producer .ensures .is) (c .before .before .before .before .before .before .before .if1 .left), c .before .before .before .before .before .part .ensures .is, eq-eqb _ _ (c .before .before .before .before .if2 .taken), c .before .before .put-producer .ensures) refl
 
 put-producer-requires-2 : tie.Need-put-producer-requires-2
-put-producer-requires-2 c κs = search needs
+put-producer-requires-2 c κs = omega (arith, c .before .before .before .before .before .before .before .before)
 
 same-length-3 : tie.Need-same-length-3
 same-length-3 c = search needs

@@ -1,5 +1,6 @@
 -- `enqueue::set_entry` meets its contract.
 use mathlib.Core.Path.{refl}
+use native.Mathlib.Omega.{arith}
 use borrow.Author.Needs.{needs}
 use Rattle.rules.specs.Cell.{writes}
 use Rattle.rules.specs.Producer.{setEntry}
@@ -42,10 +43,10 @@ sub-put-entry : tie.Need-sub-put-entry
 sub-put-entry c = search needs
 
 put-entry-requires : tie.Need-put-entry-requires
-put-entry-requires c κs = search needs
+put-entry-requires c κs = omega (arith, c .before .before .before .before .before .before .before .before .before .before .before .before)
 
 put-producer-requires : tie.Need-put-producer-requires
-put-producer-requires c κs = search needs
+put-producer-requires c κs = omega (arith, c .before .before .before .before .before .before .before .before .before .before .before .before .before .before .before .before .before)
 
 same-length-3 : tie.Need-same-length-3
 same-length-3 c = search needs
@@ -56,7 +57,7 @@ returns-3 c =
     rw (some (c .before .before .before .before .before .before .before .before .before .before .before .before .before .before .before .before .before .producer .ensures .is) (c .before .before .before .before .before .before .before .before .before .before .before .before .before .before .before .before .if1 .left), c .before .before .before .before .before .before .before .before .before .before .before .before .before .before .producer2 .ensures .is, c .before .before .before .before .before .before .before .before .before .before .before .before .before .index-in .ensures .inside (c .before .before .before .before .before .before .before .before .before .before .before .if2 .left), c .before .before .before .before .before .before .before .before .before .before .before .before .before .index-in .ensures .is (c .before .before .before .before .before .before .before .before .before .before .before .if2 .left), c .before .before .before .before .before .before .before .before .before .producer3 .ensures .is, c .before .before .before .before .if3 .taken, c .before .before .put-producer .ensures, c .before .before .before .before .before .before .before .put-entry .ensures) refl
 
 clear-producer-requires : tie.Need-clear-producer-requires
-clear-producer-requires c κs = search needs
+clear-producer-requires c κs = omega (arith, c .before .before .before .before .before .before .before .before .before .before .before .before .before .before .before .before .before)
 
 same-length-4 : tie.Need-same-length-4
 same-length-4 c = search needs

@@ -1,5 +1,6 @@
 -- `enqueue::shift_tail` meets its contract.
 use mathlib.Core.Path.{refl}
+use native.Mathlib.Omega.{arith}
 use borrow.Author.Needs.{needs}
 use borrow.Author.Tests.{eq-eqb, ne-eqb}
 use Rattle.rules.specs.Cell.{writes}
@@ -23,7 +24,7 @@ content-requires : tie.Need-content-requires
 content-requires c κs = search needs
 
 put-producer-requires : tie.Need-put-producer-requires
-put-producer-requires c κs = search needs
+put-producer-requires c κs = omega (arith, c .before .before .before .before .before .before .before .before)
 
 same-length-2 : tie.Need-same-length-2
 same-length-2 c = search needs
@@ -48,10 +49,10 @@ returns-3 c =
     rw (some (c .before .before .before .before .before .before .before .producer .ensures .is) (c .before .before .before .before .before .before .if1 .left), c .before .before .before .before .content .ensures .is, suc-pred (c .before .before .before .before .before .before .if1 .left), eq-eqb _ _ (c .before .before .before .if2 .left), c .before .part .ensures .is, c .if3 .taken) refl
 
 put-content-requires : tie.Need-put-content-requires
-put-content-requires c κs = search needs
+put-content-requires c κs = omega (arith, c .before .before .before .before .before .before .before .before .before .before .before)
 
 put-producer-requires-2 : tie.Need-put-producer-requires-2
-put-producer-requires-2 c κs = search needs
+put-producer-requires-2 c κs = omega (arith, c .before .before .before .before .before .before .before .before .before .before .before .before .before .before .before)
 
 same-length-4 : tie.Need-same-length-4
 same-length-4 c = search needs

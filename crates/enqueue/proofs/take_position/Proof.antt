@@ -22,16 +22,16 @@ unfolding takePosition applied
 returns c = rw (c .before .before .content .ensures .is, lt-leb (suc (c .before .before .content .result)) (c .before .before .before .before .before .args .z .starts) (omega arith)) refl
 
 put-producer-requires : tie.Need-put-producer-requires
-put-producer-requires c κs = search needs
+put-producer-requires c κs = omega (arith, c .before .before .before .before .before .before)
 
 add-put-content : tie.Need-add-put-content
 add-put-content c = search needs
 
 put-content-requires : tie.Need-put-content-requires
-put-content-requires c κs = search needs
+put-content-requires c κs = omega (arith, c .before .before .before .before .before .before .before .before .before .before)
 
 put-producer-requires-2 : tie.Need-put-producer-requires-2
-put-producer-requires-2 c κs = search needs
+put-producer-requires-2 c κs = omega (arith, c .before .before .before .before .before .before .before .before .before .before .before .before .before .before)
 
 same-length-2 : tie.Need-same-length-2
 same-length-2 c = search needs

@@ -46,13 +46,13 @@ sub-put-entry : tie.Need-sub-put-entry
 sub-put-entry c = search needs
 
 put-entry-requires : tie.Need-put-entry-requires
-put-entry-requires c κs = search needs
+put-entry-requires c κs = omega (arith, c .before .before .before .before .before .before .before .before .before .before .before .before .before .before)
 
 sub-put-entry-2 : tie.Need-sub-put-entry-2
 sub-put-entry-2 c = search needs
 
 put-entry-requires-2 : tie.Need-put-entry-requires-2
-put-entry-requires-2 c κs = search needs
+put-entry-requires-2 c κs = omega (arith, c .before .before .before .before .before .before .before .before .before .before .before .before .before .before .before .before .before .before)
 
 put-producer-requires : tie.Need-put-producer-requires
 put-producer-requires c κs = omega (arith, c .before .before .before .before .before .before .before .before .before .before .before .before .before .before .before .before .before .before .before .before .before .before)

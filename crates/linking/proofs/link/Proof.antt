@@ -1,4 +1,4 @@
--- `enqueue::link` meets its contract.
+-- `linking::link` meets its contract.
 use mathlib.Core.Path.{refl}
 use Prim.Native.Nat.{suc}
 use native.Mathlib.Numerals.{add-one}
@@ -7,9 +7,9 @@ use borrow.Author.Needs.{needs}
 use borrow.Author.Tests.{eq-eqb, ne-eqb, le-leb, lt-leb}
 use Rattle.rules.specs.Cell.{writes}
 use Rattle.store.specs.Steps.{some, suc-pred}
-use Rattle.enqueue.specs.Link.{not-linked, is-linked}
-use Rattle.enqueue.proofs.link.Statement.{statement}
-use Rattle.enqueue.proofs.link.Tie as tie
+use Rattle.linking.specs.Link.{not-linked, is-linked}
+use Rattle.linking.proofs.link.Statement.{statement}
+use Rattle.linking.proofs.link.Tie as tie
 
 producer-requires : tie.Need-producer-requires
 producer-requires c κs = search needs
@@ -39,7 +39,7 @@ sub-put-part : tie.Need-sub-put-part
 sub-put-part c = search needs
 
 put-part-requires : tie.Need-put-part-requires
-put-part-requires c κs = search needs
+put-part-requires c κs = omega (arith, c .before .before .before .before .before .before .before .before .before .before .before)
 
 same-length-3 : tie.Need-same-length-3
 same-length-3 c = search needs
@@ -71,19 +71,19 @@ sub-put-part-2 : tie.Need-sub-put-part-2
 sub-put-part-2 c = search needs
 
 put-part-requires-2 : tie.Need-put-part-requires-2
-put-part-requires-2 c κs = search needs
+put-part-requires-2 c κs = omega (arith, c .before .before .before .before .before .before .before .before .before .before .before .before .before .before)
 
 sub-put-part-3 : tie.Need-sub-put-part-3
 sub-put-part-3 c = search needs
 
 put-part-requires-3 : tie.Need-put-part-requires-3
-put-part-requires-3 c κs = search needs
+put-part-requires-3 c κs = omega (arith, c .before .before .before .before .before .before .before .before .before .before .before .before .before .before .before .before .before .before)
 
 sub-put-part-4 : tie.Need-sub-put-part-4
 sub-put-part-4 c = search needs
 
 put-part-requires-4 : tie.Need-put-part-requires-4
-put-part-requires-4 c κs = search needs
+put-part-requires-4 c κs = omega (arith, c .before .before .before .before .before .before .before .before .before .before .before .before .before .before .before .before .before .before .before .before .before .before)
 
 sub-put-part-5 : tie.Need-sub-put-part-5
 sub-put-part-5 c = search needs

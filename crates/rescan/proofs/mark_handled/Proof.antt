@@ -1,4 +1,4 @@
--- `dequeue::mark_handled` meets its contract.
+-- `rescan::mark_handled` meets its contract.
 use mathlib.Core.Path.{refl}
 use Prim.Native.Nat.{suc}
 use native.Mathlib.Numerals.{add-one}
@@ -9,8 +9,8 @@ use Rattle.rules.specs.Cell.{writes}
 use Rattle.rules.specs.Consumer.{markHandled}
 use Rattle.rules.specs.Request.{applied}
 use Rattle.store.specs.Steps.{some}
-use Rattle.dequeue.proofs.mark_handled.Statement.{statement}
-use Rattle.dequeue.proofs.mark_handled.Tie as tie
+use Rattle.rescan.proofs.mark_handled.Statement.{statement}
+use Rattle.rescan.proofs.mark_handled.Tie as tie
 
 consumer-requires : tie.Need-consumer-requires
 consumer-requires c κs = search needs
@@ -52,10 +52,10 @@ sub-put-entry : tie.Need-sub-put-entry
 sub-put-entry c = search needs
 
 put-entry-requires : tie.Need-put-entry-requires
-put-entry-requires c κs = search needs
+put-entry-requires c κs = omega (arith, c .before .before .before .before .before .before .before .before .before .before .before .before .before .before .before .before .before .before)
 
 clear-consumer-requires : tie.Need-clear-consumer-requires
-clear-consumer-requires c κs = search needs
+clear-consumer-requires c κs = omega (arith, c .before .before .before .before .before .before .before .before .before .before .before .before .before .before .before .before .before .before .before .before .before .before)
 
 same-length-3 : tie.Need-same-length-3
 same-length-3 c = search needs
@@ -77,7 +77,7 @@ sub-put-entry-2 : tie.Need-sub-put-entry-2
 sub-put-entry-2 c = search needs
 
 put-entry-requires-2 : tie.Need-put-entry-requires-2
-put-entry-requires-2 c κs = search needs
+put-entry-requires-2 c κs = omega (arith, c .before .before .before .before .before .before .before .before .before .before .before .before .before .before .before .before .before .before .before .before)
 
 add-put-content : tie.Need-add-put-content
 add-put-content c = search needs

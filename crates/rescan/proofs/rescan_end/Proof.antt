@@ -1,5 +1,6 @@
--- `dequeue::rescan_end` meets its contract.
+-- `rescan::rescan_end` meets its contract.
 use mathlib.Core.Path.{refl}
+use native.Mathlib.Omega.{arith}
 use borrow.Author.Needs.{needs}
 use borrow.Author.Tests.{eq-eqb, ne-eqb}
 use denote.Ref.{now}
@@ -7,9 +8,9 @@ use Rattle.rules.specs.Cell.{reader, writes}
 use Rattle.rules.specs.Request.{applied}
 use Rattle.store.specs.Shape.{sizes}
 use Rattle.store.specs.Steps.{suc-pred}
-use Rattle.dequeue.specs.Front.{toRescan}
-use Rattle.dequeue.proofs.rescan_end.Statement.{statement}
-use Rattle.dequeue.proofs.rescan_end.Tie as tie
+use Rattle.rescan.specs.Rescan.{toRescan}
+use Rattle.rescan.proofs.rescan_end.Statement.{statement}
+use Rattle.rescan.proofs.rescan_end.Tie as tie
 
 cross-from-requires : tie.Need-cross-from-requires
 cross-from-requires c κs = search needs
@@ -28,7 +29,7 @@ consumer-requires : tie.Need-consumer-requires
 consumer-requires c κs = search needs
 
 settle-requires : tie.Need-settle-requires
-settle-requires c κs = search needs
+settle-requires c κs = omega (arith, c .before .before .before .before .before .before .before .before .before .before)
 
 same-length-2 : tie.Need-same-length-2
 same-length-2 c = search needs
@@ -41,10 +42,10 @@ returns-2 c =
     rw (c .before .before .before .before .before .before .before .before .before .before .cross-from .ensures .to (c .before .before .before .before .before .before .before .before .if1 .left) f, c .before .before .before .before .before .before .consumer .ensures .is, eq-eqb _ _ (c .before .before .before .before .if2 .taken), c .before .before .settle .ensures) refl
 
 put-consumer-requires : tie.Need-put-consumer-requires
-put-consumer-requires c κs = search needs
+put-consumer-requires c κs = omega (arith, c .before .before .before .before .before .before .before .before .before .before)
 
 put-consumer-requires-2 : tie.Need-put-consumer-requires-2
-put-consumer-requires-2 c κs = search needs
+put-consumer-requires-2 c κs = omega (arith, c .before .before .before .before .before .before .before .before .before .before .before .before .before .before)
 
 same-length-3 : tie.Need-same-length-3
 same-length-3 c = search needs

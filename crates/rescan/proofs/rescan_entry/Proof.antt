@@ -1,4 +1,4 @@
--- `dequeue::rescan_entry` meets its contract.
+-- `rescan::rescan_entry` meets its contract.
 use mathlib.Core.Path.{refl}
 use Prim.Native.Nat.{suc}
 use native.Mathlib.Numerals.{add-one}
@@ -7,8 +7,8 @@ use borrow.Author.Needs.{needs}
 use borrow.Author.Tests.{eq-eqb, ne-eqb, le-leb, lt-leb}
 use Rattle.rules.specs.Cell.{writes}
 use Rattle.rules.specs.Request.{applied}
-use Rattle.dequeue.proofs.rescan_entry.Statement.{statement}
-use Rattle.dequeue.proofs.rescan_entry.Tie as tie
+use Rattle.rescan.proofs.rescan_entry.Statement.{statement}
+use Rattle.rescan.proofs.rescan_entry.Tie as tie
 
 index-in-requires : tie.Need-index-in-requires
 index-in-requires c κs = search needs
@@ -48,7 +48,7 @@ consumer-requires : tie.Need-consumer-requires
 consumer-requires c κs = search needs
 
 settle-requires : tie.Need-settle-requires
-settle-requires c κs = search needs
+settle-requires c κs = omega (arith, c .before .before .before .before .before .before .before .before .before .before .before .before .before .before)
 
 same-length-4 : tie.Need-same-length-4
 same-length-4 c = search needs
@@ -62,7 +62,7 @@ add-put-consumer : tie.Need-add-put-consumer
 add-put-consumer c = search needs
 
 put-consumer-requires : tie.Need-put-consumer-requires
-put-consumer-requires c κs = search needs
+put-consumer-requires c κs = omega (arith, c .before .before .before .before .before .before .before .before .before .before .before .before .before .before)
 
 same-length-5 : tie.Need-same-length-5
 same-length-5 c = search needs

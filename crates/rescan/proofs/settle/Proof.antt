@@ -1,18 +1,19 @@
--- `dequeue::settle` meets its contract.
+-- `rescan::settle` meets its contract.
 use mathlib.Core.Path.{refl}
+use native.Mathlib.Omega.{arith}
 use borrow.Author.Needs.{needs}
 use Rattle.rules.specs.Cell.{writes}
-use Rattle.dequeue.proofs.settle.Statement.{statement}
-use Rattle.dequeue.proofs.settle.Tie as tie
+use Rattle.rescan.proofs.settle.Statement.{statement}
+use Rattle.rescan.proofs.settle.Tie as tie
 
 put-consumer-requires : tie.Need-put-consumer-requires
-put-consumer-requires c κs = search needs
+put-consumer-requires c κs = omega (arith, c .before .before)
 
 put-consumer-requires-2 : tie.Need-put-consumer-requires-2
-put-consumer-requires-2 c κs = search needs
+put-consumer-requires-2 c κs = omega (arith, c .before .before .before .before .before .before)
 
 put-consumer-requires-3 : tie.Need-put-consumer-requires-3
-put-consumer-requires-3 c κs = search needs
+put-consumer-requires-3 c κs = omega (arith, c .before .before .before .before .before .before .before .before .before .before)
 
 same-length : tie.Need-same-length
 same-length c = search needs

@@ -1,10 +1,11 @@
--- `enqueue::link_ahead` meets its contract.
+-- `linking::link_ahead` meets its contract.
+use native.Mathlib.Omega.{arith}
 use borrow.Author.Needs.{needs}
 use borrow.Author.Tests.{not-true, not-false}
 use Rattle.rules.specs.Cell.{writes}
-use Rattle.enqueue.specs.Link.{ahead-refused, ahead-made}
-use Rattle.enqueue.proofs.link_ahead.Statement.{statement}
-use Rattle.enqueue.proofs.link_ahead.Tie as tie
+use Rattle.linking.specs.Link.{ahead-refused, ahead-made}
+use Rattle.linking.proofs.link_ahead.Statement.{statement}
+use Rattle.linking.proofs.link_ahead.Tie as tie
 
 link-requires : tie.Need-link-requires
 link-requires c κs = search needs
@@ -16,7 +17,7 @@ returns : tie.Need-returns
 returns c = ahead-refused (c .before .before .before .link .ensures) (not-true _ (c .if1 .taken))
 
 clear-producer-requires : tie.Need-clear-producer-requires
-clear-producer-requires c κs = search needs
+clear-producer-requires c κs = omega (arith, c .before .before .before .before .before .before .before)
 
 same-length-2 : tie.Need-same-length-2
 same-length-2 c = search needs

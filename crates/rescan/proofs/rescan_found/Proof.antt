@@ -1,12 +1,13 @@
--- `dequeue::rescan_found` meets its contract.
+-- `rescan::rescan_found` meets its contract.
 use mathlib.Core.Path.{refl}
 use native.Mathlib.Numerals.{add-one}
+use native.Mathlib.Omega.{arith}
 use borrow.Author.Needs.{needs}
 use borrow.Author.Tests.{eq-eqb, ne-eqb}
 use Rattle.rules.specs.Cell.{writes}
 use Rattle.rules.specs.Request.{applied}
-use Rattle.dequeue.proofs.rescan_found.Statement.{statement}
-use Rattle.dequeue.proofs.rescan_found.Tie as tie
+use Rattle.rescan.proofs.rescan_found.Statement.{statement}
+use Rattle.rescan.proofs.rescan_found.Tie as tie
 
 content-requires : tie.Need-content-requires
 content-requires c κs = search needs
@@ -18,13 +19,13 @@ add-put-consumer : tie.Need-add-put-consumer
 add-put-consumer c = search needs
 
 put-consumer-requires : tie.Need-put-consumer-requires
-put-consumer-requires c κs = search needs
+put-consumer-requires c κs = omega (arith, c .before .before .before .before .before .before)
 
 put-consumer-requires-2 : tie.Need-put-consumer-requires-2
-put-consumer-requires-2 c κs = search needs
+put-consumer-requires-2 c κs = omega (arith, c .before .before .before .before .before .before .before .before .before .before)
 
 settle-requires : tie.Need-settle-requires
-settle-requires c κs = search needs
+settle-requires c κs = omega (arith, c .before .before .before .before .before .before .before .before .before .before .before .before .before .before .before)
 
 same-length : tie.Need-same-length
 same-length c = search needs
@@ -35,10 +36,10 @@ returns c =
     rw (c .before .before .before .before .before .before .before .before .before .before .before .before .before .content2 .ensures .is, eq-eqb _ _ (c .before .before .before .before .if1 .taken), c .before .before .settle .ensures, c .before .before .before .before .before .before .before .put-consumer2 .ensures, c .before .before .before .before .before .before .before .before .before .before .before .put-consumer .ensures, add-one (c .before .before .before .before .before .before .before .before .before .before .before .before .before .before .before .before .before .before .args .r)) refl
 
 put-consumer-requires-3 : tie.Need-put-consumer-requires-3
-put-consumer-requires-3 c κs = search needs
+put-consumer-requires-3 c κs = omega (arith, c .before .before .before .before .before .before .before .before .before .before .before .before .before .before .before)
 
 put-consumer-requires-4 : tie.Need-put-consumer-requires-4
-put-consumer-requires-4 c κs = search needs
+put-consumer-requires-4 c κs = omega (arith, c .before .before .before .before .before .before .before .before .before .before .before .before .before .before .before .before .before .before .before)
 
 same-length-2 : tie.Need-same-length-2
 same-length-2 c = search needs

@@ -1,12 +1,12 @@
--- `dequeue::rescan_on` meets its contract.
+-- `rescan::rescan_on` meets its contract.
 use mathlib.Core.Path.{refl}
 use borrow.Author.Needs.{needs}
 use Rattle.rules.specs.Consumer.{rescan}
 use Rattle.rules.specs.Request.{applied}
 use Rattle.store.specs.Steps.{some}
 use Rattle.dequeue.specs.Front.{at-end, not-end}
-use Rattle.dequeue.proofs.rescan_on.Statement.{statement}
-use Rattle.dequeue.proofs.rescan_on.Tie as tie
+use Rattle.rescan.proofs.rescan_on.Statement.{statement}
+use Rattle.rescan.proofs.rescan_on.Tie as tie
 
 consumer-requires : tie.Need-consumer-requires
 consumer-requires c κs = search needs

@@ -1,4 +1,4 @@
--- `dequeue::read_item` meets its contract.
+-- `rescan::read_item` meets its contract.
 use mathlib.Core.Path.{refl}
 use native.Mathlib.Omega.{arith}
 use borrow.Author.Needs.{needs}
@@ -6,8 +6,8 @@ use Rattle.rules.specs.Cell.{writes}
 use Rattle.rules.specs.Consumer.{readItem}
 use Rattle.rules.specs.Request.{applied}
 use Rattle.store.specs.Steps.{some}
-use Rattle.dequeue.proofs.read_item.Statement.{statement}
-use Rattle.dequeue.proofs.read_item.Tie as tie
+use Rattle.rescan.proofs.read_item.Statement.{statement}
+use Rattle.rescan.proofs.read_item.Tie as tie
 
 consumer-requires : tie.Need-consumer-requires
 consumer-requires c κs = search needs
@@ -49,10 +49,10 @@ entry-requires-2 : tie.Need-entry-requires-2
 entry-requires-2 c κs = search needs
 
 put-consumer-requires : tie.Need-put-consumer-requires
-put-consumer-requires c κs = search needs
+put-consumer-requires c κs = omega (arith, c .before .before .before .before .before .before .before .before .before .before .before .before .before .before)
 
 put-consumer-requires-2 : tie.Need-put-consumer-requires-2
-put-consumer-requires-2 c κs = search needs
+put-consumer-requires-2 c κs = omega (arith, c .before .before .before .before .before .before .before .before .before .before .before .before .before .before .before .before .before .before)
 
 put-consumer-requires-3 : tie.Need-put-consumer-requires-3
 put-consumer-requires-3 c κs = omega (arith, c .before .before .before .before .before .before .before .before .before .before .before .before .before .before .before .before .before .before .before .before .before .before)

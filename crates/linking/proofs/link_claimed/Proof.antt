@@ -1,10 +1,11 @@
--- `enqueue::link_claimed` meets its contract.
+-- `linking::link_claimed` meets its contract.
+use native.Mathlib.Omega.{arith}
 use borrow.Author.Needs.{needs}
 use borrow.Author.Tests.{not-true, not-false}
 use Rattle.rules.specs.Cell.{writes}
-use Rattle.enqueue.specs.Link.{claimed-refused, claimed-made}
-use Rattle.enqueue.proofs.link_claimed.Statement.{statement}
-use Rattle.enqueue.proofs.link_claimed.Tie as tie
+use Rattle.linking.specs.Link.{claimed-refused, claimed-made}
+use Rattle.linking.proofs.link_claimed.Statement.{statement}
+use Rattle.linking.proofs.link_claimed.Tie as tie
 
 link-requires : tie.Need-link-requires
 link-requires c κs = search needs
@@ -16,10 +17,10 @@ returns : tie.Need-returns
 returns c = claimed-refused (c .before .before .before .link .ensures) (not-true _ (c .if1 .taken))
 
 put-producer-requires : tie.Need-put-producer-requires
-put-producer-requires c κs = search needs
+put-producer-requires c κs = omega (arith, c .before .before .before .before .before .before .before)
 
 put-producer-requires-2 : tie.Need-put-producer-requires-2
-put-producer-requires-2 c κs = search needs
+put-producer-requires-2 c κs = omega (arith, c .before .before .before .before .before .before .before .before .before .before .before)
 
 same-length-2 : tie.Need-same-length-2
 same-length-2 c = search needs
