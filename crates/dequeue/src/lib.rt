@@ -19,6 +19,7 @@ use store::put_consumer;
 use store::put_content;
 use store::put_part;
 use store::record_end;
+use store::word;
 
 // Where a crossing leads: a stored record number, 0 where it is refused, and that record's first position.
 pub struct Crossing {
@@ -32,14 +33,14 @@ pub fn cross_from(s: &[u32], z: Shape, r: u32) -> Crossing
     requires { ⌜ r < z .records ⌝ }
     ensures { λ c. ⌜ Crossed (sizes z) (now (s .entry)) r (c .record) (c .position) ⌝ }
 {
-    let next = part(s, z, r, 1);
+    let next = part(s, z, r, word::NEXT);
     if next == 0 {
         return Crossing {
             record: 0,
             position: 0,
         };
     }
-    let place = part(s, z, next - 1, 0);
+    let place = part(s, z, next - 1, word::PLACE);
     if place == 0 {
         return Crossing {
             record: 0,
@@ -66,7 +67,7 @@ fn front_end(s: &mut [u32], z: Shape, h: u32) -> Reply
     requires { ⌜ h < z .records ⌝ }
     ensures { λ r. ⌜ left r (now (s .exit)) ≡ does (λ z σ. frontEnd z σ h) z (now (s .entry)) ⌝ }
 {
-    if content(s, z, 7) == h + 1 {
+    if content(s, z, word::TAIL_RECORD) == h + 1 {
         clear_consumer(s, z);
         return Reply::Empty;
     }
@@ -74,9 +75,9 @@ fn front_end(s: &mut [u32], z: Shape, h: u32) -> Reply
     if c.record == 0 {
         return Reply::Refused(9);
     }
-    put_content(s, z, 8, c.record);
-    put_content(s, z, 9, c.position);
-    put_part(s, z, h, 3, 3);
+    put_content(s, z, word::HEAD_RECORD, c.record);
+    put_content(s, z, word::HEAD_POSITION, c.position);
+    put_part(s, z, h, word::USE, 3);
     Reply::Going
 }
 
@@ -90,21 +91,21 @@ fn front_entry(s: &mut [u32], z: Shape, h: u32, p: u32) -> Reply
     if z.entries <= i {
         return Reply::Refused(9);
     }
-    let state = entry(s, z, h, i, 0);
+    let state = entry(s, z, h, i, word::STATE);
     if state == 0 {
-        put_consumer(s, z, 0, 2);
+        put_consumer(s, z, word::PHASE, 2);
         return Reply::Going;
     }
     if state == 1 {
-        put_consumer(s, z, 3, h + 1);
-        put_consumer(s, z, 4, p);
-        put_consumer(s, z, 0, 6);
+        put_consumer(s, z, word::FOUND_RECORD, h + 1);
+        put_consumer(s, z, word::FOUND_POSITION, p);
+        put_consumer(s, z, word::PHASE, 6);
         return Reply::Going;
     }
     if z.starts <= p {
         return Reply::Refused(9);
     }
-    put_content(s, z, 9, p + 1);
+    put_content(s, z, word::HEAD_POSITION, p + 1);
     Reply::Going
 }
 
@@ -113,11 +114,11 @@ pub fn read_front(s: &mut [u32], z: Shape) -> Reply
     requires { ⌜ Admitted (sizes z) (now s) ⌝ }
     ensures { λ r. ⌜ left r (now (s .exit)) ≡ does front z (now (s .entry)) ⌝ }
 {
-    let head = content(s, z, 8);
+    let head = content(s, z, word::HEAD_RECORD);
     if head == 0 {
         return Reply::Refused(9);
     }
-    let position = content(s, z, 9);
+    let position = content(s, z, word::HEAD_POSITION);
     if position == record_end(s, z, head - 1) {
         return front_end(s, z, head - 1);
     }
@@ -129,18 +130,18 @@ pub fn read_tail(s: &mut [u32], z: Shape) -> Reply
     requires { ⌜ Admitted (sizes z) (now s) ⌝ }
     ensures { λ r. ⌜ left r (now (s .exit)) ≡ does readTail z (now (s .entry)) ⌝ }
 {
-    let position = content(s, z, 9);
-    if content(s, z, 6) == position {
+    let position = content(s, z, word::HEAD_POSITION);
+    if content(s, z, word::TAIL) == position {
         clear_consumer(s, z);
         return Reply::Empty;
     }
     if z.starts <= position {
         return Reply::Refused(9);
     }
-    let head = content(s, z, 8);
-    put_consumer(s, z, 1, head);
-    put_consumer(s, z, 2, position + 1);
-    put_consumer(s, z, 0, 3);
+    let head = content(s, z, word::HEAD_RECORD);
+    put_consumer(s, z, word::CURSOR_RECORD, head);
+    put_consumer(s, z, word::CURSOR_POSITION, position + 1);
+    put_consumer(s, z, word::PHASE, 3);
     Reply::Going
 }
 
@@ -150,20 +151,20 @@ pub fn scan_on(s: &mut [u32], z: Shape) -> Reply
     requires { ⌜ Admitted (sizes z) (now s) ⌝ }
     ensures { λ r. ⌜ left r (now (s .exit)) ≡ does scan z (now (s .entry)) ⌝ }
 {
-    let cursor = consumer(s, z, 1);
+    let cursor = consumer(s, z, word::CURSOR_RECORD);
     if cursor == 0 {
         return Reply::Refused(9);
     }
-    let position = consumer(s, z, 2);
+    let position = consumer(s, z, word::CURSOR_POSITION);
     if position != record_end(s, z, cursor - 1) {
-        if position == content(s, z, 6) {
+        if position == content(s, z, word::TAIL) {
             clear_consumer(s, z);
             return Reply::Empty;
         }
-        put_consumer(s, z, 0, 4);
+        put_consumer(s, z, word::PHASE, 4);
         return Reply::Going;
     }
-    if content(s, z, 7) == cursor {
+    if content(s, z, word::TAIL_RECORD) == cursor {
         clear_consumer(s, z);
         return Reply::Empty;
     }
@@ -171,8 +172,8 @@ pub fn scan_on(s: &mut [u32], z: Shape) -> Reply
     if c.record == 0 {
         return Reply::Refused(9);
     }
-    put_consumer(s, z, 1, c.record);
-    put_consumer(s, z, 2, c.position);
+    put_consumer(s, z, word::CURSOR_RECORD, c.record);
+    put_consumer(s, z, word::CURSOR_POSITION, c.position);
     Reply::Going
 }
 
@@ -181,29 +182,29 @@ pub fn read_entry(s: &mut [u32], z: Shape) -> Reply
     requires { ⌜ Admitted (sizes z) (now s) ⌝ }
     ensures { λ r. ⌜ left r (now (s .exit)) ≡ does readEntry z (now (s .entry)) ⌝ }
 {
-    let cursor = consumer(s, z, 1);
+    let cursor = consumer(s, z, word::CURSOR_RECORD);
     if cursor == 0 {
         return Reply::Refused(9);
     }
-    let position = consumer(s, z, 2);
+    let position = consumer(s, z, word::CURSOR_POSITION);
     let i = index_in(s, z, cursor - 1, position);
     if z.entries <= i {
         return Reply::Refused(9);
     }
-    if entry(s, z, cursor - 1, i, 0) == 1 {
-        let head = content(s, z, 8);
-        let head_position = content(s, z, 9);
-        put_consumer(s, z, 3, cursor);
-        put_consumer(s, z, 4, position);
-        put_consumer(s, z, 1, head);
-        put_consumer(s, z, 2, head_position);
-        put_consumer(s, z, 0, 5);
+    if entry(s, z, cursor - 1, i, word::STATE) == 1 {
+        let head = content(s, z, word::HEAD_RECORD);
+        let head_position = content(s, z, word::HEAD_POSITION);
+        put_consumer(s, z, word::FOUND_RECORD, cursor);
+        put_consumer(s, z, word::FOUND_POSITION, position);
+        put_consumer(s, z, word::CURSOR_RECORD, head);
+        put_consumer(s, z, word::CURSOR_POSITION, head_position);
+        put_consumer(s, z, word::PHASE, 5);
         return Reply::Going;
     }
     if z.starts <= position {
         return Reply::Refused(9);
     }
-    put_consumer(s, z, 2, position + 1);
-    put_consumer(s, z, 0, 3);
+    put_consumer(s, z, word::CURSOR_POSITION, position + 1);
+    put_consumer(s, z, word::PHASE, 3);
     Reply::Going
 }

@@ -17,6 +17,24 @@ use store::put_content;
 use store::put_entry;
 use store::put_producer;
 use store::record_end;
+use store::word;
+
+// The phases that these steps go to.
+const LOAD: u32 = 2;
+
+const LOOK: u32 = 3;
+
+const CLAIM: u32 = 4;
+
+const SHIFT: u32 = 6;
+
+const BACK: u32 = 7;
+
+const WRITE: u32 = 8;
+
+const SET: u32 = 9;
+
+const CLAIM_AHEAD: u32 = 10;
 
 // 1. Take: L becomes tail, tail grows by one; to 2.
 pub fn take_position(s: &mut [u32], z: Shape, t: u32) -> Reply
@@ -24,13 +42,13 @@ pub fn take_position(s: &mut [u32], z: Shape, t: u32) -> Reply
     requires { ⌜ (1 ≤ t) × (t ≤ z .producers) ⌝ }
     ensures { λ r. ⌜ left r (now (s .exit)) ≡ does (λ z σ. takePosition z σ t) z (now (s .entry)) ⌝ }
 {
-    let tail = content(s, z, 6);
+    let tail = content(s, z, word::TAIL);
     if z.starts <= tail {
         return Reply::Refused(9);
     }
-    put_producer(s, z, t, 3, tail);
-    put_content(s, z, 6, tail + 1);
-    put_producer(s, z, t, 0, 2);
+    put_producer(s, z, t, word::POSITION, tail);
+    put_content(s, z, word::TAIL, tail + 1);
+    put_producer(s, z, t, word::PHASE, LOAD);
     Reply::Going
 }
 
@@ -40,15 +58,15 @@ fn choose_phase(s: &[u32], z: Shape, t: u32, r: u32) -> u32
     requires { ⌜ (1 ≤ t) × (t ≤ z .producers) × (r < z .records) ⌝ }
     ensures { λ p. ⌜ choose (sizes z) (reader (sizes z) (now (s .entry))) t r ≡ p ⌝ }
 {
-    let position = producer(s, z, t, 3);
+    let position = producer(s, z, t, word::POSITION);
     let end = record_end(s, z, r);
     if end <= position {
-        return 3;
+        return LOOK;
     }
     if position + z.entries < end {
-        return 7;
+        return BACK;
     }
-    8
+    WRITE
 }
 
 // 2. Load: hold the tail record; choose.
@@ -57,13 +75,13 @@ pub fn load_tail(s: &mut [u32], z: Shape, t: u32) -> Reply
     requires { ⌜ (1 ≤ t) × (t ≤ z .producers) ⌝ }
     ensures { λ r. ⌜ left r (now (s .exit)) ≡ does (λ z σ. loadTail z σ t) z (now (s .entry)) ⌝ }
 {
-    let tail_record = content(s, z, 7);
+    let tail_record = content(s, z, word::TAIL_RECORD);
     if tail_record == 0 {
         return Reply::Refused(9);
     }
     let phase = choose_phase(s, z, t, tail_record - 1);
-    put_producer(s, z, t, 4, tail_record);
-    put_producer(s, z, t, 0, phase);
+    put_producer(s, z, t, word::HELD, tail_record);
+    put_producer(s, z, t, word::PHASE, phase);
     Reply::Going
 }
 
@@ -73,15 +91,15 @@ pub fn look_next(s: &mut [u32], z: Shape, t: u32) -> Reply
     requires { ⌜ (1 ≤ t) × (t ≤ z .producers) ⌝ }
     ensures { λ r. ⌜ left r (now (s .exit)) ≡ does (λ z σ. lookNext z σ t) z (now (s .entry)) ⌝ }
 {
-    let held = producer(s, z, t, 4);
+    let held = producer(s, z, t, word::HELD);
     if held == 0 {
         return Reply::Refused(9);
     }
-    if part(s, z, held - 1, 1) == 0 {
-        put_producer(s, z, t, 0, 4);
+    if part(s, z, held - 1, word::NEXT) == 0 {
+        put_producer(s, z, t, word::PHASE, CLAIM);
         return Reply::Going;
     }
-    put_producer(s, z, t, 0, 6);
+    put_producer(s, z, t, word::PHASE, SHIFT);
     Reply::Going
 }
 
@@ -91,20 +109,20 @@ pub fn shift_tail(s: &mut [u32], z: Shape, t: u32) -> Reply
     requires { ⌜ (1 ≤ t) × (t ≤ z .producers) ⌝ }
     ensures { λ r. ⌜ left r (now (s .exit)) ≡ does (λ z σ. shiftTail z σ t) z (now (s .entry)) ⌝ }
 {
-    let held = producer(s, z, t, 4);
+    let held = producer(s, z, t, word::HELD);
     if held == 0 {
         return Reply::Refused(9);
     }
-    if content(s, z, 7) != held {
-        put_producer(s, z, t, 0, 2);
+    if content(s, z, word::TAIL_RECORD) != held {
+        put_producer(s, z, t, word::PHASE, LOAD);
         return Reply::Going;
     }
-    let next = part(s, z, held - 1, 1);
+    let next = part(s, z, held - 1, word::NEXT);
     if next == 0 {
         return Reply::Refused(9);
     }
-    put_content(s, z, 7, next);
-    put_producer(s, z, t, 0, 2);
+    put_content(s, z, word::TAIL_RECORD, next);
+    put_producer(s, z, t, word::PHASE, LOAD);
     Reply::Going
 }
 
@@ -114,18 +132,18 @@ pub fn go_back(s: &mut [u32], z: Shape, t: u32) -> Reply
     requires { ⌜ (1 ≤ t) × (t ≤ z .producers) ⌝ }
     ensures { λ r. ⌜ left r (now (s .exit)) ≡ does (λ z σ. goBack z σ t) z (now (s .entry)) ⌝ }
 {
-    let held = producer(s, z, t, 4);
+    let held = producer(s, z, t, word::HELD);
     if held == 0 {
         return Reply::Refused(9);
     }
-    let prev = part(s, z, held - 1, 2);
+    let prev = part(s, z, held - 1, word::PREV);
     if prev == 0 {
         return Reply::Refused(9);
     }
     let phase = choose_phase(s, z, t, prev - 1);
-    put_producer(s, z, t, 4, prev);
-    put_producer(s, z, t, 6, 1);
-    put_producer(s, z, t, 0, phase);
+    put_producer(s, z, t, word::HELD, prev);
+    put_producer(s, z, t, word::BACKED, 1);
+    put_producer(s, z, t, word::PHASE, phase);
     Reply::Going
 }
 
@@ -135,19 +153,19 @@ pub fn write_entry(s: &mut [u32], z: Shape, t: u32) -> Reply
     requires { ⌜ (1 ≤ t) × (t ≤ z .producers) ⌝ }
     ensures { λ r. ⌜ left r (now (s .exit)) ≡ does (λ z σ. writeEntry z σ t) z (now (s .entry)) ⌝ }
 {
-    let held = producer(s, z, t, 4);
+    let held = producer(s, z, t, word::HELD);
     if held == 0 {
         return Reply::Refused(9);
     }
-    let i = index_in(s, z, held - 1, producer(s, z, t, 3));
+    let i = index_in(s, z, held - 1, producer(s, z, t, word::POSITION));
     if z.entries <= i {
         return Reply::Refused(9);
     }
-    let call = producer(s, z, t, 1);
-    let value = producer(s, z, t, 2);
-    put_entry(s, z, held - 1, i, 1, call);
-    put_entry(s, z, held - 1, i, 2, value);
-    put_producer(s, z, t, 0, 9);
+    let call = producer(s, z, t, word::CALL);
+    let value = producer(s, z, t, word::VALUE);
+    put_entry(s, z, held - 1, i, word::ENTRY_CALL, call);
+    put_entry(s, z, held - 1, i, word::ENTRY_VALUE, value);
+    put_producer(s, z, t, word::PHASE, SET);
     Reply::Going
 }
 
@@ -157,18 +175,18 @@ pub fn set_entry(s: &mut [u32], z: Shape, t: u32) -> Reply
     requires { ⌜ (1 ≤ t) × (t ≤ z .producers) ⌝ }
     ensures { λ r. ⌜ left r (now (s .exit)) ≡ does (λ z σ. setEntry z σ t) z (now (s .entry)) ⌝ }
 {
-    let held = producer(s, z, t, 4);
+    let held = producer(s, z, t, word::HELD);
     if held == 0 {
         return Reply::Refused(9);
     }
-    let i = index_in(s, z, held - 1, producer(s, z, t, 3));
+    let i = index_in(s, z, held - 1, producer(s, z, t, word::POSITION));
     if z.entries <= i {
         return Reply::Refused(9);
     }
-    let ahead = (i == 1) & (producer(s, z, t, 6) == 0);
-    put_entry(s, z, held - 1, i, 0, 1);
+    let ahead = (i == 1) & (producer(s, z, t, word::BACKED) == 0);
+    put_entry(s, z, held - 1, i, word::STATE, 1);
     if ahead {
-        put_producer(s, z, t, 0, 10);
+        put_producer(s, z, t, word::PHASE, CLAIM_AHEAD);
         return Reply::Going;
     }
     clear_producer(s, z, t);

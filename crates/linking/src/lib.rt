@@ -13,6 +13,7 @@ use store::part;
 use store::producer;
 use store::put_part;
 use store::put_producer;
+use store::word;
 
 // Link: if next of held is none, the claimed record becomes it, linked, prev held, place one more. Otherwise it is given
 // back, use 0. False, and nothing stored, where a needed link is none or the place would leave its range.
@@ -21,26 +22,26 @@ fn link(s: &mut [u32], z: Shape, t: u32) -> bool
     requires { ⌜ (1 ≤ t) × (t ≤ z .producers) ⌝ }
     ensures { λ ok. ⌜ Linked (sizes z) (now (s .entry)) t ok (now (s .exit)) ⌝ }
 {
-    let held = producer(s, z, t, 4);
+    let held = producer(s, z, t, word::HELD);
     if held == 0 {
         return false;
     }
-    let claimed = producer(s, z, t, 5);
+    let claimed = producer(s, z, t, word::CLAIMED);
     if claimed == 0 {
         return false;
     }
-    if part(s, z, held - 1, 1) != 0 {
-        put_part(s, z, claimed - 1, 3, 0);
+    if part(s, z, held - 1, word::NEXT) != 0 {
+        put_part(s, z, claimed - 1, word::USE, 0);
         return true;
     }
-    let place = part(s, z, held - 1, 0);
+    let place = part(s, z, held - 1, word::PLACE);
     if 500002 <= place {
         return false;
     }
-    put_part(s, z, held - 1, 1, claimed);
-    put_part(s, z, claimed - 1, 3, 2);
-    put_part(s, z, claimed - 1, 2, held);
-    put_part(s, z, claimed - 1, 0, place + 1);
+    put_part(s, z, held - 1, word::NEXT, claimed);
+    put_part(s, z, claimed - 1, word::USE, 2);
+    put_part(s, z, claimed - 1, word::PREV, held);
+    put_part(s, z, claimed - 1, word::PLACE, place + 1);
     true
 }
 
@@ -53,8 +54,8 @@ pub fn link_claimed(s: &mut [u32], z: Shape, t: u32) -> Reply
     if !link(s, z, t) {
         return Reply::Refused(9);
     }
-    put_producer(s, z, t, 5, 0);
-    put_producer(s, z, t, 0, 6);
+    put_producer(s, z, t, word::CLAIMED, 0);
+    put_producer(s, z, t, word::PHASE, 6);
     Reply::Going
 }
 

@@ -20,15 +20,16 @@ use store::put_consumer;
 use store::put_content;
 use store::put_entry;
 use store::record_end;
+use store::word;
 
 // The entry found is the one to take; the cursor is not in use any more; to 6.
 fn settle(s: &mut [u32], z: Shape)
     requires { ⌜ Room (sizes z) (now s) ⌝ }
     ensures { λ _. ⌜ now (s .exit) ≡ writes (sizes z) (now (s .entry)) settles ⌝ }
 {
-    put_consumer(s, z, 1, 0);
-    put_consumer(s, z, 2, 0);
-    put_consumer(s, z, 0, 6);
+    put_consumer(s, z, word::CURSOR_RECORD, 0);
+    put_consumer(s, z, word::CURSOR_POSITION, 0);
+    put_consumer(s, z, word::PHASE, 6);
 }
 
 // The cursor stands at its record's end, and crosses.
@@ -41,12 +42,12 @@ fn rescan_end(s: &mut [u32], z: Shape, r: u32) -> Reply
     if c.record == 0 {
         return Reply::Refused(9);
     }
-    if c.position == consumer(s, z, 4) {
+    if c.position == consumer(s, z, word::FOUND_POSITION) {
         settle(s, z);
         return Reply::Going;
     }
-    put_consumer(s, z, 1, c.record);
-    put_consumer(s, z, 2, c.position);
+    put_consumer(s, z, word::CURSOR_RECORD, c.record);
+    put_consumer(s, z, word::CURSOR_POSITION, c.position);
     Reply::Going
 }
 
@@ -56,16 +57,16 @@ fn rescan_found(s: &mut [u32], z: Shape, r: u32, p: u32) -> Reply
     requires { ⌜ r < z .records ⌝ }
     ensures { λ a. ⌜ left a (now (s .exit)) ≡ does (λ z σ. rescanFound z σ r p) z (now (s .entry)) ⌝ }
 {
-    let head = content(s, z, 8);
-    let position = content(s, z, 9);
-    put_consumer(s, z, 3, r + 1);
-    put_consumer(s, z, 4, p);
+    let head = content(s, z, word::HEAD_RECORD);
+    let position = content(s, z, word::HEAD_POSITION);
+    put_consumer(s, z, word::FOUND_RECORD, r + 1);
+    put_consumer(s, z, word::FOUND_POSITION, p);
     if position == p {
         settle(s, z);
         return Reply::Going;
     }
-    put_consumer(s, z, 1, head);
-    put_consumer(s, z, 2, position);
+    put_consumer(s, z, word::CURSOR_RECORD, head);
+    put_consumer(s, z, word::CURSOR_POSITION, position);
     Reply::Going
 }
 
@@ -79,17 +80,17 @@ fn rescan_entry(s: &mut [u32], z: Shape, r: u32, p: u32) -> Reply
     if z.entries <= i {
         return Reply::Refused(9);
     }
-    if entry(s, z, r, i, 0) == 1 {
+    if entry(s, z, r, i, word::STATE) == 1 {
         return rescan_found(s, z, r, p);
     }
     if z.starts <= p {
         return Reply::Refused(9);
     }
-    if p + 1 == consumer(s, z, 4) {
+    if p + 1 == consumer(s, z, word::FOUND_POSITION) {
         settle(s, z);
         return Reply::Going;
     }
-    put_consumer(s, z, 2, p + 1);
+    put_consumer(s, z, word::CURSOR_POSITION, p + 1);
     Reply::Going
 }
 
@@ -100,11 +101,11 @@ pub fn rescan_on(s: &mut [u32], z: Shape) -> Reply
     requires { ⌜ Admitted (sizes z) (now s) ⌝ }
     ensures { λ r. ⌜ left r (now (s .exit)) ≡ does rescan z (now (s .entry)) ⌝ }
 {
-    let cursor = consumer(s, z, 1);
+    let cursor = consumer(s, z, word::CURSOR_RECORD);
     if cursor == 0 {
         return Reply::Refused(9);
     }
-    let position = consumer(s, z, 2);
+    let position = consumer(s, z, word::CURSOR_POSITION);
     if position == record_end(s, z, cursor - 1) {
         return rescan_end(s, z, cursor - 1);
     }
@@ -116,19 +117,19 @@ pub fn read_item(s: &mut [u32], z: Shape) -> Reply
     requires { ⌜ Admitted (sizes z) (now s) ⌝ }
     ensures { λ r. ⌜ left r (now (s .exit)) ≡ does readItem z (now (s .entry)) ⌝ }
 {
-    let found = consumer(s, z, 3);
+    let found = consumer(s, z, word::FOUND_RECORD);
     if found == 0 {
         return Reply::Refused(9);
     }
-    let i = index_in(s, z, found - 1, consumer(s, z, 4));
+    let i = index_in(s, z, found - 1, consumer(s, z, word::FOUND_POSITION));
     if z.entries <= i {
         return Reply::Refused(9);
     }
-    let number = entry(s, z, found - 1, i, 1);
-    let value = entry(s, z, found - 1, i, 2);
-    put_consumer(s, z, 5, number);
-    put_consumer(s, z, 6, value);
-    put_consumer(s, z, 0, 7);
+    let number = entry(s, z, found - 1, i, word::ENTRY_CALL);
+    let value = entry(s, z, found - 1, i, word::ENTRY_VALUE);
+    put_consumer(s, z, word::ITEM_CALL, number);
+    put_consumer(s, z, word::ITEM_VALUE, value);
+    put_consumer(s, z, word::PHASE, 7);
     Reply::Going
 }
 
@@ -137,28 +138,28 @@ pub fn mark_handled(s: &mut [u32], z: Shape) -> Reply
     requires { ⌜ Admitted (sizes z) (now s) ⌝ }
     ensures { λ r. ⌜ left r (now (s .exit)) ≡ does markHandled z (now (s .entry)) ⌝ }
 {
-    let found = consumer(s, z, 3);
+    let found = consumer(s, z, word::FOUND_RECORD);
     if found == 0 {
         return Reply::Refused(9);
     }
-    let position = consumer(s, z, 4);
+    let position = consumer(s, z, word::FOUND_POSITION);
     let i = index_in(s, z, found - 1, position);
     if z.entries <= i {
         return Reply::Refused(9);
     }
-    let number = consumer(s, z, 5);
-    let value = consumer(s, z, 6);
-    let head = content(s, z, 9);
+    let number = consumer(s, z, word::ITEM_CALL);
+    let value = consumer(s, z, word::ITEM_VALUE);
+    let head = content(s, z, word::HEAD_POSITION);
     if position != head {
-        put_entry(s, z, found - 1, i, 0, 2);
+        put_entry(s, z, found - 1, i, word::STATE, 2);
         clear_consumer(s, z);
         return Reply::Item(number, value);
     }
     if z.starts <= head {
         return Reply::Refused(9);
     }
-    put_entry(s, z, found - 1, i, 0, 2);
-    put_content(s, z, 9, head + 1);
+    put_entry(s, z, found - 1, i, word::STATE, 2);
+    put_content(s, z, word::HEAD_POSITION, head + 1);
     clear_consumer(s, z);
     Reply::Item(number, value)
 }

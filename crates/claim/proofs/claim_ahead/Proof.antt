@@ -19,7 +19,11 @@ same-length c = search needs
 
 returns : tie.Need-returns
 unfolding claimAhead applied writes
-returns c = rw (c .before .before .before .before .before .lowest-free .ensures .0, c .before .before .before .before .if1 .taken, c .before .before .clear-producer .ensures) refl
+returns c =
+    let lowest-free = c .before .before .before .before .before .lowest-free in
+    let if1 = c .before .before .before .before .if1 in
+    let clear-producer = c .before .before .clear-producer in
+    rw (lowest-free .ensures .0, if1 .taken, clear-producer .ensures) refl
 
 sub-take-record : tie.Need-sub-take-record
 sub-take-record c = search needs
@@ -32,7 +36,11 @@ same-length-2 c = search needs
 
 returns-2 : tie.Need-returns-2
 unfolding claimAhead applied
-returns-2 c = rw (some (c .before .before .before .before .before .lowest-free .ensures .0) (c .before .before .before .before .if1 .left), c .before .before .take-record .ensures) refl
+returns-2 c =
+    let lowest-free = c .before .before .before .before .before .lowest-free in
+    let if1 = c .before .before .before .before .if1 in
+    let take-record = c .before .before .take-record in
+    rw (some (lowest-free .ensures .0) (if1 .left), take-record .ensures) refl
 
 pub claim-ahead-spec : {M : Type 1} → statement M
 claim-ahead-spec =

@@ -28,7 +28,11 @@ same-length-2 c = search needs
 
 returns-2 : tie.Need-returns-2
 unfolding claimRecord applied
-returns-2 c = rw (some (c .before .before .before .before .before .lowest-free .ensures .0) (c .before .before .before .before .if1 .left), c .before .before .take-record .ensures) refl
+returns-2 c =
+    let lowest-free = c .before .before .before .before .before .lowest-free in
+    let if1 = c .before .before .before .before .if1 in
+    let take-record = c .before .before .take-record in
+    rw (some (lowest-free .ensures .0) (if1 .left), take-record .ensures) refl
 
 pub claim-record-spec : {M : Type 1} → statement M
 claim-record-spec =

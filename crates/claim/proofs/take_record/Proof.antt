@@ -26,7 +26,13 @@ same-length c = search needs
 
 returns : tie.Need-returns
 unfolding writes
-returns c = rw (c .before .before .put-producer2 .ensures, c .before .before .before .before .before .before .put-producer .ensures, c .before .before .before .before .before .before .before .before .before .before .put-part .ensures, c .before .before .before .before .before .before .before .before .before .before .before .before .before .before .wipe-record .ensures, add-one (c .before .before .before .before .before .before .before .before .before .before .before .before .before .before .before .before .before .args .r)) refl
+returns c =
+    let args = c .before .before .before .before .before .before .before .before .before .before .before .before .before .before .before .before .before .args in
+    let wipe-record = c .before .before .before .before .before .before .before .before .before .before .before .before .before .before .wipe-record in
+    let put-part = c .before .before .before .before .before .before .before .before .before .before .put-part in
+    let put-producer = c .before .before .before .before .before .before .put-producer in
+    let put-producer2 = c .before .before .put-producer2 in
+    rw (put-producer2 .ensures, put-producer .ensures, put-part .ensures, wipe-record .ensures, add-one (args .r)) refl
 
 pub take-record-spec : {M : Type 1} → statement M
 take-record-spec =

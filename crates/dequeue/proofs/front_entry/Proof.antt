@@ -33,7 +33,12 @@ same-length-2 c = search needs
 returns-2 : tie.Need-returns-2
 unfolding applied writes
 returns-2 c =
-    rw (c .before .before .before .before .before .before .before .before .before .index-in .ensures .inside (c .before .before .before .before .before .before .before .if1 .left), c .before .before .before .before .before .before .before .before .before .index-in .ensures .is (c .before .before .before .before .before .before .before .if1 .left), c .before .before .before .before .before .entry .ensures .is, c .before .before .before .before .if2 .taken, c .before .before .put-consumer .ensures) refl
+    let index-in = c .before .before .before .before .before .before .before .before .before .index-in in
+    let if1 = c .before .before .before .before .before .before .before .if1 in
+    let entry = c .before .before .before .before .before .entry in
+    let if2 = c .before .before .before .before .if2 in
+    let put-consumer = c .before .before .put-consumer in
+    rw (index-in .ensures .inside (if1 .left), index-in .ensures .is (if1 .left), entry .ensures .is, if2 .taken, put-consumer .ensures) refl
 
 add-put-consumer : tie.Need-add-put-consumer
 add-put-consumer c = search needs
@@ -53,7 +58,15 @@ same-length-3 c = search needs
 returns-3 : tie.Need-returns-3
 unfolding applied writes
 returns-3 c =
-    rw (c .before .before .before .before .before .before .before .before .before .before .before .before .before .before .before .before .before .before .index-in .ensures .inside (c .before .before .before .before .before .before .before .before .before .before .before .before .before .before .before .before .if1 .left), c .before .before .before .before .before .before .before .before .before .before .before .before .before .before .before .before .before .before .index-in .ensures .is (c .before .before .before .before .before .before .before .before .before .before .before .before .before .before .before .before .if1 .left), c .before .before .before .before .before .before .before .before .before .before .before .before .before .before .entry .ensures .is, c .before .before .before .before .before .before .before .before .before .before .before .before .if3 .taken, c .before .before .put-consumer4 .ensures, c .before .before .before .before .before .before .put-consumer3 .ensures, c .before .before .before .before .before .before .before .before .before .before .put-consumer2 .ensures, add-one (c .before .before .before .before .before .before .before .before .before .before .before .before .before .before .before .before .before .before .before .before .before .args .h)) refl
+    let args = c .before .before .before .before .before .before .before .before .before .before .before .before .before .before .before .before .before .before .before .before .before .args in
+    let index-in = c .before .before .before .before .before .before .before .before .before .before .before .before .before .before .before .before .before .before .index-in in
+    let if1 = c .before .before .before .before .before .before .before .before .before .before .before .before .before .before .before .before .if1 in
+    let entry = c .before .before .before .before .before .before .before .before .before .before .before .before .before .before .entry in
+    let if3 = c .before .before .before .before .before .before .before .before .before .before .before .before .if3 in
+    let put-consumer2 = c .before .before .before .before .before .before .before .before .before .before .put-consumer2 in
+    let put-consumer3 = c .before .before .before .before .before .before .put-consumer3 in
+    let put-consumer4 = c .before .before .put-consumer4 in
+    rw (index-in .ensures .inside (if1 .left), index-in .ensures .is (if1 .left), entry .ensures .is, if3 .taken, put-consumer4 .ensures, put-consumer3 .ensures, put-consumer2 .ensures, add-one (args .h)) refl
 
 same-length-4 : tie.Need-same-length-4
 same-length-4 c = search needs

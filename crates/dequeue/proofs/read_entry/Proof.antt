@@ -37,7 +37,11 @@ same-length-2 c = search needs
 returns-2 : tie.Need-returns-2
 unfolding applied readEntry
 returns-2 c =
-    rw (some (c .before .before .before .before .before .before .before .consumer .ensures .is) (c .before .before .before .before .before .before .if1 .left), c .before .before .before .before .consumer2 .ensures .is, c .before .before .index-in .ensures .outside (c .if2 .taken)) refl
+    let consumer = c .before .before .before .before .before .before .before .consumer in
+    let if1 = c .before .before .before .before .before .before .if1 in
+    let consumer2 = c .before .before .before .before .consumer2 in
+    let index-in = c .before .before .index-in in
+    rw (some (consumer .ensures .is) (if1 .left), consumer2 .ensures .is, index-in .ensures .outside (c .if2 .taken)) refl
 
 sub-entry : tie.Need-sub-entry
 sub-entry c = search needs
@@ -72,7 +76,21 @@ same-length-3 c = search needs
 returns-3 : tie.Need-returns-3
 unfolding applied readEntry writes
 returns-3 c =
-    rw (some (c .before .before .before .before .before .before .before .before .before .before .before .before .before .before .before .before .before .before .before .before .before .before .before .before .before .before .before .before .before .before .before .before .before .before .consumer .ensures .is) (c .before .before .before .before .before .before .before .before .before .before .before .before .before .before .before .before .before .before .before .before .before .before .before .before .before .before .before .before .before .before .before .before .before .if1 .left), c .before .before .before .before .before .before .before .before .before .before .before .before .before .before .before .before .before .before .before .before .before .before .before .before .before .before .before .before .before .before .before .consumer2 .ensures .is, c .before .before .before .before .before .before .before .before .before .before .before .before .before .before .before .before .before .before .before .before .before .before .before .before .before .before .before .before .before .index-in .ensures .inside (c .before .before .before .before .before .before .before .before .before .before .before .before .before .before .before .before .before .before .before .before .before .before .before .before .before .before .before .if2 .left), c .before .before .before .before .before .before .before .before .before .before .before .before .before .before .before .before .before .before .before .before .before .before .before .before .before .before .before .before .before .index-in .ensures .is (c .before .before .before .before .before .before .before .before .before .before .before .before .before .before .before .before .before .before .before .before .before .before .before .before .before .before .before .if2 .left), c .before .before .before .before .before .before .before .before .before .before .before .before .before .before .before .before .before .before .before .before .before .before .before .before .before .entry .ensures .is, eq-eqb _ _ (c .before .before .before .before .before .before .before .before .before .before .before .before .before .before .before .before .before .before .before .before .before .before .before .before .if3 .taken), c .before .before .before .before .before .before .before .before .before .before .before .before .before .before .before .before .before .before .before .before .before .before .content .ensures .is, c .before .before .before .before .before .before .before .before .before .before .before .before .before .before .before .before .before .before .before .before .content2 .ensures .is, suc-pred (c .before .before .before .before .before .before .before .before .before .before .before .before .before .before .before .before .before .before .before .before .before .before .before .before .before .before .before .before .before .before .before .before .before .if1 .left), c .before .before .put-consumer5 .ensures, c .before .before .before .before .before .before .put-consumer4 .ensures, c .before .before .before .before .before .before .before .before .before .before .put-consumer3 .ensures, c .before .before .before .before .before .before .before .before .before .before .before .before .before .before .put-consumer2 .ensures, c .before .before .before .before .before .before .before .before .before .before .before .before .before .before .before .before .before .before .put-consumer .ensures) refl
+    let consumer = c .before .before .before .before .before .before .before .before .before .before .before .before .before .before .before .before .before .before .before .before .before .before .before .before .before .before .before .before .before .before .before .before .before .before .consumer in
+    let if1 = c .before .before .before .before .before .before .before .before .before .before .before .before .before .before .before .before .before .before .before .before .before .before .before .before .before .before .before .before .before .before .before .before .before .if1 in
+    let consumer2 = c .before .before .before .before .before .before .before .before .before .before .before .before .before .before .before .before .before .before .before .before .before .before .before .before .before .before .before .before .before .before .before .consumer2 in
+    let index-in = c .before .before .before .before .before .before .before .before .before .before .before .before .before .before .before .before .before .before .before .before .before .before .before .before .before .before .before .before .before .index-in in
+    let if2 = c .before .before .before .before .before .before .before .before .before .before .before .before .before .before .before .before .before .before .before .before .before .before .before .before .before .before .before .if2 in
+    let entry = c .before .before .before .before .before .before .before .before .before .before .before .before .before .before .before .before .before .before .before .before .before .before .before .before .before .entry in
+    let if3 = c .before .before .before .before .before .before .before .before .before .before .before .before .before .before .before .before .before .before .before .before .before .before .before .before .if3 in
+    let content = c .before .before .before .before .before .before .before .before .before .before .before .before .before .before .before .before .before .before .before .before .before .before .content in
+    let content2 = c .before .before .before .before .before .before .before .before .before .before .before .before .before .before .before .before .before .before .before .before .content2 in
+    let put-consumer = c .before .before .before .before .before .before .before .before .before .before .before .before .before .before .before .before .before .before .put-consumer in
+    let put-consumer2 = c .before .before .before .before .before .before .before .before .before .before .before .before .before .before .put-consumer2 in
+    let put-consumer3 = c .before .before .before .before .before .before .before .before .before .before .put-consumer3 in
+    let put-consumer4 = c .before .before .before .before .before .before .put-consumer4 in
+    let put-consumer5 = c .before .before .put-consumer5 in
+    rw (some (consumer .ensures .is) (if1 .left), consumer2 .ensures .is, index-in .ensures .inside (if2 .left), index-in .ensures .is (if2 .left), entry .ensures .is, eq-eqb _ _ (if3 .taken), content .ensures .is, content2 .ensures .is, suc-pred (if1 .left), put-consumer5 .ensures, put-consumer4 .ensures, put-consumer3 .ensures, put-consumer2 .ensures, put-consumer .ensures) refl
 
 same-length-4 : tie.Need-same-length-4
 same-length-4 c = search needs

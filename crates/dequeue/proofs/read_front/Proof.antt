@@ -39,7 +39,13 @@ same-length-2 c = search needs
 returns-2 : tie.Need-returns-2
 unfolding front
 returns-2 c =
-    rw (some (c .before .before .before .before .before .before .before .before .before .before .content .ensures .is) (c .before .before .before .before .before .before .before .before .before .if1 .left), c .before .before .before .before .before .before .before .content2 .ensures .is, at-end (c .before .before .before .before .before .record-end .ensures .0) (c .before .before .before .before .if2 .taken)) (c .before .before .front-end .ensures)
+    let content = c .before .before .before .before .before .before .before .before .before .before .content in
+    let if1 = c .before .before .before .before .before .before .before .before .before .if1 in
+    let content2 = c .before .before .before .before .before .before .before .content2 in
+    let record-end = c .before .before .before .before .before .record-end in
+    let if2 = c .before .before .before .before .if2 in
+    let front-end = c .before .before .front-end in
+    rw (some (content .ensures .is) (if1 .left), content2 .ensures .is, at-end (record-end .ensures .0) (if2 .taken)) (front-end .ensures)
 
 sub-front-entry : tie.Need-sub-front-entry
 sub-front-entry c = search needs
@@ -53,7 +59,13 @@ same-length-3 c = search needs
 returns-3 : tie.Need-returns-3
 unfolding front
 returns-3 c =
-    rw (some (c .before .before .before .before .before .before .before .before .before .before .content .ensures .is) (c .before .before .before .before .before .before .before .before .before .if1 .left), c .before .before .before .before .before .before .before .content2 .ensures .is, not-end (c .before .before .before .before .before .record-end .ensures .0) (c .before .before .before .before .if2 .left)) (c .before .before .front-entry .ensures)
+    let content = c .before .before .before .before .before .before .before .before .before .before .content in
+    let if1 = c .before .before .before .before .before .before .before .before .before .if1 in
+    let content2 = c .before .before .before .before .before .before .before .content2 in
+    let record-end = c .before .before .before .before .before .record-end in
+    let if2 = c .before .before .before .before .if2 in
+    let front-entry = c .before .before .front-entry in
+    rw (some (content .ensures .is) (if1 .left), content2 .ensures .is, not-end (record-end .ensures .0) (if2 .left)) (front-entry .ensures)
 
 pub read-front-spec : {M : Type 1} → statement M
 read-front-spec =

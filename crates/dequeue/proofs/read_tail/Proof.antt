@@ -25,7 +25,12 @@ same-length c = search needs
 
 returns : tie.Need-returns
 unfolding applied readTail writes
-returns c = rw (c .before .before .before .before .before .before .before .content .ensures .is, c .before .before .before .before .before .content2 .ensures .is, eq-eqb _ _ (c .before .before .before .before .if1 .taken), c .before .before .clear-consumer .ensures) refl
+returns c =
+    let content = c .before .before .before .before .before .before .before .content in
+    let content2 = c .before .before .before .before .before .content2 in
+    let if1 = c .before .before .before .before .if1 in
+    let clear-consumer = c .before .before .clear-consumer in
+    rw (content .ensures .is, content2 .ensures .is, eq-eqb _ _ (if1 .taken), clear-consumer .ensures) refl
 
 same-length-2 : tie.Need-same-length-2
 same-length-2 c = search needs

@@ -44,7 +44,15 @@ same-length-2 c = search needs
 returns-2 : tie.Need-returns-2
 unfolding applied scan writes
 returns-2 c =
-    rw (some (c .before .before .before .before .before .before .before .before .before .before .before .before .before .consumer .ensures .is) (c .before .before .before .before .before .before .before .before .before .before .before .before .if1 .left), c .before .before .before .before .before .before .before .before .before .before .consumer2 .ensures .is, c .before .before .before .before .before .before .before .before .record-end .ensures .0, ne-eqb _ _ (c .before .before .before .before .before .before .before .if2 .taken), c .before .before .before .before .before .content .ensures .is, eq-eqb _ _ (c .before .before .before .before .if3 .taken), c .before .before .clear-consumer .ensures) refl
+    let consumer = c .before .before .before .before .before .before .before .before .before .before .before .before .before .consumer in
+    let if1 = c .before .before .before .before .before .before .before .before .before .before .before .before .if1 in
+    let consumer2 = c .before .before .before .before .before .before .before .before .before .before .consumer2 in
+    let record-end = c .before .before .before .before .before .before .before .before .record-end in
+    let if2 = c .before .before .before .before .before .before .before .if2 in
+    let content = c .before .before .before .before .before .content in
+    let if3 = c .before .before .before .before .if3 in
+    let clear-consumer = c .before .before .clear-consumer in
+    rw (some (consumer .ensures .is) (if1 .left), consumer2 .ensures .is, record-end .ensures .0, ne-eqb _ _ (if2 .taken), content .ensures .is, eq-eqb _ _ (if3 .taken), clear-consumer .ensures) refl
 
 put-consumer-requires : tie.Need-put-consumer-requires
 put-consumer-requires c κs = omega (arith, c .before .before .before .before .before .before .before .before .before .before .before .before .before)
@@ -55,7 +63,15 @@ same-length-3 c = search needs
 returns-3 : tie.Need-returns-3
 unfolding applied scan writes
 returns-3 c =
-    rw (some (c .before .before .before .before .before .before .before .before .before .before .before .before .before .consumer .ensures .is) (c .before .before .before .before .before .before .before .before .before .before .before .before .if1 .left), c .before .before .before .before .before .before .before .before .before .before .consumer2 .ensures .is, c .before .before .before .before .before .before .before .before .record-end .ensures .0, ne-eqb _ _ (c .before .before .before .before .before .before .before .if2 .taken), c .before .before .before .before .before .content .ensures .is, ne-eqb _ _ (c .before .before .before .before .if3 .left), c .before .before .put-consumer .ensures) refl
+    let consumer = c .before .before .before .before .before .before .before .before .before .before .before .before .before .consumer in
+    let if1 = c .before .before .before .before .before .before .before .before .before .before .before .before .if1 in
+    let consumer2 = c .before .before .before .before .before .before .before .before .before .before .consumer2 in
+    let record-end = c .before .before .before .before .before .before .before .before .record-end in
+    let if2 = c .before .before .before .before .before .before .before .if2 in
+    let content = c .before .before .before .before .before .content in
+    let if3 = c .before .before .before .before .if3 in
+    let put-consumer = c .before .before .put-consumer in
+    rw (some (consumer .ensures .is) (if1 .left), consumer2 .ensures .is, record-end .ensures .0, ne-eqb _ _ (if2 .taken), content .ensures .is, ne-eqb _ _ (if3 .left), put-consumer .ensures) refl
 
 content-requires-2 : tie.Need-content-requires-2
 content-requires-2 c κs = search needs
@@ -69,7 +85,15 @@ same-length-4 c = search needs
 returns-4 : tie.Need-returns-4
 unfolding applied scan writes
 returns-4 c =
-    rw (some (c .before .before .before .before .before .before .before .before .before .before .before .before .before .consumer .ensures .is) (c .before .before .before .before .before .before .before .before .before .before .before .before .if1 .left), c .before .before .before .before .before .before .before .before .before .before .consumer2 .ensures .is, c .before .before .before .before .before .before .before .before .record-end .ensures .0, eq-eqb _ _ (c .before .before .before .before .before .before .before .if2 .left), c .before .before .before .before .before .content2 .ensures .is, suc-pred (c .before .before .before .before .before .before .before .before .before .before .before .before .if1 .left), eq-eqb _ _ (c .before .before .before .before .if4 .taken), c .before .before .clear-consumer2 .ensures) refl
+    let consumer = c .before .before .before .before .before .before .before .before .before .before .before .before .before .consumer in
+    let if1 = c .before .before .before .before .before .before .before .before .before .before .before .before .if1 in
+    let consumer2 = c .before .before .before .before .before .before .before .before .before .before .consumer2 in
+    let record-end = c .before .before .before .before .before .before .before .before .record-end in
+    let if2 = c .before .before .before .before .before .before .before .if2 in
+    let content2 = c .before .before .before .before .before .content2 in
+    let if4 = c .before .before .before .before .if4 in
+    let clear-consumer2 = c .before .before .clear-consumer2 in
+    rw (some (consumer .ensures .is) (if1 .left), consumer2 .ensures .is, record-end .ensures .0, eq-eqb _ _ (if2 .left), content2 .ensures .is, suc-pred (if1 .left), eq-eqb _ _ (if4 .taken), clear-consumer2 .ensures) refl
 
 sub-cross-from : tie.Need-sub-cross-from
 sub-cross-from c = search needs
@@ -83,9 +107,18 @@ same-length-5 c = search needs
 returns-5 : tie.Need-returns-5
 unfolding applied scan
 returns-5 c =
-    let a = c .before .before .before .before .before .before .before .before .before .before .before .before .before .before .before .before .args in
+    let args = c .before .before .before .before .before .before .before .before .before .before .before .before .before .before .before .before .args in
+    let consumer = c .before .before .before .before .before .before .before .before .before .before .before .before .before .consumer in
+    let if1 = c .before .before .before .before .before .before .before .before .before .before .before .before .if1 in
+    let consumer2 = c .before .before .before .before .before .before .before .before .before .before .consumer2 in
+    let record-end = c .before .before .before .before .before .before .before .before .record-end in
+    let if2 = c .before .before .before .before .before .before .before .if2 in
+    let content2 = c .before .before .before .before .before .content2 in
+    let if4 = c .before .before .before .before .if4 in
+    let cross-from = c .before .before .cross-from in
+    let a = args in
     let f = toCursor (sizes (a .z)) (reader (sizes (a .z)) (now (a .s))) in
-    rw (some (c .before .before .before .before .before .before .before .before .before .before .before .before .before .consumer .ensures .is) (c .before .before .before .before .before .before .before .before .before .before .before .before .if1 .left), c .before .before .before .before .before .before .before .before .before .before .consumer2 .ensures .is, c .before .before .before .before .before .before .before .before .record-end .ensures .0, eq-eqb _ _ (c .before .before .before .before .before .before .before .if2 .left), c .before .before .before .before .before .content2 .ensures .is, suc-pred (c .before .before .before .before .before .before .before .before .before .before .before .before .if1 .left), ne-eqb _ _ (c .before .before .before .before .if4 .left), c .before .before .cross-from .ensures .refused (c .if5 .taken) f) refl
+    rw (some (consumer .ensures .is) (if1 .left), consumer2 .ensures .is, record-end .ensures .0, eq-eqb _ _ (if2 .left), content2 .ensures .is, suc-pred (if1 .left), ne-eqb _ _ (if4 .left), cross-from .ensures .refused (c .if5 .taken) f) refl
 
 put-consumer-requires-2 : tie.Need-put-consumer-requires-2
 put-consumer-requires-2 c κs = omega (arith, c .before .before .before .before .before .before .before .before .before .before .before .before .before .before .before .before .before)
@@ -99,9 +132,21 @@ same-length-6 c = search needs
 returns-6 : tie.Need-returns-6
 unfolding applied scan writes
 returns-6 c =
-    let a = c .before .before .before .before .before .before .before .before .before .before .before .before .before .before .before .before .before .before .before .before .before .before .before .before .args in
+    let args = c .before .before .before .before .before .before .before .before .before .before .before .before .before .before .before .before .before .before .before .before .before .before .before .before .args in
+    let consumer = c .before .before .before .before .before .before .before .before .before .before .before .before .before .before .before .before .before .before .before .before .before .consumer in
+    let if1 = c .before .before .before .before .before .before .before .before .before .before .before .before .before .before .before .before .before .before .before .before .if1 in
+    let consumer2 = c .before .before .before .before .before .before .before .before .before .before .before .before .before .before .before .before .before .before .consumer2 in
+    let record-end = c .before .before .before .before .before .before .before .before .before .before .before .before .before .before .before .before .record-end in
+    let if2 = c .before .before .before .before .before .before .before .before .before .before .before .before .before .before .before .if2 in
+    let content2 = c .before .before .before .before .before .before .before .before .before .before .before .before .before .content2 in
+    let if4 = c .before .before .before .before .before .before .before .before .before .before .before .before .if4 in
+    let cross-from = c .before .before .before .before .before .before .before .before .before .before .cross-from in
+    let if5 = c .before .before .before .before .before .before .before .before .if5 in
+    let put-consumer2 = c .before .before .before .before .before .before .put-consumer2 in
+    let put-consumer3 = c .before .before .put-consumer3 in
+    let a = args in
     let f = toCursor (sizes (a .z)) (reader (sizes (a .z)) (now (a .s))) in
-    rw (some (c .before .before .before .before .before .before .before .before .before .before .before .before .before .before .before .before .before .before .before .before .before .consumer .ensures .is) (c .before .before .before .before .before .before .before .before .before .before .before .before .before .before .before .before .before .before .before .before .if1 .left), c .before .before .before .before .before .before .before .before .before .before .before .before .before .before .before .before .before .before .consumer2 .ensures .is, c .before .before .before .before .before .before .before .before .before .before .before .before .before .before .before .before .record-end .ensures .0, eq-eqb _ _ (c .before .before .before .before .before .before .before .before .before .before .before .before .before .before .before .if2 .left), c .before .before .before .before .before .before .before .before .before .before .before .before .before .content2 .ensures .is, suc-pred (c .before .before .before .before .before .before .before .before .before .before .before .before .before .before .before .before .before .before .before .before .if1 .left), ne-eqb _ _ (c .before .before .before .before .before .before .before .before .before .before .before .before .if4 .left), c .before .before .before .before .before .before .before .before .before .before .cross-from .ensures .to (c .before .before .before .before .before .before .before .before .if5 .left) f, suc-pred (c .before .before .before .before .before .before .before .before .if5 .left), c .before .before .put-consumer3 .ensures, c .before .before .before .before .before .before .put-consumer2 .ensures) refl
+    rw (some (consumer .ensures .is) (if1 .left), consumer2 .ensures .is, record-end .ensures .0, eq-eqb _ _ (if2 .left), content2 .ensures .is, suc-pred (if1 .left), ne-eqb _ _ (if4 .left), cross-from .ensures .to (if5 .left) f, suc-pred (if5 .left), put-consumer3 .ensures, put-consumer2 .ensures) refl
 
 pub scan-on-spec : {M : Type 1} → statement M
 scan-on-spec =

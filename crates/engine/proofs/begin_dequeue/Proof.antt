@@ -25,7 +25,11 @@ same-length-2 c = search needs
 
 returns-2 : tie.Need-returns-2
 unfolding startingDequeue applied writes
-returns-2 c = rw (c .before .before .before .before .before .consumer .ensures .is, c .before .before .before .before .if1 .left, c .before .before .put-consumer .ensures) refl
+returns-2 c =
+    let consumer = c .before .before .before .before .before .consumer in
+    let if1 = c .before .before .before .before .if1 in
+    let put-consumer = c .before .before .put-consumer in
+    rw (consumer .ensures .is, if1 .left, put-consumer .ensures) refl
 
 pub begin-dequeue-spec : {M : Type 1} → statement M
 begin-dequeue-spec =

@@ -14,7 +14,10 @@ returns c = rw (eq-eqb (c .before .before .args .t) 0 (c .if1 .taken)) refl
 
 returns-2 : tie.Need-returns-2
 unfolding startingEnqueue applied
-returns-2 c = rw (ne-eqb (c .before .before .before .before .args .t) 0 (c .before .before .if1 .left), lt-ltb (c .before .before .before .before .args .z .producers) (c .before .before .before .before .args .t) (c .if2 .taken)) refl
+returns-2 c =
+    let args = c .before .before .before .before .args in
+    let if1 = c .before .before .if1 in
+    rw (ne-eqb (args .t) 0 (if1 .left), lt-ltb (args .z .producers) (args .t) (c .if2 .taken)) refl
 
 producer-requires : tie.Need-producer-requires
 producer-requires c κs = search needs
@@ -24,7 +27,11 @@ same-length c = search needs
 
 returns-3 : tie.Need-returns-3
 unfolding startingEnqueue applied
-returns-3 c = rw (le-ltb (c .before .before .before .before .before .before .before .args .z .producers) (c .before .before .before .before .before .before .before .args .t) (c .before .before .before .if2 .left), ne-eqb (c .before .before .before .before .before .before .before .args .t) 0 (c .before .before .before .before .before .if1 .left), c .before .producer .ensures .is, ne-eqb _ _ (c .if3 .taken)) refl
+returns-3 c =
+    let args = c .before .before .before .before .before .before .before .args in
+    let if1 = c .before .before .before .before .before .if1 in
+    let if2 = c .before .before .before .if2 in
+    rw (le-ltb (args .z .producers) (args .t) (if2 .left), ne-eqb (args .t) 0 (if1 .left), c .before .producer .ensures .is, ne-eqb _ _ (c .if3 .taken)) refl
 
 content-requires : tie.Need-content-requires
 content-requires c κs = search needs
@@ -34,7 +41,14 @@ same-length-2 c = search needs
 
 returns-4 : tie.Need-returns-4
 unfolding startingEnqueue applied
-returns-4 c = rw (le-ltb (c .before .before .before .before .before .before .before .before .before .before .before .args .z .producers) (c .before .before .before .before .before .before .before .before .before .before .before .args .t) (c .before .before .before .before .before .before .before .if2 .left), ne-eqb (c .before .before .before .before .before .before .before .before .before .before .before .args .t) 0 (c .before .before .before .before .before .before .before .before .before .if1 .left), c .before .before .before .before .before .producer .ensures .is, c .before .before .before .before .if3 .left, c .before .before .content .ensures .is, eq-eqb _ _ (c .if4 .taken)) refl
+returns-4 c =
+    let args = c .before .before .before .before .before .before .before .before .before .before .before .args in
+    let if1 = c .before .before .before .before .before .before .before .before .before .if1 in
+    let if2 = c .before .before .before .before .before .before .before .if2 in
+    let producer = c .before .before .before .before .before .producer in
+    let if3 = c .before .before .before .before .if3 in
+    let content = c .before .before .content in
+    rw (le-ltb (args .z .producers) (args .t) (if2 .left), ne-eqb (args .t) 0 (if1 .left), producer .ensures .is, if3 .left, content .ensures .is, eq-eqb _ _ (c .if4 .taken)) refl
 
 add-put-content : tie.Need-add-put-content
 add-put-content c = search needs
@@ -63,7 +77,18 @@ same-length-3 c = search needs
 returns-5 : tie.Need-returns-5
 unfolding startingEnqueue applied writes
 returns-5 c =
-    rw (le-ltb (c .before .before .before .before .before .before .before .before .before .before .before .before .before .before .before .before .before .before .before .before .before .before .before .before .before .before .before .args .z .producers) (c .before .before .before .before .before .before .before .before .before .before .before .before .before .before .before .before .before .before .before .before .before .before .before .before .before .before .before .args .t) (c .before .before .before .before .before .before .before .before .before .before .before .before .before .before .before .before .before .before .before .before .before .before .before .if2 .left), ne-eqb (c .before .before .before .before .before .before .before .before .before .before .before .before .before .before .before .before .before .before .before .before .before .before .before .before .before .before .before .args .t) 0 (c .before .before .before .before .before .before .before .before .before .before .before .before .before .before .before .before .before .before .before .before .before .before .before .before .before .if1 .left), c .before .before .before .before .before .before .before .before .before .before .before .before .before .before .before .before .before .before .before .before .before .producer .ensures .is, c .before .before .before .before .before .before .before .before .before .before .before .before .before .before .before .before .before .before .before .before .if3 .left, c .before .before .before .before .before .before .before .before .before .before .before .before .before .before .before .before .before .before .content .ensures .is, ne-eqb _ _ (c .before .before .before .before .before .before .before .before .before .before .before .before .before .before .before .before .if4 .left), c .before .before .put-producer3 .ensures, c .before .before .before .before .before .before .put-producer2 .ensures, c .before .before .before .before .before .before .before .before .before .before .put-producer .ensures, c .before .before .before .before .before .before .before .before .before .before .before .before .before .before .put-content .ensures, add-one (c .before .before .before .before .before .before .before .before .before .before .before .before .before .before .before .before .before .before .content .result)) refl
+    let args = c .before .before .before .before .before .before .before .before .before .before .before .before .before .before .before .before .before .before .before .before .before .before .before .before .before .before .before .args in
+    let if1 = c .before .before .before .before .before .before .before .before .before .before .before .before .before .before .before .before .before .before .before .before .before .before .before .before .before .if1 in
+    let if2 = c .before .before .before .before .before .before .before .before .before .before .before .before .before .before .before .before .before .before .before .before .before .before .before .if2 in
+    let producer = c .before .before .before .before .before .before .before .before .before .before .before .before .before .before .before .before .before .before .before .before .before .producer in
+    let if3 = c .before .before .before .before .before .before .before .before .before .before .before .before .before .before .before .before .before .before .before .before .if3 in
+    let content = c .before .before .before .before .before .before .before .before .before .before .before .before .before .before .before .before .before .before .content in
+    let if4 = c .before .before .before .before .before .before .before .before .before .before .before .before .before .before .before .before .if4 in
+    let put-content = c .before .before .before .before .before .before .before .before .before .before .before .before .before .before .put-content in
+    let put-producer = c .before .before .before .before .before .before .before .before .before .before .put-producer in
+    let put-producer2 = c .before .before .before .before .before .before .put-producer2 in
+    let put-producer3 = c .before .before .put-producer3 in
+    rw (le-ltb (args .z .producers) (args .t) (if2 .left), ne-eqb (args .t) 0 (if1 .left), producer .ensures .is, if3 .left, content .ensures .is, ne-eqb _ _ (if4 .left), put-producer3 .ensures, put-producer2 .ensures, put-producer .ensures, put-content .ensures, add-one (content .result)) refl
 
 pub begin-enqueue-spec : {M : Type 1} → statement M
 begin-enqueue-spec =

@@ -18,7 +18,10 @@ same-length : tie.Need-same-length
 same-length c = search needs
 
 returns : tie.Need-returns
-returns c = replied-of (c .before .before .before .before .before .start-enqueue .result) (now (c .before .before .before .before .before .before .before .before .args .reply)) (c .returned-code .ensures) (c .before .store-reply .ensures) (c .before .before .before .before .before .start-enqueue .ensures)
+returns c =
+    let args = c .before .before .before .before .before .before .before .before .args in
+    let start-enqueue = c .before .before .before .before .before .start-enqueue in
+    replied-of (start-enqueue .result) (now (args .reply)) (c .returned-code .ensures) (c .before .store-reply .ensures) (start-enqueue .ensures)
 
 pub intake-start-enqueue-spec : {M : Type 1} → statement M
 intake-start-enqueue-spec =

@@ -18,7 +18,10 @@ same-length : tie.Need-same-length
 same-length c = search needs
 
 returns : tie.Need-returns
-returns c = replied-of (c .before .before .before .before .before .step .result) (now (c .before .before .before .before .before .before .before .before .args .reply)) (c .returned-code .ensures) (c .before .store-reply .ensures) (c .before .before .before .before .before .step .ensures)
+returns c =
+    let args = c .before .before .before .before .before .before .before .before .args in
+    let step = c .before .before .before .before .before .step in
+    replied-of (step .result) (now (args .reply)) (c .returned-code .ensures) (c .before .store-reply .ensures) (step .ensures)
 
 pub intake-step-spec : {M : Type 1} → statement M
 intake-step-spec =

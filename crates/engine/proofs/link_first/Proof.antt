@@ -22,7 +22,12 @@ same-length c = search needs
 
 returns : tie.Need-returns
 unfolding writes
-returns c = rw (c .before .before .put-part2 .ensures, c .before .before .before .before .before .before .put-part .ensures, c .before .before .before .before .before .before .before .before .before .before .put-content2 .ensures, c .before .before .before .before .before .before .before .before .before .before .before .before .before .before .put-content .ensures) refl
+returns c =
+    let put-content = c .before .before .before .before .before .before .before .before .before .before .before .before .before .before .put-content in
+    let put-content2 = c .before .before .before .before .before .before .before .before .before .before .put-content2 in
+    let put-part = c .before .before .before .before .before .before .put-part in
+    let put-part2 = c .before .before .put-part2 in
+    rw (put-part2 .ensures, put-part .ensures, put-content2 .ensures, put-content .ensures) refl
 
 pub link-first-spec : {M : Type 1} → statement M
 link-first-spec =

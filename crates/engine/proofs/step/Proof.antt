@@ -35,7 +35,12 @@ same-length-2 c = search needs
 returns-2 : tie.Need-returns-2
 unfolding answer
 returns-2 c =
-    call-answered lowestFree (step (c .before .before .before .before .before .before .before .before .before .before .args .t)) (now (c .before .before .before .before .before .before .before .before .before .before .args .s)) _ (c .before .before .before .shape-of .result) (c .before .before .before .shape-of .ensures) (c .before .before .before .before .before .before .before .admit .ensures ∙ c .before .before .before .before .before .before .if1 .left) (c .before .before .step-thread .ensures)
+    let args = c .before .before .before .before .before .before .before .before .before .before .args in
+    let admit = c .before .before .before .before .before .before .before .admit in
+    let if1 = c .before .before .before .before .before .before .if1 in
+    let shape-of = c .before .before .before .shape-of in
+    let step-thread = c .before .before .step-thread in
+    call-answered lowestFree (step (args .t)) (now (args .s)) _ (shape-of .result) (shape-of .ensures) (admit .ensures ∙ if1 .left) (step-thread .ensures)
 
 pub step-spec : {M : Type 1} → statement M
 step-spec =

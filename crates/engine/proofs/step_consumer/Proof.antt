@@ -37,49 +37,77 @@ same-length c = search needs
 
 returns : tie.Need-returns
 unfolding consumerStep
-returns c = rw (c .before .before .before .before .before .consumer .ensures .is, c .before .before .before .before .match .keys1) (c .before .before .read-front .ensures)
+returns c =
+    let consumer = c .before .before .before .before .before .consumer in
+    let match = c .before .before .before .before .match in
+    let read-front = c .before .before .read-front in
+    rw (consumer .ensures .is, match .keys1) (read-front .ensures)
 
 same-length-2 : tie.Need-same-length-2
 same-length-2 c = search needs
 
 returns-2 : tie.Need-returns-2
 unfolding consumerStep
-returns-2 c = rw (c .before .before .before .before .before .consumer .ensures .is, c .before .before .before .before .match .keys2) (c .before .before .read-tail .ensures)
+returns-2 c =
+    let consumer = c .before .before .before .before .before .consumer in
+    let match = c .before .before .before .before .match in
+    let read-tail = c .before .before .read-tail in
+    rw (consumer .ensures .is, match .keys2) (read-tail .ensures)
 
 same-length-3 : tie.Need-same-length-3
 same-length-3 c = search needs
 
 returns-3 : tie.Need-returns-3
 unfolding consumerStep
-returns-3 c = rw (c .before .before .before .before .before .consumer .ensures .is, c .before .before .before .before .match .keys3) (c .before .before .scan-on .ensures)
+returns-3 c =
+    let consumer = c .before .before .before .before .before .consumer in
+    let match = c .before .before .before .before .match in
+    let scan-on = c .before .before .scan-on in
+    rw (consumer .ensures .is, match .keys3) (scan-on .ensures)
 
 same-length-4 : tie.Need-same-length-4
 same-length-4 c = search needs
 
 returns-4 : tie.Need-returns-4
 unfolding consumerStep
-returns-4 c = rw (c .before .before .before .before .before .consumer .ensures .is, c .before .before .before .before .match .keys4) (c .before .before .read-entry .ensures)
+returns-4 c =
+    let consumer = c .before .before .before .before .before .consumer in
+    let match = c .before .before .before .before .match in
+    let read-entry = c .before .before .read-entry in
+    rw (consumer .ensures .is, match .keys4) (read-entry .ensures)
 
 same-length-5 : tie.Need-same-length-5
 same-length-5 c = search needs
 
 returns-5 : tie.Need-returns-5
 unfolding consumerStep
-returns-5 c = rw (c .before .before .before .before .before .consumer .ensures .is, c .before .before .before .before .match .keys5) (c .before .before .rescan-on .ensures)
+returns-5 c =
+    let consumer = c .before .before .before .before .before .consumer in
+    let match = c .before .before .before .before .match in
+    let rescan-on = c .before .before .rescan-on in
+    rw (consumer .ensures .is, match .keys5) (rescan-on .ensures)
 
 same-length-6 : tie.Need-same-length-6
 same-length-6 c = search needs
 
 returns-6 : tie.Need-returns-6
 unfolding consumerStep
-returns-6 c = rw (c .before .before .before .before .before .consumer .ensures .is, c .before .before .before .before .match .keys6) (c .before .before .read-item .ensures)
+returns-6 c =
+    let consumer = c .before .before .before .before .before .consumer in
+    let match = c .before .before .before .before .match in
+    let read-item = c .before .before .read-item in
+    rw (consumer .ensures .is, match .keys6) (read-item .ensures)
 
 same-length-7 : tie.Need-same-length-7
 same-length-7 c = search needs
 
 returns-7 : tie.Need-returns-7
 unfolding consumerStep
-returns-7 c = rw (c .before .before .before .before .before .consumer .ensures .is, c .before .before .before .before .match .keys7) (c .before .before .mark-handled .ensures)
+returns-7 c =
+    let consumer = c .before .before .before .before .before .consumer in
+    let match = c .before .before .before .before .match in
+    let mark-handled = c .before .before .mark-handled in
+    rw (consumer .ensures .is, match .keys7) (mark-handled .ensures)
 
 same-length-8 : tie.Need-same-length-8
 same-length-8 c = search needs

@@ -49,77 +49,121 @@ same-length c = search needs
 
 returns : tie.Need-returns
 unfolding producerStep
-returns c = rw (c .before .before .before .before .before .producer .ensures .is, c .before .before .before .before .match .keys1) (c .before .before .take-position .ensures)
+returns c =
+    let producer = c .before .before .before .before .before .producer in
+    let match = c .before .before .before .before .match in
+    let take-position = c .before .before .take-position in
+    rw (producer .ensures .is, match .keys1) (take-position .ensures)
 
 same-length-2 : tie.Need-same-length-2
 same-length-2 c = search needs
 
 returns-2 : tie.Need-returns-2
 unfolding producerStep
-returns-2 c = rw (c .before .before .before .before .before .producer .ensures .is, c .before .before .before .before .match .keys2) (c .before .before .load-tail .ensures)
+returns-2 c =
+    let producer = c .before .before .before .before .before .producer in
+    let match = c .before .before .before .before .match in
+    let load-tail = c .before .before .load-tail in
+    rw (producer .ensures .is, match .keys2) (load-tail .ensures)
 
 same-length-3 : tie.Need-same-length-3
 same-length-3 c = search needs
 
 returns-3 : tie.Need-returns-3
 unfolding producerStep
-returns-3 c = rw (c .before .before .before .before .before .producer .ensures .is, c .before .before .before .before .match .keys3) (c .before .before .look-next .ensures)
+returns-3 c =
+    let producer = c .before .before .before .before .before .producer in
+    let match = c .before .before .before .before .match in
+    let look-next = c .before .before .look-next in
+    rw (producer .ensures .is, match .keys3) (look-next .ensures)
 
 same-length-4 : tie.Need-same-length-4
 same-length-4 c = search needs
 
 returns-4 : tie.Need-returns-4
 unfolding producerStep
-returns-4 c = rw (c .before .before .before .before .before .producer .ensures .is, c .before .before .before .before .match .keys4) (c .before .before .claim-record .ensures)
+returns-4 c =
+    let producer = c .before .before .before .before .before .producer in
+    let match = c .before .before .before .before .match in
+    let claim-record = c .before .before .claim-record in
+    rw (producer .ensures .is, match .keys4) (claim-record .ensures)
 
 same-length-5 : tie.Need-same-length-5
 same-length-5 c = search needs
 
 returns-5 : tie.Need-returns-5
 unfolding producerStep
-returns-5 c = rw (c .before .before .before .before .before .producer .ensures .is, c .before .before .before .before .match .keys5) (c .before .before .link-claimed .ensures)
+returns-5 c =
+    let producer = c .before .before .before .before .before .producer in
+    let match = c .before .before .before .before .match in
+    let link-claimed = c .before .before .link-claimed in
+    rw (producer .ensures .is, match .keys5) (link-claimed .ensures)
 
 same-length-6 : tie.Need-same-length-6
 same-length-6 c = search needs
 
 returns-6 : tie.Need-returns-6
 unfolding producerStep
-returns-6 c = rw (c .before .before .before .before .before .producer .ensures .is, c .before .before .before .before .match .keys6) (c .before .before .shift-tail .ensures)
+returns-6 c =
+    let producer = c .before .before .before .before .before .producer in
+    let match = c .before .before .before .before .match in
+    let shift-tail = c .before .before .shift-tail in
+    rw (producer .ensures .is, match .keys6) (shift-tail .ensures)
 
 same-length-7 : tie.Need-same-length-7
 same-length-7 c = search needs
 
 returns-7 : tie.Need-returns-7
 unfolding producerStep
-returns-7 c = rw (c .before .before .before .before .before .producer .ensures .is, c .before .before .before .before .match .keys7) (c .before .before .go-back .ensures)
+returns-7 c =
+    let producer = c .before .before .before .before .before .producer in
+    let match = c .before .before .before .before .match in
+    let go-back = c .before .before .go-back in
+    rw (producer .ensures .is, match .keys7) (go-back .ensures)
 
 same-length-8 : tie.Need-same-length-8
 same-length-8 c = search needs
 
 returns-8 : tie.Need-returns-8
 unfolding producerStep
-returns-8 c = rw (c .before .before .before .before .before .producer .ensures .is, c .before .before .before .before .match .keys8) (c .before .before .write-entry .ensures)
+returns-8 c =
+    let producer = c .before .before .before .before .before .producer in
+    let match = c .before .before .before .before .match in
+    let write-entry = c .before .before .write-entry in
+    rw (producer .ensures .is, match .keys8) (write-entry .ensures)
 
 same-length-9 : tie.Need-same-length-9
 same-length-9 c = search needs
 
 returns-9 : tie.Need-returns-9
 unfolding producerStep
-returns-9 c = rw (c .before .before .before .before .before .producer .ensures .is, c .before .before .before .before .match .keys9) (c .before .before .set-entry .ensures)
+returns-9 c =
+    let producer = c .before .before .before .before .before .producer in
+    let match = c .before .before .before .before .match in
+    let set-entry = c .before .before .set-entry in
+    rw (producer .ensures .is, match .keys9) (set-entry .ensures)
 
 same-length-10 : tie.Need-same-length-10
 same-length-10 c = search needs
 
 returns-10 : tie.Need-returns-10
 unfolding producerStep
-returns-10 c = rw (c .before .before .before .before .before .producer .ensures .is, c .before .before .before .before .match .keys10) (c .before .before .claim-ahead .ensures)
+returns-10 c =
+    let producer = c .before .before .before .before .before .producer in
+    let match = c .before .before .before .before .match in
+    let claim-ahead = c .before .before .claim-ahead in
+    rw (producer .ensures .is, match .keys10) (claim-ahead .ensures)
 
 same-length-11 : tie.Need-same-length-11
 same-length-11 c = search needs
 
 returns-11 : tie.Need-returns-11
 unfolding producerStep
-returns-11 c = rw (c .before .before .before .before .before .producer .ensures .is, c .before .before .before .before .match .keys11) (c .before .before .link-ahead .ensures)
+returns-11 c =
+    let producer = c .before .before .before .before .before .producer in
+    let match = c .before .before .before .before .match in
+    let link-ahead = c .before .before .link-ahead in
+    rw (producer .ensures .is, match .keys11) (link-ahead .ensures)
 
 same-length-12 : tie.Need-same-length-12
 same-length-12 c = search needs

@@ -18,7 +18,12 @@ same-length c = search needs
 
 returns-2 : tie.Need-returns-2
 unfolding stepping
-returns-2 c = rw (le-ltb (c .before .before .before .before .before .before .before .before .args .z .producers) (c .before .before .before .before .before .before .before .before .args .t) (c .before .before .before .before .before .if1 .left), eq-eqb (c .before .before .before .before .before .before .before .before .args .t) 0 (c .before .before .before .before .if2 .taken)) (c .before .before .step-consumer .ensures)
+returns-2 c =
+    let args = c .before .before .before .before .before .before .before .before .args in
+    let if1 = c .before .before .before .before .before .if1 in
+    let if2 = c .before .before .before .before .if2 in
+    let step-consumer = c .before .before .step-consumer in
+    rw (le-ltb (args .z .producers) (args .t) (if1 .left), eq-eqb (args .t) 0 (if2 .taken)) (step-consumer .ensures)
 
 step-producer-requires : tie.Need-step-producer-requires
 step-producer-requires c κs = search needs
@@ -28,7 +33,12 @@ same-length-2 c = search needs
 
 returns-3 : tie.Need-returns-3
 unfolding stepping
-returns-3 c = rw (le-ltb (c .before .before .before .before .before .before .before .before .args .z .producers) (c .before .before .before .before .before .before .before .before .args .t) (c .before .before .before .before .before .if1 .left), ne-eqb (c .before .before .before .before .before .before .before .before .args .t) 0 (c .before .before .before .before .if2 .left)) (c .before .before .step-producer .ensures)
+returns-3 c =
+    let args = c .before .before .before .before .before .before .before .before .args in
+    let if1 = c .before .before .before .before .before .if1 in
+    let if2 = c .before .before .before .before .if2 in
+    let step-producer = c .before .before .step-producer in
+    rw (le-ltb (args .z .producers) (args .t) (if1 .left), ne-eqb (args .t) 0 (if2 .left)) (step-producer .ensures)
 
 pub step-thread-spec : {M : Type 1} → statement M
 step-thread-spec =

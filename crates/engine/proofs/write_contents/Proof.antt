@@ -39,7 +39,14 @@ same-length c = search needs
 returns : tie.Need-returns
 unfolding writes
 returns c =
-    rw (c .before .before .put-content6 .ensures, c .before .before .before .before .before .before .before .put-content5 .ensures, c .before .before .before .before .before .before .before .before .before .before .before .put-content4 .ensures, c .before .before .before .before .before .before .before .before .before .before .before .before .before .before .before .put-content3 .ensures, c .before .before .before .before .before .before .before .before .before .before .before .before .before .before .before .before .before .before .before .put-content2 .ensures, c .before .before .before .before .before .before .before .before .before .before .before .before .before .before .before .before .before .before .before .before .before .before .before .put-content .ensures, add-one (c .before .before .before .before .before .before .before .before .before .before .before .before .before .before .before .before .before .before .before .before .before .before .before .before .before .before .args .z .producers)) refl
+    let args = c .before .before .before .before .before .before .before .before .before .before .before .before .before .before .before .before .before .before .before .before .before .before .before .before .before .before .args in
+    let put-content = c .before .before .before .before .before .before .before .before .before .before .before .before .before .before .before .before .before .before .before .before .before .before .before .put-content in
+    let put-content2 = c .before .before .before .before .before .before .before .before .before .before .before .before .before .before .before .before .before .before .before .put-content2 in
+    let put-content3 = c .before .before .before .before .before .before .before .before .before .before .before .before .before .before .before .put-content3 in
+    let put-content4 = c .before .before .before .before .before .before .before .before .before .before .before .put-content4 in
+    let put-content5 = c .before .before .before .before .before .before .before .put-content5 in
+    let put-content6 = c .before .before .put-content6 in
+    rw (put-content6 .ensures, put-content5 .ensures, put-content4 .ensures, put-content3 .ensures, put-content2 .ensures, put-content .ensures, add-one (args .z .producers)) refl
 
 pub write-contents-spec : {M : Type 1} → statement M
 write-contents-spec =

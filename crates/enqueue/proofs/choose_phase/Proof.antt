@@ -18,10 +18,18 @@ add-if2 : tie.Need-add-if2
 add-if2 c = search needs
 
 returns-2 : tie.Need-returns-2
-returns-2 c = rw (c .before .before .before .before .producer .ensures .is, c .before .before .before .record-end .ensures .0, lt-leb _ _ (c .before .before .if1 .left), lt-ltb _ _ (c .if2 .taken)) refl
+returns-2 c =
+    let producer = c .before .before .before .before .producer in
+    let record-end = c .before .before .before .record-end in
+    let if1 = c .before .before .if1 in
+    rw (producer .ensures .is, record-end .ensures .0, lt-leb _ _ (if1 .left), lt-ltb _ _ (c .if2 .taken)) refl
 
 returns-3 : tie.Need-returns-3
-returns-3 c = rw (c .before .before .before .before .producer .ensures .is, c .before .before .before .record-end .ensures .0, lt-leb _ _ (c .before .before .if1 .left), le-ltb _ _ (c .if2 .left)) refl
+returns-3 c =
+    let producer = c .before .before .before .before .producer in
+    let record-end = c .before .before .before .record-end in
+    let if1 = c .before .before .if1 in
+    rw (producer .ensures .is, record-end .ensures .0, lt-leb _ _ (if1 .left), le-ltb _ _ (c .if2 .left)) refl
 
 pub choose-phase-spec : {M : Type 1} → statement M
 choose-phase-spec =

@@ -30,7 +30,10 @@ same-length-2 c = search needs
 
 returns-2 : tie.Need-returns-2
 unfolding goBack applied
-returns-2 c = rw (some (c .before .before .before .before .producer .ensures .is) (c .before .before .before .if1 .left), c .before .part .ensures .is, c .if2 .taken) refl
+returns-2 c =
+    let producer = c .before .before .before .before .producer in
+    let if1 = c .before .before .before .if1 in
+    rw (some (producer .ensures .is) (if1 .left), c .before .part .ensures .is, c .if2 .taken) refl
 
 sub-choose-phase : tie.Need-sub-choose-phase
 sub-choose-phase c = search needs
@@ -53,7 +56,15 @@ same-length-3 c = search needs
 returns-3 : tie.Need-returns-3
 unfolding goBack applied writes
 returns-3 c =
-    rw (some (c .before .before .before .before .before .before .before .before .before .before .before .before .before .before .before .before .before .before .producer .ensures .is) (c .before .before .before .before .before .before .before .before .before .before .before .before .before .before .before .before .before .if1 .left), some (c .before .before .before .before .before .before .before .before .before .before .before .before .before .before .before .part .ensures .is) (c .before .before .before .before .before .before .before .before .before .before .before .before .before .before .if2 .left), c .before .before .before .before .before .before .before .before .before .before .before .before .choose-phase .ensures, suc-pred (c .before .before .before .before .before .before .before .before .before .before .before .before .before .before .if2 .left), c .before .before .put-producer3 .ensures, c .before .before .before .before .before .before .put-producer2 .ensures, c .before .before .before .before .before .before .before .before .before .before .put-producer .ensures) refl
+    let producer = c .before .before .before .before .before .before .before .before .before .before .before .before .before .before .before .before .before .before .producer in
+    let if1 = c .before .before .before .before .before .before .before .before .before .before .before .before .before .before .before .before .before .if1 in
+    let part = c .before .before .before .before .before .before .before .before .before .before .before .before .before .before .before .part in
+    let if2 = c .before .before .before .before .before .before .before .before .before .before .before .before .before .before .if2 in
+    let choose-phase = c .before .before .before .before .before .before .before .before .before .before .before .before .choose-phase in
+    let put-producer = c .before .before .before .before .before .before .before .before .before .before .put-producer in
+    let put-producer2 = c .before .before .before .before .before .before .put-producer2 in
+    let put-producer3 = c .before .before .put-producer3 in
+    rw (some (producer .ensures .is) (if1 .left), some (part .ensures .is) (if2 .left), choose-phase .ensures, suc-pred (if2 .left), put-producer3 .ensures, put-producer2 .ensures, put-producer .ensures) refl
 
 pub go-back-spec : {M : Type 1} → statement M
 go-back-spec =

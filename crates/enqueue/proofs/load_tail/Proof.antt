@@ -37,7 +37,12 @@ same-length-2 c = search needs
 returns-2 : tie.Need-returns-2
 unfolding loadTail applied writes
 returns-2 c =
-    rw (some (c .before .before .before .before .before .before .before .before .before .before .before .content .ensures .is) (c .before .before .before .before .before .before .before .before .before .before .if1 .left), c .before .before .before .before .before .before .before .before .choose-phase .ensures, suc-pred (c .before .before .before .before .before .before .before .before .before .before .if1 .left), c .before .before .put-producer2 .ensures, c .before .before .before .before .before .before .put-producer .ensures) refl
+    let content = c .before .before .before .before .before .before .before .before .before .before .before .content in
+    let if1 = c .before .before .before .before .before .before .before .before .before .before .if1 in
+    let choose-phase = c .before .before .before .before .before .before .before .before .choose-phase in
+    let put-producer = c .before .before .before .before .before .before .put-producer in
+    let put-producer2 = c .before .before .put-producer2 in
+    rw (some (content .ensures .is) (if1 .left), choose-phase .ensures, suc-pred (if1 .left), put-producer2 .ensures, put-producer .ensures) refl
 
 pub load-tail-spec : {M : Type 1} → statement M
 load-tail-spec =

@@ -35,7 +35,12 @@ same-length-2 c = search needs
 returns-2 : tie.Need-returns-2
 unfolding lookNext applied writes
 returns-2 c =
-    rw (some (c .before .before .before .before .before .before .before .before .producer .ensures .is) (c .before .before .before .before .before .before .before .if1 .left), c .before .before .before .before .before .part .ensures .is, eq-eqb _ _ (c .before .before .before .before .if2 .taken), c .before .before .put-producer .ensures) refl
+    let producer = c .before .before .before .before .before .before .before .before .producer in
+    let if1 = c .before .before .before .before .before .before .before .if1 in
+    let part = c .before .before .before .before .before .part in
+    let if2 = c .before .before .before .before .if2 in
+    let put-producer = c .before .before .put-producer in
+    rw (some (producer .ensures .is) (if1 .left), part .ensures .is, eq-eqb _ _ (if2 .taken), put-producer .ensures) refl
 
 put-producer-requires-2 : tie.Need-put-producer-requires-2
 put-producer-requires-2 c κs = omega (arith, c .before .before .before .before .before .before .before .before)
@@ -46,7 +51,12 @@ same-length-3 c = search needs
 returns-3 : tie.Need-returns-3
 unfolding lookNext applied writes
 returns-3 c =
-    rw (some (c .before .before .before .before .before .before .before .before .producer .ensures .is) (c .before .before .before .before .before .before .before .if1 .left), c .before .before .before .before .before .part .ensures .is, ne-eqb _ _ (c .before .before .before .before .if2 .left), c .before .before .put-producer2 .ensures) refl
+    let producer = c .before .before .before .before .before .before .before .before .producer in
+    let if1 = c .before .before .before .before .before .before .before .if1 in
+    let part = c .before .before .before .before .before .part in
+    let if2 = c .before .before .before .before .if2 in
+    let put-producer2 = c .before .before .put-producer2 in
+    rw (some (producer .ensures .is) (if1 .left), part .ensures .is, ne-eqb _ _ (if2 .left), put-producer2 .ensures) refl
 
 pub look-next-spec : {M : Type 1} → statement M
 look-next-spec =

@@ -34,7 +34,11 @@ same-length-2 c = search needs
 returns-2 : tie.Need-returns-2
 unfolding setEntry applied
 returns-2 c =
-    rw (some (c .before .before .before .before .before .before .producer .ensures .is) (c .before .before .before .before .before .if1 .left), c .before .before .before .producer2 .ensures .is, c .before .before .index-in .ensures .outside (c .if2 .taken)) refl
+    let producer = c .before .before .before .before .before .before .producer in
+    let if1 = c .before .before .before .before .before .if1 in
+    let producer2 = c .before .before .before .producer2 in
+    let index-in = c .before .before .index-in in
+    rw (some (producer .ensures .is) (if1 .left), producer2 .ensures .is, index-in .ensures .outside (c .if2 .taken)) refl
 
 producer-requires-3 : tie.Need-producer-requires-3
 producer-requires-3 c κs = search needs
@@ -54,7 +58,16 @@ same-length-3 c = search needs
 returns-3 : tie.Need-returns-3
 unfolding setEntry applied writes
 returns-3 c =
-    rw (some (c .before .before .before .before .before .before .before .before .before .before .before .before .before .before .before .before .before .producer .ensures .is) (c .before .before .before .before .before .before .before .before .before .before .before .before .before .before .before .before .if1 .left), c .before .before .before .before .before .before .before .before .before .before .before .before .before .before .producer2 .ensures .is, c .before .before .before .before .before .before .before .before .before .before .before .before .before .index-in .ensures .inside (c .before .before .before .before .before .before .before .before .before .before .before .if2 .left), c .before .before .before .before .before .before .before .before .before .before .before .before .before .index-in .ensures .is (c .before .before .before .before .before .before .before .before .before .before .before .if2 .left), c .before .before .before .before .before .before .before .before .before .producer3 .ensures .is, c .before .before .before .before .if3 .taken, c .before .before .put-producer .ensures, c .before .before .before .before .before .before .before .put-entry .ensures) refl
+    let producer = c .before .before .before .before .before .before .before .before .before .before .before .before .before .before .before .before .before .producer in
+    let if1 = c .before .before .before .before .before .before .before .before .before .before .before .before .before .before .before .before .if1 in
+    let producer2 = c .before .before .before .before .before .before .before .before .before .before .before .before .before .before .producer2 in
+    let index-in = c .before .before .before .before .before .before .before .before .before .before .before .before .before .index-in in
+    let if2 = c .before .before .before .before .before .before .before .before .before .before .before .if2 in
+    let producer3 = c .before .before .before .before .before .before .before .before .before .producer3 in
+    let put-entry = c .before .before .before .before .before .before .before .put-entry in
+    let if3 = c .before .before .before .before .if3 in
+    let put-producer = c .before .before .put-producer in
+    rw (some (producer .ensures .is) (if1 .left), producer2 .ensures .is, index-in .ensures .inside (if2 .left), index-in .ensures .is (if2 .left), producer3 .ensures .is, if3 .taken, put-producer .ensures, put-entry .ensures) refl
 
 clear-producer-requires : tie.Need-clear-producer-requires
 clear-producer-requires c κs = omega (arith, c .before .before .before .before .before .before .before .before .before .before .before .before .before .before .before .before .before)
@@ -65,7 +78,16 @@ same-length-4 c = search needs
 returns-4 : tie.Need-returns-4
 unfolding setEntry applied writes
 returns-4 c =
-    rw (some (c .before .before .before .before .before .before .before .before .before .before .before .before .before .before .before .before .before .producer .ensures .is) (c .before .before .before .before .before .before .before .before .before .before .before .before .before .before .before .before .if1 .left), c .before .before .before .before .before .before .before .before .before .before .before .before .before .before .producer2 .ensures .is, c .before .before .before .before .before .before .before .before .before .before .before .before .before .index-in .ensures .inside (c .before .before .before .before .before .before .before .before .before .before .before .if2 .left), c .before .before .before .before .before .before .before .before .before .before .before .before .before .index-in .ensures .is (c .before .before .before .before .before .before .before .before .before .before .before .if2 .left), c .before .before .before .before .before .before .before .before .before .producer3 .ensures .is, c .before .before .before .before .if3 .left, c .before .before .clear-producer .ensures, c .before .before .before .before .before .before .before .put-entry .ensures) refl
+    let producer = c .before .before .before .before .before .before .before .before .before .before .before .before .before .before .before .before .before .producer in
+    let if1 = c .before .before .before .before .before .before .before .before .before .before .before .before .before .before .before .before .if1 in
+    let producer2 = c .before .before .before .before .before .before .before .before .before .before .before .before .before .before .producer2 in
+    let index-in = c .before .before .before .before .before .before .before .before .before .before .before .before .before .index-in in
+    let if2 = c .before .before .before .before .before .before .before .before .before .before .before .if2 in
+    let producer3 = c .before .before .before .before .before .before .before .before .before .producer3 in
+    let put-entry = c .before .before .before .before .before .before .before .put-entry in
+    let if3 = c .before .before .before .before .if3 in
+    let clear-producer = c .before .before .clear-producer in
+    rw (some (producer .ensures .is) (if1 .left), producer2 .ensures .is, index-in .ensures .inside (if2 .left), index-in .ensures .is (if2 .left), producer3 .ensures .is, if3 .left, clear-producer .ensures, put-entry .ensures) refl
 
 pub set-entry-spec : {M : Type 1} → statement M
 set-entry-spec =

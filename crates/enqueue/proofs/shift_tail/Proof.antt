@@ -32,7 +32,12 @@ same-length-2 c = search needs
 returns-2 : tie.Need-returns-2
 unfolding shiftTail applied writes
 returns-2 c =
-    rw (some (c .before .before .before .before .before .before .before .before .producer .ensures .is) (c .before .before .before .before .before .before .before .if1 .left), c .before .before .before .before .before .content .ensures .is, suc-pred (c .before .before .before .before .before .before .before .if1 .left), ne-eqb _ _ (c .before .before .before .before .if2 .taken), c .before .before .put-producer .ensures) refl
+    let producer = c .before .before .before .before .before .before .before .before .producer in
+    let if1 = c .before .before .before .before .before .before .before .if1 in
+    let content = c .before .before .before .before .before .content in
+    let if2 = c .before .before .before .before .if2 in
+    let put-producer = c .before .before .put-producer in
+    rw (some (producer .ensures .is) (if1 .left), content .ensures .is, suc-pred (if1 .left), ne-eqb _ _ (if2 .taken), put-producer .ensures) refl
 
 sub-part : tie.Need-sub-part
 sub-part c = search needs
@@ -46,7 +51,11 @@ same-length-3 c = search needs
 returns-3 : tie.Need-returns-3
 unfolding shiftTail applied
 returns-3 c =
-    rw (some (c .before .before .before .before .before .before .before .producer .ensures .is) (c .before .before .before .before .before .before .if1 .left), c .before .before .before .before .content .ensures .is, suc-pred (c .before .before .before .before .before .before .if1 .left), eq-eqb _ _ (c .before .before .before .if2 .left), c .before .part .ensures .is, c .if3 .taken) refl
+    let producer = c .before .before .before .before .before .before .before .producer in
+    let if1 = c .before .before .before .before .before .before .if1 in
+    let content = c .before .before .before .before .content in
+    let if2 = c .before .before .before .if2 in
+    rw (some (producer .ensures .is) (if1 .left), content .ensures .is, suc-pred (if1 .left), eq-eqb _ _ (if2 .left), c .before .part .ensures .is, c .if3 .taken) refl
 
 put-content-requires : tie.Need-put-content-requires
 put-content-requires c κs = omega (arith, c .before .before .before .before .before .before .before .before .before .before .before)
@@ -60,7 +69,15 @@ same-length-4 c = search needs
 returns-4 : tie.Need-returns-4
 unfolding shiftTail applied writes
 returns-4 c =
-    rw (some (c .before .before .before .before .before .before .before .before .before .before .before .before .before .before .before .producer .ensures .is) (c .before .before .before .before .before .before .before .before .before .before .before .before .before .before .if1 .left), c .before .before .before .before .before .before .before .before .before .before .before .before .content .ensures .is, suc-pred (c .before .before .before .before .before .before .before .before .before .before .before .before .before .before .if1 .left), eq-eqb _ _ (c .before .before .before .before .before .before .before .before .before .before .before .if2 .left), some (c .before .before .before .before .before .before .before .before .before .part .ensures .is) (c .before .before .before .before .before .before .before .before .if3 .left), suc-pred (c .before .before .before .before .before .before .before .before .if3 .left), c .before .before .put-producer2 .ensures, c .before .before .before .before .before .before .put-content .ensures) refl
+    let producer = c .before .before .before .before .before .before .before .before .before .before .before .before .before .before .before .producer in
+    let if1 = c .before .before .before .before .before .before .before .before .before .before .before .before .before .before .if1 in
+    let content = c .before .before .before .before .before .before .before .before .before .before .before .before .content in
+    let if2 = c .before .before .before .before .before .before .before .before .before .before .before .if2 in
+    let part = c .before .before .before .before .before .before .before .before .before .part in
+    let if3 = c .before .before .before .before .before .before .before .before .if3 in
+    let put-content = c .before .before .before .before .before .before .put-content in
+    let put-producer2 = c .before .before .put-producer2 in
+    rw (some (producer .ensures .is) (if1 .left), content .ensures .is, suc-pred (if1 .left), eq-eqb _ _ (if2 .left), some (part .ensures .is) (if3 .left), suc-pred (if3 .left), put-producer2 .ensures, put-content .ensures) refl
 
 pub shift-tail-spec : {M : Type 1} → statement M
 shift-tail-spec =

@@ -24,7 +24,11 @@ same-length-2 c = search needs
 
 returns-2 : tie.Need-returns-2
 unfolding writes
-returns-2 c = rw (c .before .before .clear-producer .ensures) (ahead-made (c .before .before .before .before .before .before .before .link .ensures) (not-false _ (c .before .before .before .before .if1 .left)))
+returns-2 c =
+    let link = c .before .before .before .before .before .before .before .link in
+    let if1 = c .before .before .before .before .if1 in
+    let clear-producer = c .before .before .clear-producer in
+    rw (clear-producer .ensures) (ahead-made (link .ensures) (not-false _ (if1 .left)))
 
 pub link-ahead-spec : {M : Type 1} → statement M
 link-ahead-spec =

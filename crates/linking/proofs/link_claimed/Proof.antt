@@ -27,7 +27,12 @@ same-length-2 c = search needs
 
 returns-2 : tie.Need-returns-2
 unfolding writes
-returns-2 c = rw (c .before .before .put-producer2 .ensures, c .before .before .before .before .before .before .put-producer .ensures) (claimed-made (c .before .before .before .before .before .before .before .before .before .before .before .link .ensures) (not-false _ (c .before .before .before .before .before .before .before .before .if1 .left)))
+returns-2 c =
+    let link = c .before .before .before .before .before .before .before .before .before .before .before .link in
+    let if1 = c .before .before .before .before .before .before .before .before .if1 in
+    let put-producer = c .before .before .before .before .before .before .put-producer in
+    let put-producer2 = c .before .before .put-producer2 in
+    rw (put-producer2 .ensures, put-producer .ensures) (claimed-made (link .ensures) (not-false _ (if1 .left)))
 
 pub link-claimed-spec : {M : Type 1} → statement M
 link-claimed-spec =

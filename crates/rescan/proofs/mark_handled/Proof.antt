@@ -37,7 +37,11 @@ same-length-2 c = search needs
 returns-2 : tie.Need-returns-2
 unfolding applied markHandled
 returns-2 c =
-    rw (some (c .before .before .before .before .before .before .before .consumer .ensures .is) (c .before .before .before .before .before .before .if1 .left), c .before .before .before .before .consumer2 .ensures .is, c .before .before .index-in .ensures .outside (c .if2 .taken)) refl
+    let consumer = c .before .before .before .before .before .before .before .consumer in
+    let if1 = c .before .before .before .before .before .before .if1 in
+    let consumer2 = c .before .before .before .before .consumer2 in
+    let index-in = c .before .before .index-in in
+    rw (some (consumer .ensures .is) (if1 .left), consumer2 .ensures .is, index-in .ensures .outside (c .if2 .taken)) refl
 
 consumer-requires-3 : tie.Need-consumer-requires-3
 consumer-requires-3 c κs = search needs
@@ -63,7 +67,18 @@ same-length-3 c = search needs
 returns-3 : tie.Need-returns-3
 unfolding applied markHandled writes
 returns-3 c =
-    rw (some (c .before .before .before .before .before .before .before .before .before .before .before .before .before .before .before .before .before .before .before .before .before .before .consumer .ensures .is) (c .before .before .before .before .before .before .before .before .before .before .before .before .before .before .before .before .before .before .before .before .before .if1 .left), c .before .before .before .before .before .before .before .before .before .before .before .before .before .before .before .before .before .before .before .consumer2 .ensures .is, c .before .before .before .before .before .before .before .before .before .before .before .before .before .before .before .before .before .index-in .ensures .inside (c .before .before .before .before .before .before .before .before .before .before .before .before .before .before .before .if2 .left), c .before .before .before .before .before .before .before .before .before .before .before .before .before .before .before .before .before .index-in .ensures .is (c .before .before .before .before .before .before .before .before .before .before .before .before .before .before .before .if2 .left), c .before .before .before .before .before .before .before .before .before .before .before .before .before .consumer3 .ensures .is, c .before .before .before .before .before .before .before .before .before .before .before .consumer4 .ensures .is, c .before .before .before .before .before .before .before .before .before .content .ensures .is, ne-eqb _ _ (c .before .before .before .before .before .before .before .before .if3 .taken), c .before .before .clear-consumer .ensures, c .before .before .before .before .before .before .put-entry .ensures) refl
+    let consumer = c .before .before .before .before .before .before .before .before .before .before .before .before .before .before .before .before .before .before .before .before .before .before .consumer in
+    let if1 = c .before .before .before .before .before .before .before .before .before .before .before .before .before .before .before .before .before .before .before .before .before .if1 in
+    let consumer2 = c .before .before .before .before .before .before .before .before .before .before .before .before .before .before .before .before .before .before .before .consumer2 in
+    let index-in = c .before .before .before .before .before .before .before .before .before .before .before .before .before .before .before .before .before .index-in in
+    let if2 = c .before .before .before .before .before .before .before .before .before .before .before .before .before .before .before .if2 in
+    let consumer3 = c .before .before .before .before .before .before .before .before .before .before .before .before .before .consumer3 in
+    let consumer4 = c .before .before .before .before .before .before .before .before .before .before .before .consumer4 in
+    let content = c .before .before .before .before .before .before .before .before .before .content in
+    let if3 = c .before .before .before .before .before .before .before .before .if3 in
+    let put-entry = c .before .before .before .before .before .before .put-entry in
+    let clear-consumer = c .before .before .clear-consumer in
+    rw (some (consumer .ensures .is) (if1 .left), consumer2 .ensures .is, index-in .ensures .inside (if2 .left), index-in .ensures .is (if2 .left), consumer3 .ensures .is, consumer4 .ensures .is, content .ensures .is, ne-eqb _ _ (if3 .taken), clear-consumer .ensures, put-entry .ensures) refl
 
 same-length-4 : tie.Need-same-length-4
 same-length-4 c = search needs

@@ -34,7 +34,11 @@ same-length-2 c = search needs
 returns-2 : tie.Need-returns-2
 unfolding applied readItem
 returns-2 c =
-    rw (some (c .before .before .before .before .before .before .consumer .ensures .is) (c .before .before .before .before .before .if1 .left), c .before .before .before .consumer2 .ensures .is, c .before .before .index-in .ensures .outside (c .if2 .taken)) refl
+    let consumer = c .before .before .before .before .before .before .consumer in
+    let if1 = c .before .before .before .before .before .if1 in
+    let consumer2 = c .before .before .before .consumer2 in
+    let index-in = c .before .before .index-in in
+    rw (some (consumer .ensures .is) (if1 .left), consumer2 .ensures .is, index-in .ensures .outside (c .if2 .taken)) refl
 
 sub-entry : tie.Need-sub-entry
 sub-entry c = search needs
@@ -63,7 +67,17 @@ same-length-3 c = search needs
 returns-3 : tie.Need-returns-3
 unfolding applied readItem writes
 returns-3 c =
-    rw (some (c .before .before .before .before .before .before .before .before .before .before .before .before .before .before .before .before .before .before .before .before .before .before .consumer .ensures .is) (c .before .before .before .before .before .before .before .before .before .before .before .before .before .before .before .before .before .before .before .before .before .if1 .left), c .before .before .before .before .before .before .before .before .before .before .before .before .before .before .before .before .before .before .before .consumer2 .ensures .is, c .before .before .before .before .before .before .before .before .before .before .before .before .before .before .before .before .before .before .index-in .ensures .inside (c .before .before .before .before .before .before .before .before .before .before .before .before .before .before .before .before .if2 .left), c .before .before .before .before .before .before .before .before .before .before .before .before .before .before .before .before .before .before .index-in .ensures .is (c .before .before .before .before .before .before .before .before .before .before .before .before .before .before .before .before .if2 .left), c .before .before .before .before .before .before .before .before .before .before .before .before .before .before .entry .ensures .is, c .before .before .before .before .before .before .before .before .before .before .before .before .entry2 .ensures .is, c .before .before .put-consumer3 .ensures, c .before .before .before .before .before .before .put-consumer2 .ensures, c .before .before .before .before .before .before .before .before .before .before .put-consumer .ensures) refl
+    let consumer = c .before .before .before .before .before .before .before .before .before .before .before .before .before .before .before .before .before .before .before .before .before .before .consumer in
+    let if1 = c .before .before .before .before .before .before .before .before .before .before .before .before .before .before .before .before .before .before .before .before .before .if1 in
+    let consumer2 = c .before .before .before .before .before .before .before .before .before .before .before .before .before .before .before .before .before .before .before .consumer2 in
+    let index-in = c .before .before .before .before .before .before .before .before .before .before .before .before .before .before .before .before .before .before .index-in in
+    let if2 = c .before .before .before .before .before .before .before .before .before .before .before .before .before .before .before .before .if2 in
+    let entry = c .before .before .before .before .before .before .before .before .before .before .before .before .before .before .entry in
+    let entry2 = c .before .before .before .before .before .before .before .before .before .before .before .before .entry2 in
+    let put-consumer = c .before .before .before .before .before .before .before .before .before .before .put-consumer in
+    let put-consumer2 = c .before .before .before .before .before .before .put-consumer2 in
+    let put-consumer3 = c .before .before .put-consumer3 in
+    rw (some (consumer .ensures .is) (if1 .left), consumer2 .ensures .is, index-in .ensures .inside (if2 .left), index-in .ensures .is (if2 .left), entry .ensures .is, entry2 .ensures .is, put-consumer3 .ensures, put-consumer2 .ensures, put-consumer .ensures) refl
 
 pub read-item-spec : {M : Type 1} → statement M
 read-item-spec =

@@ -21,9 +21,11 @@ same-length c = search needs
 returns : tie.Need-returns
 unfolding applied
 returns c =
-    let a = c .before .before .before .before .before .args in
+    let args = c .before .before .before .before .before .args in
+    let cross-from = c .before .before .cross-from in
+    let a = args in
     let f = toRescan (sizes (a .z)) (reader (sizes (a .z)) (now (a .s))) in
-    rw (c .before .before .cross-from .ensures .refused (c .if1 .taken) f) refl
+    rw (cross-from .ensures .refused (c .if1 .taken) f) refl
 
 consumer-requires : tie.Need-consumer-requires
 consumer-requires c κs = search needs
@@ -37,9 +39,15 @@ same-length-2 c = search needs
 returns-2 : tie.Need-returns-2
 unfolding applied
 returns-2 c =
-    let a = c .before .before .before .before .before .before .before .before .before .before .before .before .before .args in
+    let args = c .before .before .before .before .before .before .before .before .before .before .before .before .before .args in
+    let cross-from = c .before .before .before .before .before .before .before .before .before .before .cross-from in
+    let if1 = c .before .before .before .before .before .before .before .before .if1 in
+    let consumer = c .before .before .before .before .before .before .consumer in
+    let if2 = c .before .before .before .before .if2 in
+    let settle = c .before .before .settle in
+    let a = args in
     let f = toRescan (sizes (a .z)) (reader (sizes (a .z)) (now (a .s))) in
-    rw (c .before .before .before .before .before .before .before .before .before .before .cross-from .ensures .to (c .before .before .before .before .before .before .before .before .if1 .left) f, c .before .before .before .before .before .before .consumer .ensures .is, eq-eqb _ _ (c .before .before .before .before .if2 .taken), c .before .before .settle .ensures) refl
+    rw (cross-from .ensures .to (if1 .left) f, consumer .ensures .is, eq-eqb _ _ (if2 .taken), settle .ensures) refl
 
 put-consumer-requires : tie.Need-put-consumer-requires
 put-consumer-requires c κs = omega (arith, c .before .before .before .before .before .before .before .before .before .before)
@@ -53,9 +61,16 @@ same-length-3 c = search needs
 returns-3 : tie.Need-returns-3
 unfolding applied writes
 returns-3 c =
-    let a = c .before .before .before .before .before .before .before .before .before .before .before .before .before .before .before .before .before .args in
+    let args = c .before .before .before .before .before .before .before .before .before .before .before .before .before .before .before .before .before .args in
+    let cross-from = c .before .before .before .before .before .before .before .before .before .before .before .before .before .before .cross-from in
+    let if1 = c .before .before .before .before .before .before .before .before .before .before .before .before .if1 in
+    let consumer = c .before .before .before .before .before .before .before .before .before .before .consumer in
+    let if2 = c .before .before .before .before .before .before .before .before .if2 in
+    let put-consumer = c .before .before .before .before .before .before .put-consumer in
+    let put-consumer2 = c .before .before .put-consumer2 in
+    let a = args in
     let f = toRescan (sizes (a .z)) (reader (sizes (a .z)) (now (a .s))) in
-    rw (c .before .before .before .before .before .before .before .before .before .before .before .before .before .before .cross-from .ensures .to (c .before .before .before .before .before .before .before .before .before .before .before .before .if1 .left) f, c .before .before .before .before .before .before .before .before .before .before .consumer .ensures .is, ne-eqb _ _ (c .before .before .before .before .before .before .before .before .if2 .left), suc-pred (c .before .before .before .before .before .before .before .before .before .before .before .before .if1 .left), c .before .before .put-consumer2 .ensures, c .before .before .before .before .before .before .put-consumer .ensures) refl
+    rw (cross-from .ensures .to (if1 .left) f, consumer .ensures .is, ne-eqb _ _ (if2 .left), suc-pred (if1 .left), put-consumer2 .ensures, put-consumer .ensures) refl
 
 pub rescan-end-spec : {M : Type 1} → statement M
 rescan-end-spec =

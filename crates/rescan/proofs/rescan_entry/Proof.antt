@@ -31,7 +31,12 @@ same-length-2 c = search needs
 
 returns-2 : tie.Need-returns-2
 returns-2 c =
-    rw (c .before .before .before .before .before .before .before .before .before .index-in .ensures .inside (c .before .before .before .before .before .before .before .if1 .left), c .before .before .before .before .before .before .before .before .before .index-in .ensures .is (c .before .before .before .before .before .before .before .if1 .left), c .before .before .before .before .before .entry .ensures .is, eq-eqb _ _ (c .before .before .before .before .if2 .taken)) (c .before .before .rescan-found .ensures)
+    let index-in = c .before .before .before .before .before .before .before .before .before .index-in in
+    let if1 = c .before .before .before .before .before .before .before .if1 in
+    let entry = c .before .before .before .before .before .entry in
+    let if2 = c .before .before .before .before .if2 in
+    let rescan-found = c .before .before .rescan-found in
+    rw (index-in .ensures .inside (if1 .left), index-in .ensures .is (if1 .left), entry .ensures .is, eq-eqb _ _ (if2 .taken)) (rescan-found .ensures)
 
 same-length-3 : tie.Need-same-length-3
 same-length-3 c = search needs

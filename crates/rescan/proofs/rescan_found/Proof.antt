@@ -33,7 +33,13 @@ same-length c = search needs
 returns : tie.Need-returns
 unfolding applied writes
 returns c =
-    rw (c .before .before .before .before .before .before .before .before .before .before .before .before .before .content2 .ensures .is, eq-eqb _ _ (c .before .before .before .before .if1 .taken), c .before .before .settle .ensures, c .before .before .before .before .before .before .before .put-consumer2 .ensures, c .before .before .before .before .before .before .before .before .before .before .before .put-consumer .ensures, add-one (c .before .before .before .before .before .before .before .before .before .before .before .before .before .before .before .before .before .before .args .r)) refl
+    let args = c .before .before .before .before .before .before .before .before .before .before .before .before .before .before .before .before .before .before .args in
+    let content2 = c .before .before .before .before .before .before .before .before .before .before .before .before .before .content2 in
+    let put-consumer = c .before .before .before .before .before .before .before .before .before .before .before .put-consumer in
+    let put-consumer2 = c .before .before .before .before .before .before .before .put-consumer2 in
+    let if1 = c .before .before .before .before .if1 in
+    let settle = c .before .before .settle in
+    rw (content2 .ensures .is, eq-eqb _ _ (if1 .taken), settle .ensures, put-consumer2 .ensures, put-consumer .ensures, add-one (args .r)) refl
 
 put-consumer-requires-3 : tie.Need-put-consumer-requires-3
 put-consumer-requires-3 c κs = omega (arith, c .before .before .before .before .before .before .before .before .before .before .before .before .before .before .before)
@@ -47,7 +53,15 @@ same-length-2 c = search needs
 returns-2 : tie.Need-returns-2
 unfolding applied writes
 returns-2 c =
-    rw (c .before .before .before .before .before .before .before .before .before .before .before .before .before .before .before .before .before .before .before .content .ensures .is, c .before .before .before .before .before .before .before .before .before .before .before .before .before .before .before .before .before .content2 .ensures .is, ne-eqb _ _ (c .before .before .before .before .before .before .before .before .if1 .left), c .before .before .put-consumer4 .ensures, c .before .before .before .before .before .before .put-consumer3 .ensures, c .before .before .before .before .before .before .before .before .before .before .before .put-consumer2 .ensures, c .before .before .before .before .before .before .before .before .before .before .before .before .before .before .before .put-consumer .ensures, add-one (c .before .before .before .before .before .before .before .before .before .before .before .before .before .before .before .before .before .before .before .before .before .before .args .r)) refl
+    let args = c .before .before .before .before .before .before .before .before .before .before .before .before .before .before .before .before .before .before .before .before .before .before .args in
+    let content = c .before .before .before .before .before .before .before .before .before .before .before .before .before .before .before .before .before .before .before .content in
+    let content2 = c .before .before .before .before .before .before .before .before .before .before .before .before .before .before .before .before .before .content2 in
+    let put-consumer = c .before .before .before .before .before .before .before .before .before .before .before .before .before .before .before .put-consumer in
+    let put-consumer2 = c .before .before .before .before .before .before .before .before .before .before .before .put-consumer2 in
+    let if1 = c .before .before .before .before .before .before .before .before .if1 in
+    let put-consumer3 = c .before .before .before .before .before .before .put-consumer3 in
+    let put-consumer4 = c .before .before .put-consumer4 in
+    rw (content .ensures .is, content2 .ensures .is, ne-eqb _ _ (if1 .left), put-consumer4 .ensures, put-consumer3 .ensures, put-consumer2 .ensures, put-consumer .ensures, add-one (args .r)) refl
 
 pub rescan-found-spec : {M : Type 1} → statement M
 rescan-found-spec =

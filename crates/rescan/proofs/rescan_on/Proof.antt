@@ -39,7 +39,13 @@ same-length-2 c = search needs
 returns-2 : tie.Need-returns-2
 unfolding rescan
 returns-2 c =
-    rw (some (c .before .before .before .before .before .before .before .before .before .before .consumer .ensures .is) (c .before .before .before .before .before .before .before .before .before .if1 .left), c .before .before .before .before .before .before .before .consumer2 .ensures .is, at-end (c .before .before .before .before .before .record-end .ensures .0) (c .before .before .before .before .if2 .taken)) (c .before .before .rescan-end .ensures)
+    let consumer = c .before .before .before .before .before .before .before .before .before .before .consumer in
+    let if1 = c .before .before .before .before .before .before .before .before .before .if1 in
+    let consumer2 = c .before .before .before .before .before .before .before .consumer2 in
+    let record-end = c .before .before .before .before .before .record-end in
+    let if2 = c .before .before .before .before .if2 in
+    let rescan-end = c .before .before .rescan-end in
+    rw (some (consumer .ensures .is) (if1 .left), consumer2 .ensures .is, at-end (record-end .ensures .0) (if2 .taken)) (rescan-end .ensures)
 
 sub-rescan-entry : tie.Need-sub-rescan-entry
 sub-rescan-entry c = search needs
@@ -53,7 +59,13 @@ same-length-3 c = search needs
 returns-3 : tie.Need-returns-3
 unfolding rescan
 returns-3 c =
-    rw (some (c .before .before .before .before .before .before .before .before .before .before .consumer .ensures .is) (c .before .before .before .before .before .before .before .before .before .if1 .left), c .before .before .before .before .before .before .before .consumer2 .ensures .is, not-end (c .before .before .before .before .before .record-end .ensures .0) (c .before .before .before .before .if2 .left)) (c .before .before .rescan-entry .ensures)
+    let consumer = c .before .before .before .before .before .before .before .before .before .before .consumer in
+    let if1 = c .before .before .before .before .before .before .before .before .before .if1 in
+    let consumer2 = c .before .before .before .before .before .before .before .consumer2 in
+    let record-end = c .before .before .before .before .before .record-end in
+    let if2 = c .before .before .before .before .if2 in
+    let rescan-entry = c .before .before .rescan-entry in
+    rw (some (consumer .ensures .is) (if1 .left), consumer2 .ensures .is, not-end (record-end .ensures .0) (if2 .left)) (rescan-entry .ensures)
 
 pub rescan-on-spec : {M : Type 1} → statement M
 rescan-on-spec =

@@ -20,7 +20,11 @@ same-length c = search needs
 
 returns : tie.Need-returns
 unfolding writes
-returns c = rw (c .before .before .put-consumer3 .ensures, c .before .before .before .before .before .before .put-consumer2 .ensures, c .before .before .before .before .before .before .before .before .before .before .put-consumer .ensures) refl
+returns c =
+    let put-consumer = c .before .before .before .before .before .before .before .before .before .before .put-consumer in
+    let put-consumer2 = c .before .before .before .before .before .before .put-consumer2 in
+    let put-consumer3 = c .before .before .put-consumer3 in
+    rw (put-consumer3 .ensures, put-consumer2 .ensures, put-consumer .ensures) refl
 
 pub settle-spec : {M : Type 1} → statement M
 settle-spec =
