@@ -37,7 +37,8 @@ room-of z m e f =
       producers-most = leb-true (z .P) 16 (P .1);
       starts-least = leb-true 1 (z .M) (M .0);
       starts-most = leb-true (z .M) 1000000 (M .1);
-      fits = f }
+      fits = f;
+    }
 
 -- the largest sizes, and the words that they need
 pub sizes-most : (z : Sizes) → sizesInRange z ≡ true → (z .B ≤ 64) × (z .N ≤ 64) × (z .P ≤ 16)
@@ -98,7 +99,8 @@ admitted-by m e =
     go false true false true p q r e =
         record {
           room = room-of (sizesOf m) m p (ltb-false (length m) (storeWords (sizesOf m)) q);
-          ranges = range-has (sizesOf m) (reader (sizesOf m) m) r }
+          ranges = range-has (sizesOf m) (reader (sizesOf m) m) r;
+        }
 
 pub goes-on : (m : List ℕ) (f : Sizes → Reader → Answer) → refusal m ≡ 0 → admitted m f ≡ f (sizesOf m) (reader (sizesOf m) m)
 unfolding refusal admitted

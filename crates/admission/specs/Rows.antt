@@ -136,30 +136,6 @@ pub every-same : (n : ℕ) (p q : ℕ → Bool) → ((i : ℕ) → i < n → p i
 every-same zero p q h = refl
 every-same (suc n) p q h = ap₂ _&&_ (every-same n p q (λ i l. h i (omega arith))) (h n (omega arith))
 
--- an entry's words from `at` on, `at` its record's first entry
-abbrev pub entryTest : List ℕ → (at top i : ℕ) → Bool
-entryTest m at top i = leb (getD m (at + 3 * i) 0) 2 && leb (getD m (at + 3 * i + 1) 0) top
-
--- a record's words from `at` on
-pub record-test : (z : Sizes) (m : List ℕ) (r at : ℕ) → r < z .N → at ≡ firstRecord z + r * recordWords z
-    → recordInRange z (reader z m) r
-    ≡ (leb (getD m at 0) mostPlace && (leb (getD m (at + 1) 0) (z .N) && (leb (getD m (at + 2) 0) (z .N) && leb (getD m (at + 3) 0) 3)) && every (z .B) (entryTest m (at + 4) (z .M)))
-record-test z m r at h e = ap₂ _&&_ parts (every-same (z .B) _ (entryTest m (at + 4) (z .M)) entries)
-  where
-    word : (k a : ℕ) → k < 4 → at + k ≡ a → reader z m (part r k) ≡ getD m a 0
-    word k a l i = word-at z m (part r k) (h, l) ∙ ap (λ (x : ℕ). getD m x 0) (omega arith)
-
-    parts : ofSorts z (λ k. reader z m (part r k)) 0 partSorts
-        ≡ (leb (getD m at 0) mostPlace && (leb (getD m (at + 1) 0) (z .N) && (leb (getD m (at + 2) 0) (z .N) && leb (getD m (at + 3) 0) 3)))
-    parts =
-        rw (word 0 at (omega arith) (omega arith), word 1 (at + 1) (omega arith) (omega arith), word 2 (at + 2) (omega arith) (omega arith), word 3 (at + 3) (omega arith) (omega arith), and-true (leb (getD m (at + 3) 0) 3)) refl
-
-    entries : (i : ℕ) → i < z .B → ofSorts z (λ k. reader z m (entry r i k)) 0 entrySorts ≡ entryTest m (at + 4) (z .M) i
-    entries i l =
-        let a : reader z m (entry r i 0) ≡ getD m (at + 4 + 3 * i) 0 = word-at z m (entry r i 0) (h, l, omega arith) ∙ ap (λ (x : ℕ). getD m x 0) (omega arith) in
-        let b : reader z m (entry r i 1) ≡ getD m (at + 4 + 3 * i + 1) 0 = word-at z m (entry r i 1) (h, l, omega arith) ∙ ap (λ (x : ℕ). getD m x 0) (omega arith) in
-        rw (a, b, and-true (leb (getD m (at + 4 + 3 * i + 1) 0) (z .M))) refl
-
 -- contents word by word, words 0 to 3 being the sizes
 pub contents-test : (z : Sizes) (m : List ℕ) → z ≡ sizesOf m
     → ofSorts z (λ k. reader z m (content k)) 0 (contentSorts z) ≡ ofSorts z (λ k. getD m k 0) 4 (drop 4 (contentSorts z))

@@ -10,47 +10,68 @@ ghost use Rattle.rules.specs.Request.{sizesOf};
 ghost use Rattle.store.specs.Shape.{sizes};
 ghost use Rattle.store.specs.Store.{Room};
 ghost use Rattle.admission.specs.Refusal.{refusal};
-ghost use Rattle.admission.specs.Rows.{atMost, from, entryTest};
+ghost use Rattle.admission.specs.Rows.{atMost, from};
+ghost use Rattle.admission.specs.Bounds.{bounds, wordTest};
 use store::Shape;
 use store::record_at;
 
 // Any 32-bit number.
 const ANY: u32 = 4294967295;
 
-// Whether entries i = 0 to count - 1 from word `at` on are in range: state at most 2, call number at most `most`.
-fn entries_in_range(s: &[u32], at: usize, count: usize, most: u32) -> bool
-    requires { ⌜ (at + 3 * count ≤ length (now s)) × (count ≤ 64) ⌝ }
-    ensures { λ ok. ⌜ every count (entryTest (now (s .entry)) at most) ≡ ok ⌝ }
+// The most that each word of a record may be: place, next, prev and use, then state, call number and value of each entry.
+fn record_bounds(z: Shape) -> [u32; 196]
+    requires { ⌜ z .entries ≤ 64 ⌝ }
+    ensures { λ b. ⌜ b ≡ bounds (sizes z) (z .entries) ⌝ }
 {
-    let mut ok = true;
+    let mut b = [ANY; 196];
+    b[0] = 500002;
+    b[1] = z.records;
+    b[2] = z.records;
+    b[3] = 3;
+    let count = z.entries as usize;
     let mut i: usize = 0;
     while i < count {
-        ok = ok & ((s[at + 3 * i] <= 2) & (s[at + 3 * i + 1] <= most));
+        b[4 + 3 * i] = 2;
+        b[5 + 3 * i] = z.starts;
         i += 1;
+    }
+    b
+}
+
+// Whether n words from word `at` on are each at most their bound. No branch in the loop: it runs over every word of the records.
+fn words_at_most(s: &[u32], at: usize, b: &[u32; 196], n: usize) -> bool
+    requires { ⌜ (at + n ≤ length (now s)) × (n ≤ 196) ⌝ }
+    ensures { λ ok. ⌜ every n (wordTest (now (s .entry)) (now (b .entry)) at) ≡ ok ⌝ }
+{
+    let mut ok = true;
+    let mut j: usize = 0;
+    while j < n {
+        ok = ok & (s[at + j] <= b[j]);
+        j += 1;
     }
     ok
 }
 
-// Place, next, prev, use and the entries of record r.
-fn record_in_range(s: &[u32], z: Shape, r: u32) -> bool
+// Every word of record r, b its bounds.
+fn record_in_range(s: &[u32], z: Shape, b: &[u32; 196], r: u32) -> bool
     requires { ⌜ Room (sizes z) (now s) ⌝ }
-    requires { ⌜ r < z .records ⌝ }
+    requires { ⌜ (r < z .records) × (now b ≡ bounds (sizes z) (z .entries)) ⌝ }
     ensures { λ ok. ⌜ recordInRange (sizes z) (reader (sizes z) (now (s .entry))) r ≡ ok ⌝ }
 {
     let at = record_at(z, r) as usize;
-    let n = z.records;
-    let parts = (s[at] <= 500002) & ((s[at + 1] <= n) & ((s[at + 2] <= n) & (s[at + 3] <= 3)));
-    parts & entries_in_range(s, at + 4, z.entries as usize, z.starts)
+    let n = 3 * z.entries + 4;
+    words_at_most(s, at, b, n as usize)
 }
 
 fn records_in_range(s: &[u32], z: Shape) -> bool
     requires { ⌜ Room (sizes z) (now s) ⌝ }
     ensures { λ ok. ⌜ every (z .records) (recordInRange (sizes z) (reader (sizes z) (now (s .entry)))) ≡ ok ⌝ }
 {
+    let b = record_bounds(z);
     let mut ok = true;
     let mut r: u32 = 0;
     while r < z.records {
-        ok = ok & record_in_range(s, z, r);
+        ok = ok & record_in_range(s, z, &b, r);
         r += 1;
     }
     ok
@@ -147,7 +168,10 @@ fn in_range(s: &[u32], z: Shape) -> bool
     requires { ⌜ sizes z ≡ sizesOf (now s) ⌝ }
     ensures { λ ok. ⌜ inRange (sizes z) (reader (sizes z) (now (s .entry))) ≡ ok ⌝ }
 {
-    contents_in_range(s, z) & consumer_in_range(s, z) & producers_in_range(s, z) & records_in_range(s, z)
+    contents_in_range(s, z)
+        & consumer_in_range(s, z)
+        & producers_in_range(s, z)
+        & records_in_range(s, z)
 }
 
 // The sizes that words 0 to 3 give.

@@ -18,6 +18,7 @@ use store::producer;
 use store::put_part;
 use store::put_producer;
 use store::wipe_record;
+use store::word;
 
 // Whether no producer holds record r: it is neither held nor claimed by any of 1 to P.
 fn held_by_none(s: &[u32], z: Shape, r: u32) -> bool
@@ -29,8 +30,8 @@ fn held_by_none(s: &[u32], z: Shape, r: u32) -> bool
     let mut none = true;
     let mut t: u32 = 0;
     while t < z.producers {
-        let held = producer(s, z, t + 1, 4);
-        let claimed = producer(s, z, t + 1, 5);
+        let held = producer(s, z, t + 1, word::HELD);
+        let claimed = producer(s, z, t + 1, word::CLAIMED);
         none = none & !((held == name) | (claimed == name));
         t += 1;
     }
@@ -43,7 +44,7 @@ fn is_free(s: &[u32], z: Shape, r: u32) -> bool
     requires { ⌜ r < z .records ⌝ }
     ensures { λ b. ⌜ free (sizes z) (reader (sizes z) (now (s .entry))) r ≡ b ⌝ }
 {
-    let used = part(s, z, r, 3);
+    let used = part(s, z, r, word::USE);
     if used == 0 {
         return true;
     }
@@ -75,9 +76,9 @@ fn take_record(s: &mut [u32], z: Shape, t: u32, r: u32, p: u32)
     ensures { λ _. ⌜ now (s .exit) ≡ writes (sizes z) (now (s .entry)) (wipe r ∷ used r := 1 ∷ claimed t := suc r ∷ phase t := p ∷ []) ⌝ }
 {
     wipe_record(s, z, r);
-    put_part(s, z, r, 3, 1);
-    put_producer(s, z, t, 5, r + 1);
-    put_producer(s, z, t, 0, p);
+    put_part(s, z, r, word::USE, 1);
+    put_producer(s, z, t, word::CLAIMED, r + 1);
+    put_producer(s, z, t, word::PHASE, p);
 }
 
 // 4. Claim a record; to 5. Refusal 8: no record free.

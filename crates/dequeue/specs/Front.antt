@@ -18,10 +18,6 @@ pub record Crossed (z : Sizes) (m : List ℕ) (r n p : ℕ) : Type 0 where
   pub record-most : n ≤ z .N
   pub position-most : p ≤ z .M
 
--- phase 5, the end of the rescan
-abbrev pub settles : List Write
-settles = cursorRecord := 0 ∷ cursorPosition := 0 ∷ consumerPhase := 6 ∷ []
-
 module _ (z : Sizes) (σ : Reader) where
   -- phase 1, the head at the end of its record h
   abbrev pub toHead : (h n p : ℕ) → Answer
@@ -42,26 +38,6 @@ module _ (z : Sizes) (σ : Reader) where
   -- phase 3, crossing
   abbrev pub toCursor : (n p : ℕ) → Answer
   toCursor n p = goes (cursorRecord := suc n ∷ cursorPosition := p ∷ [])
-
-  -- phase 5, the cursor at the end of its record r
-  abbrev pub toRescan : (n p : ℕ) → Answer
-  toRescan n p = rescanned z σ p (σ foundPosition) (cursorRecord := suc n ∷ cursorPosition := p ∷ []) []
-
-  -- phase 5, a set entry at position p of record r
-  abbrev pub rescanFound : (r p : ℕ) → Answer
-  rescanFound r p =
-      rescanned z σ (σ headPosition) p
-      (cursorRecord := σ headRecord ∷ cursorPosition := σ headPosition ∷ [])
-      (foundRecord := suc r ∷ foundPosition := p ∷ [])
-
-  -- phase 5, the cursor at position p of its record r
-  abbrev pub rescanEntry : (r p : ℕ) → Answer
-  rescanEntry r p =
-      inside z σ r p
-      λ i. cond (eqb (σ (state r i)) 1)
-      (rescanFound r p)
-      (upTo (z .M) (suc p)
-      (rescanned z σ (suc p) (σ foundPosition) (cursorPosition := suc p ∷ []) []))
 
 -- a crossing that is refused
 pub not-crossed : {z : Sizes} {m : List ℕ} {r : ℕ} → ((f : ℕ → ℕ → Answer) → cross z (reader z m) r f ≡ refuse 9) → Crossed z m r 0 0

@@ -1,13 +1,12 @@
-// The consumer's phases, a function each (document 01, "Calls"). The words are admitted.
+// The consumer's phases 1 to 4, a function each (document 01, "Calls"). The words are admitted.
 ghost use mathlib.Core.Path.{_≡_};
 ghost use Prim.Native.Nat.{_≤_, _<_};
-ghost use Rattle.rules.specs.Cell.{writes};
 ghost use Rattle.rules.specs.Rule.{cross};
-ghost use Rattle.rules.specs.Consumer.{front, readTail, scan, readEntry, rescan, readItem, markHandled};
+ghost use Rattle.rules.specs.Consumer.{front, readTail, scan, readEntry};
 ghost use Rattle.store.specs.Shape.{sizes};
 ghost use Rattle.store.specs.Outcome.{left, does};
-ghost use Rattle.store.specs.Store.{Room, Admitted};
-ghost use Rattle.dequeue.specs.Front.{Crossed, frontEnd, frontEntry, toRescan, settles, rescanFound, rescanEntry};
+ghost use Rattle.store.specs.Store.{Admitted};
+ghost use Rattle.dequeue.specs.Front.{Crossed, frontEnd, frontEntry};
 use store::Reply;
 use store::Shape;
 use store::clear_consumer;
@@ -18,33 +17,42 @@ use store::index_in;
 use store::part;
 use store::put_consumer;
 use store::put_content;
-use store::put_entry;
 use store::put_part;
 use store::record_end;
+use store::word;
 
 // Where a crossing leads: a stored record number, 0 where it is refused, and that record's first position.
-struct Crossing {
-    record: u32,
-    position: u32,
+pub struct Crossing {
+    pub record: u32,
+    pub position: u32,
 }
 
 // From record r to its next, at that one's first position.
-fn cross_from(s: &[u32], z: Shape, r: u32) -> Crossing
+pub fn cross_from(s: &[u32], z: Shape, r: u32) -> Crossing
     requires { ⌜ Admitted (sizes z) (now s) ⌝ }
     requires { ⌜ r < z .records ⌝ }
     ensures { λ c. ⌜ Crossed (sizes z) (now (s .entry)) r (c .record) (c .position) ⌝ }
 {
-    let next = part(s, z, r, 1);
+    let next = part(s, z, r, word::NEXT);
     if next == 0 {
-        return Crossing { record: 0, position: 0 };
+        return Crossing {
+            record: 0,
+            position: 0,
+        };
     }
-    let place = part(s, z, next - 1, 0);
+    let place = part(s, z, next - 1, word::PLACE);
     if place == 0 {
-        return Crossing { record: 0, position: 0 };
+        return Crossing {
+            record: 0,
+            position: 0,
+        };
     }
     let position = z.entries * (place - 1);
     if z.starts < position {
-        return Crossing { record: 0, position: 0 };
+        return Crossing {
+            record: 0,
+            position: 0,
+        };
     }
     Crossing {
         record: next,
@@ -59,7 +67,7 @@ fn front_end(s: &mut [u32], z: Shape, h: u32) -> Reply
     requires { ⌜ h < z .records ⌝ }
     ensures { λ r. ⌜ left r (now (s .exit)) ≡ does (λ z σ. frontEnd z σ h) z (now (s .entry)) ⌝ }
 {
-    if content(s, z, 7) == h + 1 {
+    if content(s, z, word::TAIL_RECORD) == h + 1 {
         clear_consumer(s, z);
         return Reply::Empty;
     }
@@ -67,9 +75,9 @@ fn front_end(s: &mut [u32], z: Shape, h: u32) -> Reply
     if c.record == 0 {
         return Reply::Refused(9);
     }
-    put_content(s, z, 8, c.record);
-    put_content(s, z, 9, c.position);
-    put_part(s, z, h, 3, 3);
+    put_content(s, z, word::HEAD_RECORD, c.record);
+    put_content(s, z, word::HEAD_POSITION, c.position);
+    put_part(s, z, h, word::USE, 3);
     Reply::Going
 }
 
@@ -83,21 +91,21 @@ fn front_entry(s: &mut [u32], z: Shape, h: u32, p: u32) -> Reply
     if z.entries <= i {
         return Reply::Refused(9);
     }
-    let state = entry(s, z, h, i, 0);
+    let state = entry(s, z, h, i, word::STATE);
     if state == 0 {
-        put_consumer(s, z, 0, 2);
+        put_consumer(s, z, word::PHASE, 2);
         return Reply::Going;
     }
     if state == 1 {
-        put_consumer(s, z, 3, h + 1);
-        put_consumer(s, z, 4, p);
-        put_consumer(s, z, 0, 6);
+        put_consumer(s, z, word::FOUND_RECORD, h + 1);
+        put_consumer(s, z, word::FOUND_POSITION, p);
+        put_consumer(s, z, word::PHASE, 6);
         return Reply::Going;
     }
     if z.starts <= p {
         return Reply::Refused(9);
     }
-    put_content(s, z, 9, p + 1);
+    put_content(s, z, word::HEAD_POSITION, p + 1);
     Reply::Going
 }
 
@@ -106,11 +114,11 @@ pub fn read_front(s: &mut [u32], z: Shape) -> Reply
     requires { ⌜ Admitted (sizes z) (now s) ⌝ }
     ensures { λ r. ⌜ left r (now (s .exit)) ≡ does front z (now (s .entry)) ⌝ }
 {
-    let head = content(s, z, 8);
+    let head = content(s, z, word::HEAD_RECORD);
     if head == 0 {
         return Reply::Refused(9);
     }
-    let position = content(s, z, 9);
+    let position = content(s, z, word::HEAD_POSITION);
     if position == record_end(s, z, head - 1) {
         return front_end(s, z, head - 1);
     }
@@ -122,18 +130,18 @@ pub fn read_tail(s: &mut [u32], z: Shape) -> Reply
     requires { ⌜ Admitted (sizes z) (now s) ⌝ }
     ensures { λ r. ⌜ left r (now (s .exit)) ≡ does readTail z (now (s .entry)) ⌝ }
 {
-    let position = content(s, z, 9);
-    if content(s, z, 6) == position {
+    let position = content(s, z, word::HEAD_POSITION);
+    if content(s, z, word::TAIL) == position {
         clear_consumer(s, z);
         return Reply::Empty;
     }
     if z.starts <= position {
         return Reply::Refused(9);
     }
-    let head = content(s, z, 8);
-    put_consumer(s, z, 1, head);
-    put_consumer(s, z, 2, position + 1);
-    put_consumer(s, z, 0, 3);
+    let head = content(s, z, word::HEAD_RECORD);
+    put_consumer(s, z, word::CURSOR_RECORD, head);
+    put_consumer(s, z, word::CURSOR_POSITION, position + 1);
+    put_consumer(s, z, word::PHASE, 3);
     Reply::Going
 }
 
@@ -143,20 +151,20 @@ pub fn scan_on(s: &mut [u32], z: Shape) -> Reply
     requires { ⌜ Admitted (sizes z) (now s) ⌝ }
     ensures { λ r. ⌜ left r (now (s .exit)) ≡ does scan z (now (s .entry)) ⌝ }
 {
-    let cursor = consumer(s, z, 1);
+    let cursor = consumer(s, z, word::CURSOR_RECORD);
     if cursor == 0 {
         return Reply::Refused(9);
     }
-    let position = consumer(s, z, 2);
+    let position = consumer(s, z, word::CURSOR_POSITION);
     if position != record_end(s, z, cursor - 1) {
-        if position == content(s, z, 6) {
+        if position == content(s, z, word::TAIL) {
             clear_consumer(s, z);
             return Reply::Empty;
         }
-        put_consumer(s, z, 0, 4);
+        put_consumer(s, z, word::PHASE, 4);
         return Reply::Going;
     }
-    if content(s, z, 7) == cursor {
+    if content(s, z, word::TAIL_RECORD) == cursor {
         clear_consumer(s, z);
         return Reply::Empty;
     }
@@ -164,8 +172,8 @@ pub fn scan_on(s: &mut [u32], z: Shape) -> Reply
     if c.record == 0 {
         return Reply::Refused(9);
     }
-    put_consumer(s, z, 1, c.record);
-    put_consumer(s, z, 2, c.position);
+    put_consumer(s, z, word::CURSOR_RECORD, c.record);
+    put_consumer(s, z, word::CURSOR_POSITION, c.position);
     Reply::Going
 }
 
@@ -174,171 +182,29 @@ pub fn read_entry(s: &mut [u32], z: Shape) -> Reply
     requires { ⌜ Admitted (sizes z) (now s) ⌝ }
     ensures { λ r. ⌜ left r (now (s .exit)) ≡ does readEntry z (now (s .entry)) ⌝ }
 {
-    let cursor = consumer(s, z, 1);
+    let cursor = consumer(s, z, word::CURSOR_RECORD);
     if cursor == 0 {
         return Reply::Refused(9);
     }
-    let position = consumer(s, z, 2);
+    let position = consumer(s, z, word::CURSOR_POSITION);
     let i = index_in(s, z, cursor - 1, position);
     if z.entries <= i {
         return Reply::Refused(9);
     }
-    if entry(s, z, cursor - 1, i, 0) == 1 {
-        let head = content(s, z, 8);
-        let head_position = content(s, z, 9);
-        put_consumer(s, z, 3, cursor);
-        put_consumer(s, z, 4, position);
-        put_consumer(s, z, 1, head);
-        put_consumer(s, z, 2, head_position);
-        put_consumer(s, z, 0, 5);
+    if entry(s, z, cursor - 1, i, word::STATE) == 1 {
+        let head = content(s, z, word::HEAD_RECORD);
+        let head_position = content(s, z, word::HEAD_POSITION);
+        put_consumer(s, z, word::FOUND_RECORD, cursor);
+        put_consumer(s, z, word::FOUND_POSITION, position);
+        put_consumer(s, z, word::CURSOR_RECORD, head);
+        put_consumer(s, z, word::CURSOR_POSITION, head_position);
+        put_consumer(s, z, word::PHASE, 5);
         return Reply::Going;
     }
     if z.starts <= position {
         return Reply::Refused(9);
     }
-    put_consumer(s, z, 2, position + 1);
-    put_consumer(s, z, 0, 3);
+    put_consumer(s, z, word::CURSOR_POSITION, position + 1);
+    put_consumer(s, z, word::PHASE, 3);
     Reply::Going
-}
-
-// The entry found is the one to take; the cursor is not in use any more; to 6.
-fn settle(s: &mut [u32], z: Shape)
-    requires { ⌜ Room (sizes z) (now s) ⌝ }
-    ensures { λ _. ⌜ now (s .exit) ≡ writes (sizes z) (now (s .entry)) settles ⌝ }
-{
-    put_consumer(s, z, 1, 0);
-    put_consumer(s, z, 2, 0);
-    put_consumer(s, z, 0, 6);
-}
-
-// The cursor stands at its record's end, and crosses.
-fn rescan_end(s: &mut [u32], z: Shape, r: u32) -> Reply
-    requires { ⌜ Admitted (sizes z) (now s) ⌝ }
-    requires { ⌜ r < z .records ⌝ }
-    ensures { λ a. ⌜ left a (now (s .exit)) ≡ does (λ z σ. cross z σ r (toRescan z σ)) z (now (s .entry)) ⌝ }
-{
-    let c = cross_from(s, z, r);
-    if c.record == 0 {
-        return Reply::Refused(9);
-    }
-    if c.position == consumer(s, z, 4) {
-        settle(s, z);
-        return Reply::Going;
-    }
-    put_consumer(s, z, 1, c.record);
-    put_consumer(s, z, 2, c.position);
-    Reply::Going
-}
-
-// A set entry becomes found and the cursor returns to the head.
-fn rescan_found(s: &mut [u32], z: Shape, r: u32, p: u32) -> Reply
-    requires { ⌜ Admitted (sizes z) (now s) ⌝ }
-    requires { ⌜ r < z .records ⌝ }
-    ensures { λ a. ⌜ left a (now (s .exit)) ≡ does (λ z σ. rescanFound z σ r p) z (now (s .entry)) ⌝ }
-{
-    let head = content(s, z, 8);
-    let position = content(s, z, 9);
-    put_consumer(s, z, 3, r + 1);
-    put_consumer(s, z, 4, p);
-    if position == p {
-        settle(s, z);
-        return Reply::Going;
-    }
-    put_consumer(s, z, 1, head);
-    put_consumer(s, z, 2, position);
-    Reply::Going
-}
-
-// Reads one entry; one that is not set is passed by one position.
-fn rescan_entry(s: &mut [u32], z: Shape, r: u32, p: u32) -> Reply
-    requires { ⌜ Admitted (sizes z) (now s) ⌝ }
-    requires { ⌜ (r < z .records) × (p ≤ z .starts) ⌝ }
-    ensures { λ a. ⌜ left a (now (s .exit)) ≡ does (λ z σ. rescanEntry z σ r p) z (now (s .entry)) ⌝ }
-{
-    let i = index_in(s, z, r, p);
-    if z.entries <= i {
-        return Reply::Refused(9);
-    }
-    if entry(s, z, r, i, 0) == 1 {
-        return rescan_found(s, z, r, p);
-    }
-    if z.starts <= p {
-        return Reply::Refused(9);
-    }
-    if p + 1 == consumer(s, z, 4) {
-        settle(s, z);
-        return Reply::Going;
-    }
-    put_consumer(s, z, 2, p + 1);
-    Reply::Going
-}
-
-// 5. Rescan from the head, head included, to the position before found, that one included. One step either crosses, when the
-// cursor stands at a record's end, or reads one entry. When the cursor's position then equals that of found, the same step
-// goes to 6; otherwise stay.
-pub fn rescan_on(s: &mut [u32], z: Shape) -> Reply
-    requires { ⌜ Admitted (sizes z) (now s) ⌝ }
-    ensures { λ r. ⌜ left r (now (s .exit)) ≡ does rescan z (now (s .entry)) ⌝ }
-{
-    let cursor = consumer(s, z, 1);
-    if cursor == 0 {
-        return Reply::Refused(9);
-    }
-    let position = consumer(s, z, 2);
-    if position == record_end(s, z, cursor - 1) {
-        return rescan_end(s, z, cursor - 1);
-    }
-    rescan_entry(s, z, cursor - 1, position)
-}
-
-// 6. Read call number and value; to 7.
-pub fn read_item(s: &mut [u32], z: Shape) -> Reply
-    requires { ⌜ Admitted (sizes z) (now s) ⌝ }
-    ensures { λ r. ⌜ left r (now (s .exit)) ≡ does readItem z (now (s .entry)) ⌝ }
-{
-    let found = consumer(s, z, 3);
-    if found == 0 {
-        return Reply::Refused(9);
-    }
-    let i = index_in(s, z, found - 1, consumer(s, z, 4));
-    if z.entries <= i {
-        return Reply::Refused(9);
-    }
-    let number = entry(s, z, found - 1, i, 1);
-    let value = entry(s, z, found - 1, i, 2);
-    put_consumer(s, z, 5, number);
-    put_consumer(s, z, 6, value);
-    put_consumer(s, z, 0, 7);
-    Reply::Going
-}
-
-// 7. Mark handled; if found is the head position, it advances. Reply item.
-pub fn mark_handled(s: &mut [u32], z: Shape) -> Reply
-    requires { ⌜ Admitted (sizes z) (now s) ⌝ }
-    ensures { λ r. ⌜ left r (now (s .exit)) ≡ does markHandled z (now (s .entry)) ⌝ }
-{
-    let found = consumer(s, z, 3);
-    if found == 0 {
-        return Reply::Refused(9);
-    }
-    let position = consumer(s, z, 4);
-    let i = index_in(s, z, found - 1, position);
-    if z.entries <= i {
-        return Reply::Refused(9);
-    }
-    let number = consumer(s, z, 5);
-    let value = consumer(s, z, 6);
-    let head = content(s, z, 9);
-    if position != head {
-        put_entry(s, z, found - 1, i, 0, 2);
-        clear_consumer(s, z);
-        return Reply::Item(number, value);
-    }
-    if z.starts <= head {
-        return Reply::Refused(9);
-    }
-    put_entry(s, z, found - 1, i, 0, 2);
-    put_content(s, z, 9, head + 1);
-    clear_consumer(s, z);
-    Reply::Item(number, value)
 }

@@ -21,22 +21,22 @@ use admission::sizes_in_range;
 use admission::store_words;
 use claim::claim_ahead;
 use claim::claim_record;
-use dequeue::mark_handled;
 use dequeue::read_entry;
 use dequeue::read_front;
-use dequeue::read_item;
 use dequeue::read_tail;
-use dequeue::rescan_on;
 use dequeue::scan_on;
 use enqueue::go_back;
-use enqueue::link_ahead;
-use enqueue::link_claimed;
 use enqueue::load_tail;
 use enqueue::look_next;
 use enqueue::set_entry;
 use enqueue::shift_tail;
 use enqueue::take_position;
 use enqueue::write_entry;
+use linking::link_ahead;
+use linking::link_claimed;
+use rescan::mark_handled;
+use rescan::read_item;
+use rescan::rescan_on;
 use store::Reply;
 use store::Shape;
 use store::clear;
@@ -47,6 +47,7 @@ use store::put_consumer;
 use store::put_content;
 use store::put_part;
 use store::put_producer;
+use store::word;
 
 // The sizes and first words of a store.
 fn write_contents(s: &mut [u32], z: Shape)
@@ -66,10 +67,10 @@ fn link_first(s: &mut [u32], z: Shape)
     requires { ⌜ Room (sizes z) (now s) ⌝ }
     ensures { λ _. ⌜ now (s .exit) ≡ writes (sizes z) (now (s .entry)) (tailRecord := 1 ∷ headRecord := 1 ∷ place 0 := 1 ∷ used 0 := 2 ∷ []) ⌝ }
 {
-    put_content(s, z, 7, 1);
-    put_content(s, z, 8, 1);
-    put_part(s, z, 0, 0, 1);
-    put_part(s, z, 0, 3, 2);
+    put_content(s, z, word::TAIL_RECORD, 1);
+    put_content(s, z, word::HEAD_RECORD, 1);
+    put_part(s, z, 0, word::PLACE, 1);
+    put_part(s, z, 0, word::USE, 2);
 }
 
 // *Open* zeroes the store, writes the contents, and links record 0.
@@ -100,17 +101,17 @@ fn begin_enqueue(s: &mut [u32], z: Shape, t: u32, v: u32) -> Reply
     if z.producers < t {
         return Reply::Refused(4);
     }
-    if producer(s, z, t, 0) != 0 {
+    if producer(s, z, t, word::PHASE) != 0 {
         return Reply::Refused(5);
     }
-    let starts = content(s, z, 10);
+    let starts = content(s, z, word::STARTS);
     if starts == z.starts {
         return Reply::Refused(6);
     }
-    put_content(s, z, 10, starts + 1);
-    put_producer(s, z, t, 0, 1);
-    put_producer(s, z, t, 1, starts + 1);
-    put_producer(s, z, t, 2, v);
+    put_content(s, z, word::STARTS, starts + 1);
+    put_producer(s, z, t, word::PHASE, 1);
+    put_producer(s, z, t, word::CALL, starts + 1);
+    put_producer(s, z, t, word::VALUE, v);
     Reply::Started(starts + 1)
 }
 
@@ -119,10 +120,10 @@ fn begin_dequeue(s: &mut [u32], z: Shape) -> Reply
     requires { ⌜ Admitted (sizes z) (now s) ⌝ }
     ensures { λ r. ⌜ left r (now (s .exit)) ≡ does startingDequeue z (now (s .entry)) ⌝ }
 {
-    if consumer(s, z, 0) != 0 {
+    if consumer(s, z, word::PHASE) != 0 {
         return Reply::Refused(5);
     }
-    put_consumer(s, z, 0, 1);
+    put_consumer(s, z, word::PHASE, 1);
     Reply::Ok
 }
 
@@ -132,7 +133,7 @@ fn step_producer(s: &mut [u32], z: Shape, t: u32) -> Reply
     requires { ⌜ (1 ≤ t) × (t ≤ z .producers) ⌝ }
     ensures { λ r. ⌜ left r (now (s .exit)) ≡ does (λ z σ. cond (eqb (σ (phase t)) 0) (refuse 7) (producerStep (lowestFree z σ) z σ t)) z (now (s .entry)) ⌝ }
 {
-    let phase = producer(s, z, t, 0);
+    let phase = producer(s, z, t, word::PHASE);
     match phase {
         1 => take_position(s, z, t),
         2 => load_tail(s, z, t),
@@ -154,7 +155,7 @@ fn step_consumer(s: &mut [u32], z: Shape) -> Reply
     requires { ⌜ Admitted (sizes z) (now s) ⌝ }
     ensures { λ r. ⌜ left r (now (s .exit)) ≡ does (λ z σ. cond (eqb (σ consumerPhase) 0) (refuse 7) (consumerStep z σ)) z (now (s .entry)) ⌝ }
 {
-    let phase = consumer(s, z, 0);
+    let phase = consumer(s, z, word::PHASE);
     match phase {
         1 => read_front(s, z),
         2 => read_tail(s, z),
@@ -251,7 +252,13 @@ fn store_reply(r: Reply, reply: &mut [u32; 4])
 
 // *Open* a store of these sizes.
 #[no_mangle]
-pub extern "C" fn intake_open(store: &mut [u32], entries: u32, records: u32, producers: u32, starts: u32) -> u32
+pub extern "C" fn intake_open(
+    store: &mut [u32],
+    entries: u32,
+    records: u32,
+    producers: u32,
+    starts: u32,
+) -> u32
     ensures { λ n. ⌜ record { number = n; store = now (store .exit) } ≡ returned (open-store (record { B = entries; N = records; P = producers; M = starts }) (now (store .entry))) ⌝ }
 {
     let z = Shape {
@@ -265,7 +272,12 @@ pub extern "C" fn intake_open(store: &mut [u32], entries: u32, records: u32, pro
 
 // *Start enqueue*; the call number goes to word 0 of the reply.
 #[no_mangle]
-pub extern "C" fn intake_start_enqueue(store: &mut [u32], producer: u32, value: u32, reply: &mut [u32; 4]) -> u32
+pub extern "C" fn intake_start_enqueue(
+    store: &mut [u32],
+    producer: u32,
+    value: u32,
+    reply: &mut [u32; 4],
+) -> u32
     ensures { λ n. ⌜ record { number = n; store = now (store .exit); reply = now (reply .exit) } ≡ replied (result lowestFree (startEnqueue producer value) (now (store .entry))) (now (reply .entry)) ⌝ }
 {
     let r = start_enqueue(store, producer, value);

@@ -1,12 +1,11 @@
-// The producer's phases but the claims, a function each (document 01, "Calls"). The words are admitted and t is a producer.
+// The producer's phases 1 to 3 and 6 to 9, a function each (document 01, "Calls"). The words are admitted and t is a producer.
 ghost use mathlib.Core.Path.{_≡_};
 ghost use Prim.Native.Nat.{_≤_, _<_};
 ghost use Rattle.rules.specs.Cell.{reader};
-ghost use Rattle.rules.specs.Producer.{choose, takePosition, loadTail, lookNext, linkClaimed, shiftTail, goBack, writeEntry, setEntry, linkAhead};
+ghost use Rattle.rules.specs.Producer.{choose, takePosition, loadTail, lookNext, shiftTail, goBack, writeEntry, setEntry};
 ghost use Rattle.store.specs.Shape.{sizes};
 ghost use Rattle.store.specs.Outcome.{left, does};
 ghost use Rattle.store.specs.Store.{Admitted};
-ghost use Rattle.enqueue.specs.Link.{Linked};
 use store::Reply;
 use store::Shape;
 use store::clear_producer;
@@ -16,9 +15,26 @@ use store::part;
 use store::producer;
 use store::put_content;
 use store::put_entry;
-use store::put_part;
 use store::put_producer;
 use store::record_end;
+use store::word;
+
+// The phases that these steps go to.
+const LOAD: u32 = 2;
+
+const LOOK: u32 = 3;
+
+const CLAIM: u32 = 4;
+
+const SHIFT: u32 = 6;
+
+const BACK: u32 = 7;
+
+const WRITE: u32 = 8;
+
+const SET: u32 = 9;
+
+const CLAIM_AHEAD: u32 = 10;
 
 // 1. Take: L becomes tail, tail grows by one; to 2.
 pub fn take_position(s: &mut [u32], z: Shape, t: u32) -> Reply
@@ -26,13 +42,13 @@ pub fn take_position(s: &mut [u32], z: Shape, t: u32) -> Reply
     requires { ⌜ (1 ≤ t) × (t ≤ z .producers) ⌝ }
     ensures { λ r. ⌜ left r (now (s .exit)) ≡ does (λ z σ. takePosition z σ t) z (now (s .entry)) ⌝ }
 {
-    let tail = content(s, z, 6);
+    let tail = content(s, z, word::TAIL);
     if z.starts <= tail {
         return Reply::Refused(9);
     }
-    put_producer(s, z, t, 3, tail);
-    put_content(s, z, 6, tail + 1);
-    put_producer(s, z, t, 0, 2);
+    put_producer(s, z, t, word::POSITION, tail);
+    put_content(s, z, word::TAIL, tail + 1);
+    put_producer(s, z, t, word::PHASE, LOAD);
     Reply::Going
 }
 
@@ -42,15 +58,15 @@ fn choose_phase(s: &[u32], z: Shape, t: u32, r: u32) -> u32
     requires { ⌜ (1 ≤ t) × (t ≤ z .producers) × (r < z .records) ⌝ }
     ensures { λ p. ⌜ choose (sizes z) (reader (sizes z) (now (s .entry))) t r ≡ p ⌝ }
 {
-    let position = producer(s, z, t, 3);
+    let position = producer(s, z, t, word::POSITION);
     let end = record_end(s, z, r);
     if end <= position {
-        return 3;
+        return LOOK;
     }
     if position + z.entries < end {
-        return 7;
+        return BACK;
     }
-    8
+    WRITE
 }
 
 // 2. Load: hold the tail record; choose.
@@ -59,13 +75,13 @@ pub fn load_tail(s: &mut [u32], z: Shape, t: u32) -> Reply
     requires { ⌜ (1 ≤ t) × (t ≤ z .producers) ⌝ }
     ensures { λ r. ⌜ left r (now (s .exit)) ≡ does (λ z σ. loadTail z σ t) z (now (s .entry)) ⌝ }
 {
-    let tail_record = content(s, z, 7);
+    let tail_record = content(s, z, word::TAIL_RECORD);
     if tail_record == 0 {
         return Reply::Refused(9);
     }
     let phase = choose_phase(s, z, t, tail_record - 1);
-    put_producer(s, z, t, 4, tail_record);
-    put_producer(s, z, t, 0, phase);
+    put_producer(s, z, t, word::HELD, tail_record);
+    put_producer(s, z, t, word::PHASE, phase);
     Reply::Going
 }
 
@@ -75,59 +91,15 @@ pub fn look_next(s: &mut [u32], z: Shape, t: u32) -> Reply
     requires { ⌜ (1 ≤ t) × (t ≤ z .producers) ⌝ }
     ensures { λ r. ⌜ left r (now (s .exit)) ≡ does (λ z σ. lookNext z σ t) z (now (s .entry)) ⌝ }
 {
-    let held = producer(s, z, t, 4);
+    let held = producer(s, z, t, word::HELD);
     if held == 0 {
         return Reply::Refused(9);
     }
-    if part(s, z, held - 1, 1) == 0 {
-        put_producer(s, z, t, 0, 4);
+    if part(s, z, held - 1, word::NEXT) == 0 {
+        put_producer(s, z, t, word::PHASE, CLAIM);
         return Reply::Going;
     }
-    put_producer(s, z, t, 0, 6);
-    Reply::Going
-}
-
-// Link: if next of held is none, the claimed record becomes it, linked, prev held, place one more. Otherwise it is given
-// back, use 0. False, and nothing stored, where a needed link is none or the place would leave its range.
-fn link(s: &mut [u32], z: Shape, t: u32) -> bool
-    requires { ⌜ Admitted (sizes z) (now s) ⌝ }
-    requires { ⌜ (1 ≤ t) × (t ≤ z .producers) ⌝ }
-    ensures { λ ok. ⌜ Linked (sizes z) (now (s .entry)) t ok (now (s .exit)) ⌝ }
-{
-    let held = producer(s, z, t, 4);
-    if held == 0 {
-        return false;
-    }
-    let claimed = producer(s, z, t, 5);
-    if claimed == 0 {
-        return false;
-    }
-    if part(s, z, held - 1, 1) != 0 {
-        put_part(s, z, claimed - 1, 3, 0);
-        return true;
-    }
-    let place = part(s, z, held - 1, 0);
-    if 500002 <= place {
-        return false;
-    }
-    put_part(s, z, held - 1, 1, claimed);
-    put_part(s, z, claimed - 1, 3, 2);
-    put_part(s, z, claimed - 1, 2, held);
-    put_part(s, z, claimed - 1, 0, place + 1);
-    true
-}
-
-// 5. Link. To 6.
-pub fn link_claimed(s: &mut [u32], z: Shape, t: u32) -> Reply
-    requires { ⌜ Admitted (sizes z) (now s) ⌝ }
-    requires { ⌜ (1 ≤ t) × (t ≤ z .producers) ⌝ }
-    ensures { λ r. ⌜ left r (now (s .exit)) ≡ does (λ z σ. linkClaimed z σ t) z (now (s .entry)) ⌝ }
-{
-    if !link(s, z, t) {
-        return Reply::Refused(9);
-    }
-    put_producer(s, z, t, 5, 0);
-    put_producer(s, z, t, 0, 6);
+    put_producer(s, z, t, word::PHASE, SHIFT);
     Reply::Going
 }
 
@@ -137,20 +109,20 @@ pub fn shift_tail(s: &mut [u32], z: Shape, t: u32) -> Reply
     requires { ⌜ (1 ≤ t) × (t ≤ z .producers) ⌝ }
     ensures { λ r. ⌜ left r (now (s .exit)) ≡ does (λ z σ. shiftTail z σ t) z (now (s .entry)) ⌝ }
 {
-    let held = producer(s, z, t, 4);
+    let held = producer(s, z, t, word::HELD);
     if held == 0 {
         return Reply::Refused(9);
     }
-    if content(s, z, 7) != held {
-        put_producer(s, z, t, 0, 2);
+    if content(s, z, word::TAIL_RECORD) != held {
+        put_producer(s, z, t, word::PHASE, LOAD);
         return Reply::Going;
     }
-    let next = part(s, z, held - 1, 1);
+    let next = part(s, z, held - 1, word::NEXT);
     if next == 0 {
         return Reply::Refused(9);
     }
-    put_content(s, z, 7, next);
-    put_producer(s, z, t, 0, 2);
+    put_content(s, z, word::TAIL_RECORD, next);
+    put_producer(s, z, t, word::PHASE, LOAD);
     Reply::Going
 }
 
@@ -160,18 +132,18 @@ pub fn go_back(s: &mut [u32], z: Shape, t: u32) -> Reply
     requires { ⌜ (1 ≤ t) × (t ≤ z .producers) ⌝ }
     ensures { λ r. ⌜ left r (now (s .exit)) ≡ does (λ z σ. goBack z σ t) z (now (s .entry)) ⌝ }
 {
-    let held = producer(s, z, t, 4);
+    let held = producer(s, z, t, word::HELD);
     if held == 0 {
         return Reply::Refused(9);
     }
-    let prev = part(s, z, held - 1, 2);
+    let prev = part(s, z, held - 1, word::PREV);
     if prev == 0 {
         return Reply::Refused(9);
     }
     let phase = choose_phase(s, z, t, prev - 1);
-    put_producer(s, z, t, 4, prev);
-    put_producer(s, z, t, 6, 1);
-    put_producer(s, z, t, 0, phase);
+    put_producer(s, z, t, word::HELD, prev);
+    put_producer(s, z, t, word::BACKED, 1);
+    put_producer(s, z, t, word::PHASE, phase);
     Reply::Going
 }
 
@@ -181,19 +153,19 @@ pub fn write_entry(s: &mut [u32], z: Shape, t: u32) -> Reply
     requires { ⌜ (1 ≤ t) × (t ≤ z .producers) ⌝ }
     ensures { λ r. ⌜ left r (now (s .exit)) ≡ does (λ z σ. writeEntry z σ t) z (now (s .entry)) ⌝ }
 {
-    let held = producer(s, z, t, 4);
+    let held = producer(s, z, t, word::HELD);
     if held == 0 {
         return Reply::Refused(9);
     }
-    let i = index_in(s, z, held - 1, producer(s, z, t, 3));
+    let i = index_in(s, z, held - 1, producer(s, z, t, word::POSITION));
     if z.entries <= i {
         return Reply::Refused(9);
     }
-    let call = producer(s, z, t, 1);
-    let value = producer(s, z, t, 2);
-    put_entry(s, z, held - 1, i, 1, call);
-    put_entry(s, z, held - 1, i, 2, value);
-    put_producer(s, z, t, 0, 9);
+    let call = producer(s, z, t, word::CALL);
+    let value = producer(s, z, t, word::VALUE);
+    put_entry(s, z, held - 1, i, word::ENTRY_CALL, call);
+    put_entry(s, z, held - 1, i, word::ENTRY_VALUE, value);
+    put_producer(s, z, t, word::PHASE, SET);
     Reply::Going
 }
 
@@ -203,32 +175,19 @@ pub fn set_entry(s: &mut [u32], z: Shape, t: u32) -> Reply
     requires { ⌜ (1 ≤ t) × (t ≤ z .producers) ⌝ }
     ensures { λ r. ⌜ left r (now (s .exit)) ≡ does (λ z σ. setEntry z σ t) z (now (s .entry)) ⌝ }
 {
-    let held = producer(s, z, t, 4);
+    let held = producer(s, z, t, word::HELD);
     if held == 0 {
         return Reply::Refused(9);
     }
-    let i = index_in(s, z, held - 1, producer(s, z, t, 3));
+    let i = index_in(s, z, held - 1, producer(s, z, t, word::POSITION));
     if z.entries <= i {
         return Reply::Refused(9);
     }
-    let ahead = (i == 1) & (producer(s, z, t, 6) == 0);
-    put_entry(s, z, held - 1, i, 0, 1);
+    let ahead = (i == 1) & (producer(s, z, t, word::BACKED) == 0);
+    put_entry(s, z, held - 1, i, word::STATE, 1);
     if ahead {
-        put_producer(s, z, t, 0, 10);
+        put_producer(s, z, t, word::PHASE, CLAIM_AHEAD);
         return Reply::Going;
-    }
-    clear_producer(s, z, t);
-    Reply::Ended
-}
-
-// 11. As 5, then end. The tail record does not move.
-pub fn link_ahead(s: &mut [u32], z: Shape, t: u32) -> Reply
-    requires { ⌜ Admitted (sizes z) (now s) ⌝ }
-    requires { ⌜ (1 ≤ t) × (t ≤ z .producers) ⌝ }
-    ensures { λ r. ⌜ left r (now (s .exit)) ≡ does (λ z σ. linkAhead z σ t) z (now (s .entry)) ⌝ }
-{
-    if !link(s, z, t) {
-        return Reply::Refused(9);
     }
     clear_producer(s, z, t);
     Reply::Ended

@@ -9,6 +9,8 @@ ghost use Rattle.rules.specs.Address.{There};
 ghost use Rattle.store.specs.Shape.{sizes};
 ghost use Rattle.store.specs.Store.{Room, Admitted, Reads, Indexed};
 
+pub mod word;
+
 // The sizes of a store: entries in a record (B), records (N), producers (P), enqueue starts allowed (M).
 pub struct Shape {
     pub entries: u32,
@@ -173,7 +175,7 @@ pub fn record_end(s: &[u32], z: Shape, r: u32) -> u32
     requires { ⌜ r < z .records ⌝ }
     ensures { λ e. ⌜ (z .entries * reader (sizes z) (now (s .entry)) (place r) ≡ e) × (e ≤ 32000128) ⌝ }
 {
-    z.entries * part(s, z, r, 0)
+    z.entries * part(s, z, r, word::PLACE)
 }
 
 // The index of position p in record r; B where it leaves the record.

@@ -1,53 +1,39 @@
-use Rattle.admission.specs.Admit.{room-of, sizes-most, refuse-length, refuse-sizes, refuse-short, by-range}
-use Rattle.store.specs.Shape.{sizes}
-use denote.Ref.{now}
-use borrow.Author.Tests.{not-true, not-false}
-use native.Mathlib.Omega.{arith}
+-- `admission::admit` meets its contract.
 use mathlib.Core.Bool.{true, false}
 use mathlib.Core.Path.{_∙_}
+use native.Mathlib.Omega.{arith}
 use borrow.Author.Needs.{needs}
+use borrow.Author.Tests.{not-true, not-false}
+use denote.Ref.{now}
+use Rattle.store.specs.Shape.{sizes}
+use Rattle.admission.specs.Admit.{room-of, sizes-most, refuse-length, refuse-sizes, refuse-short, by-range}
 use Rattle.admission.proofs.admit.Statement.{statement}
 use Rattle.admission.proofs.admit.Tie as tie
-use Rattle.admission.proofs.admit.Reads as reads
-use Rattle.admission.proofs.admit.Lts as lts
-use Rattle.admission.proofs.in_range.Reads as in-range-reads
-use Rattle.admission.proofs.shape_of.Reads as shape-of-reads
-use Rattle.admission.proofs.sizes_in_range.Reads as sizes-in-range-reads
-use Rattle.admission.proofs.store_words.Reads as store-words-reads
 
--- src/lib.rt:191:9
 returns : tie.Need-returns
 returns c = refuse-length (now (c .before .before .args .s)) (c .if1 .taken)
 
--- src/lib.rt:193:9
 shape-of-requires : tie.Need-shape-of-requires
 shape-of-requires c κs = search needs
 
--- src/lib.rt:194:9
 sizes-in-range-requires : tie.Need-sizes-in-range-requires
 sizes-in-range-requires c κs = search needs
 
--- src/lib.rt:195:9
 returns-2 : tie.Need-returns-2
 returns-2 c = refuse-sizes (now (c .before .before .before .before .before .args .s)) (sizes (c .before .before .shape-of .result)) (c .before .before .shape-of .ensures) (c .before .before .before .if1 .left) (c .before .sizes-in-range .ensures ∙ not-true _ (c .if2 .taken))
 
--- src/lib.rt:197:18
 store-words-requires : tie.Need-store-words-requires
 store-words-requires c κs = sizes-most (sizes (c .before .before .shape-of .result)) (c .before .sizes-in-range .ensures ∙ not-false _ (c .if2 .left))
 
--- src/lib.rt:198:9
 returns-3 : tie.Need-returns-3
 returns-3 c = refuse-short (now (c .before .before .before .before .before .before .before .args .s)) (sizes (c .before .before .before .before .shape-of .result)) (c .before .before .before .before .shape-of .ensures) (c .before .before .before .before .before .if1 .left) (c .before .before .before .sizes-in-range .ensures ∙ not-false _ (c .before .before .if2 .left)) (omega arith)
 
--- src/lib.rt:200:9
 in-range-requires : tie.Need-in-range-requires
 in-range-requires c κs = (room-of (sizes (c .before .before .before .before .shape-of .result)) (now (c .before .before .before .before .before .before .before .args .s)) (c .before .before .before .sizes-in-range .ensures ∙ not-false _ (c .before .before .if2 .left)) (omega arith), c .before .before .before .before .shape-of .ensures)
 
--- src/lib.rt:201:9
 returns-4 : tie.Need-returns-4
 returns-4 c = by-range (now (c .before .before .before .before .before .before .before .before .before .args .s)) (sizes (c .before .before .before .before .before .before .shape-of .result)) (c .before .before .before .before .before .before .shape-of .ensures) (c .before .before .before .before .before .before .before .if1 .left) (c .before .before .before .before .before .sizes-in-range .ensures ∙ not-false _ (c .before .before .before .before .if2 .left)) (omega arith) false (c .before .in-range .ensures ∙ not-true _ (c .if4 .taken))
 
--- src/lib.rt:187:1
 returns-5 : tie.Need-returns-5
 returns-5 c = by-range (now (c .before .before .before .before .before .before .before .before .before .args .s)) (sizes (c .before .before .before .before .before .before .shape-of .result)) (c .before .before .before .before .before .before .shape-of .ensures) (c .before .before .before .before .before .before .before .if1 .left) (c .before .before .before .before .before .sizes-in-range .ensures ∙ not-false _ (c .before .before .before .before .if2 .left)) (omega arith) true (c .before .in-range .ensures ∙ not-false _ (c .if4 .left))
 

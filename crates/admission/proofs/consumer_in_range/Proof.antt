@@ -1,68 +1,48 @@
-use Rattle.admission.specs.Rows.{consumer-row, consumer-past, idle-phase, cursor-phase}
+-- `admission::consumer_in_range` meets its contract.
+use mathlib.Core.Path.{refl, _∙_}
+use native.Mathlib.Omega.{arith}
+use borrow.Author.Needs.{needs}
+use denote.Ref.{now}
 use Rattle.rules.specs.Range.{idleSorts, cursorSorts, rescanSorts, foundSorts, itemSorts}
 use Rattle.store.specs.Shape.{sizes}
-use Rattle.rules.specs.Cell.{reader}
-use denote.Ref.{now}
-use lib.ListN.{getD, length}
-use lib.Dec.{leb, eqb}
-use native.Mathlib.Omega.{arith}
-use native.Mathlib.Numerals.{add-one}
-use Prim.Native.Nat.{suc, _+_, _*_, _-_, _≤_}
-use mathlib.Core.Bool.{and-true}
-use mathlib.Core.Path.{_≡_, refl, sym, _∙_}
-use borrow.Author.Needs.{needs}
+use Rattle.admission.specs.Rows.{consumer-row, consumer-past, idle-phase, cursor-phase}
 use Rattle.admission.proofs.consumer_in_range.Statement.{statement}
 use Rattle.admission.proofs.consumer_in_range.Tie as tie
-use Rattle.admission.proofs.consumer_in_range.Reads as reads
-use Rattle.admission.proofs.consumer_in_range.Lts as lts
-use Rattle.admission.proofs.row_at_most.Reads as row-at-most-reads
 
--- src/lib.rt:114:17
 shared-slice-read-phase : tie.Need-shared-slice-read-phase
 shared-slice-read-phase c = search needs
 
--- src/lib.rt:116:9
 returns : tie.Need-returns
 returns c = consumer-past (sizes (c .before .before .before .args .z)) (now (c .before .before .before .args .s)) (λ j. omega (arith, c .before .shared-slice-known2 .given j)) _ refl (c .if1 .taken)
 
--- src/lib.rt:119:9
 row-at-most-requires : tie.Need-row-at-most-requires
 row-at-most-requires c κs = search needs
 
--- src/lib.rt:119:9
 returns-2 : tie.Need-returns-2
 returns-2 c =
     consumer-row (sizes (c .before .before .before .before .before .args .z)) (now (c .before .before .before .before .before .args .s)) (λ j. omega (arith, c .before .before .before .shared-slice-known2 .given j)) _ idleSorts refl (c .before .before .if1 .left) (idle-phase _ (c .before .if2 .taken)) refl refl ∙ c .row-at-most .ensures
 
--- src/lib.rt:122:14
 row-at-most-requires-2 : tie.Need-row-at-most-requires-2
 row-at-most-requires-2 c κs = search needs
 
--- src/lib.rt:123:14
 row-at-most-requires-3 : tie.Need-row-at-most-requires-3
 row-at-most-requires-3 c κs = search needs
 
--- src/lib.rt:124:14
 row-at-most-requires-4 : tie.Need-row-at-most-requires-4
 row-at-most-requires-4 c κs = search needs
 
--- src/lib.rt:125:14
 row-at-most-requires-5 : tie.Need-row-at-most-requires-5
 row-at-most-requires-5 c κs = search needs
 
--- src/lib.rt:108:1
 returns-3 : tie.Need-returns-3
 returns-3 c = consumer-row (sizes (c .before .before .before .before .before .before .args .z)) (now (c .before .before .before .before .before .before .args .s)) (λ j. omega (arith, c .before .before .before .before .shared-slice-known2 .given j)) 5 rescanSorts (c .before .match .keys1) (omega arith) refl refl refl ∙ c .row-at-most2 .ensures
 
--- src/lib.rt:108:1
 returns-4 : tie.Need-returns-4
 returns-4 c = consumer-row (sizes (c .before .before .before .before .before .before .args .z)) (now (c .before .before .before .before .before .before .args .s)) (λ j. omega (arith, c .before .before .before .before .shared-slice-known2 .given j)) 6 foundSorts (c .before .match .keys2) (omega arith) refl refl refl ∙ c .row-at-most3 .ensures
 
--- src/lib.rt:108:1
 returns-5 : tie.Need-returns-5
 returns-5 c = consumer-row (sizes (c .before .before .before .before .before .before .args .z)) (now (c .before .before .before .before .before .before .args .s)) (λ j. omega (arith, c .before .before .before .before .shared-slice-known2 .given j)) 7 itemSorts (c .before .match .keys3) (omega arith) refl refl refl ∙ c .row-at-most4 .ensures
 
--- src/lib.rt:108:1
 returns-6 : tie.Need-returns-6
 returns-6 c =
     let n = c .before .match .rest in

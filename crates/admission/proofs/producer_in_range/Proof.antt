@@ -1,91 +1,65 @@
-use Rattle.admission.specs.Rows.{producer-row, producer-past, placed-phase}
+-- `admission::producer_in_range` meets its contract.
+use mathlib.Core.Path.{refl, _∙_}
+use native.Mathlib.Omega.{arith}
+use borrow.Author.Needs.{needs}
+use denote.Ref.{now}
 use Rattle.rules.specs.Range.{idleSorts, startedSorts, placedSorts, linkingSorts, aheadSorts, linkingAheadSorts}
 use Rattle.store.specs.Shape.{sizes}
-use Rattle.rules.specs.Cell.{reader}
-use denote.Ref.{now}
-use lib.ListN.{getD, length}
-use lib.Dec.{leb, eqb}
-use native.Mathlib.Omega.{arith}
-use native.Mathlib.Numerals.{add-one}
-use Prim.Native.Nat.{suc, _+_, _*_, _-_, _≤_}
-use mathlib.Core.Bool.{and-true}
-use mathlib.Core.Path.{_≡_, refl, sym, _∙_}
-use borrow.Author.Needs.{needs}
+use Rattle.admission.specs.Rows.{producer-row, producer-past, placed-phase}
 use Rattle.admission.proofs.producer_in_range.Statement.{statement}
 use Rattle.admission.proofs.producer_in_range.Tie as tie
-use Rattle.admission.proofs.producer_in_range.Reads as reads
-use Rattle.admission.proofs.producer_in_range.Lts as lts
-use Rattle.admission.proofs.row_at_most.Reads as row-at-most-reads
 
--- src/lib.rt:76:19
 mul-at : tie.Need-mul-at
 mul-at c = search needs
 
--- src/lib.rt:76:14
 add-at : tie.Need-add-at
 add-at c = search needs
 
--- src/lib.rt:79:19
 cast-phase : tie.Need-cast-phase
 cast-phase c = search needs
 
--- src/lib.rt:79:17
 mul-phase : tie.Need-mul-phase
 mul-phase c = search needs
 
--- src/lib.rt:79:17
 shared-slice-read-phase : tie.Need-shared-slice-read-phase
 shared-slice-read-phase c = search needs
 
--- src/lib.rt:81:9
 returns : tie.Need-returns
 returns c = producer-past (sizes (c .before .before .before .args .z)) (now (c .before .before .before .args .s)) (λ j. omega (arith, c .before .shared-slice-known2 .given j)) (c .before .before .before .args .t) (c .before .before .before .pre .1) _ refl (c .if1 .taken)
 
--- src/lib.rt:84:14
 row-at-most-requires : tie.Need-row-at-most-requires
 row-at-most-requires c κs = search needs
 
--- src/lib.rt:85:14
 row-at-most-requires-2 : tie.Need-row-at-most-requires-2
 row-at-most-requires-2 c κs = search needs
 
--- src/lib.rt:86:14
 row-at-most-requires-3 : tie.Need-row-at-most-requires-3
 row-at-most-requires-3 c κs = search needs
 
--- src/lib.rt:87:15
 row-at-most-requires-4 : tie.Need-row-at-most-requires-4
 row-at-most-requires-4 c κs = search needs
 
--- src/lib.rt:88:15
 row-at-most-requires-5 : tie.Need-row-at-most-requires-5
 row-at-most-requires-5 c κs = search needs
 
--- src/lib.rt:89:14
 row-at-most-requires-6 : tie.Need-row-at-most-requires-6
 row-at-most-requires-6 c κs = search needs
 
--- src/lib.rt:71:1
 returns-2 : tie.Need-returns-2
 returns-2 c = producer-row (sizes (c .before .before .before .before .before .args .z)) (now (c .before .before .before .before .before .args .s)) (λ j. omega (arith, c .before .before .before .shared-slice-known2 .given j)) (c .before .before .before .before .before .args .t) (c .before .before .before .before .before .pre .1) 0 idleSorts (c .before .match .keys1) (omega arith) refl refl refl ∙ c .row-at-most .ensures
 
--- src/lib.rt:71:1
 returns-3 : tie.Need-returns-3
 returns-3 c = producer-row (sizes (c .before .before .before .before .before .args .z)) (now (c .before .before .before .before .before .args .s)) (λ j. omega (arith, c .before .before .before .shared-slice-known2 .given j)) (c .before .before .before .before .before .args .t) (c .before .before .before .before .before .pre .1) 1 startedSorts (c .before .match .keys2) (omega arith) refl refl refl ∙ c .row-at-most2 .ensures
 
--- src/lib.rt:71:1
 returns-4 : tie.Need-returns-4
 returns-4 c = producer-row (sizes (c .before .before .before .before .before .args .z)) (now (c .before .before .before .before .before .args .s)) (λ j. omega (arith, c .before .before .before .shared-slice-known2 .given j)) (c .before .before .before .before .before .args .t) (c .before .before .before .before .before .pre .1) 5 linkingSorts (c .before .match .keys3) (omega arith) refl refl refl ∙ c .row-at-most3 .ensures
 
--- src/lib.rt:71:1
 returns-5 : tie.Need-returns-5
 returns-5 c = producer-row (sizes (c .before .before .before .before .before .args .z)) (now (c .before .before .before .before .before .args .s)) (λ j. omega (arith, c .before .before .before .shared-slice-known2 .given j)) (c .before .before .before .before .before .args .t) (c .before .before .before .before .before .pre .1) 10 aheadSorts (c .before .match .keys4) (omega arith) refl refl refl ∙ c .row-at-most4 .ensures
 
--- src/lib.rt:71:1
 returns-6 : tie.Need-returns-6
 returns-6 c = producer-row (sizes (c .before .before .before .before .before .args .z)) (now (c .before .before .before .before .before .args .s)) (λ j. omega (arith, c .before .before .before .shared-slice-known2 .given j)) (c .before .before .before .before .before .args .t) (c .before .before .before .before .before .pre .1) 11 linkingAheadSorts (c .before .match .keys5) (omega arith) refl refl refl ∙ c .row-at-most5 .ensures
 
--- src/lib.rt:71:1
 returns-7 : tie.Need-returns-7
 returns-7 c =
     let n = c .before .match .rest in

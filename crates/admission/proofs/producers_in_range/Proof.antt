@@ -1,19 +1,13 @@
+-- `admission::producers_in_range` meets its contract.
+use mathlib.Core.Path.{_≡_, refl}
+use Prim.Native.Nat.{suc, _-_, _≤_}
+use native.Mathlib.Numerals.{add-one}
+use native.Mathlib.Omega.{arith}
+use Rattle.rules.specs.Cell.{reader}
 use Rattle.rules.specs.Range.{every, producerInRange}
 use Rattle.store.specs.Shape.{sizes}
-use Rattle.rules.specs.Cell.{reader}
-use denote.Ref.{now}
-use lib.ListN.{getD, length}
-use lib.Dec.{leb, eqb}
-use native.Mathlib.Omega.{arith}
-use native.Mathlib.Numerals.{add-one}
-use Prim.Native.Nat.{suc, _+_, _*_, _-_, _≤_}
-use mathlib.Core.Bool.{and-true}
-use mathlib.Core.Path.{_≡_, refl, sym, _∙_}
 use Rattle.admission.proofs.producers_in_range.Statement.{statement}
 use Rattle.admission.proofs.producers_in_range.Tie as tie
-use Rattle.admission.proofs.producers_in_range.Reads as reads
-use Rattle.admission.proofs.producers_in_range.Lts as lts
-use Rattle.admission.proofs.producer_in_range.Reads as producer-in-range-reads
 
 abbrev Inv-loop : tie.InvT-loop
 Inv-loop s z ok₀ t₀ ok t = (t ≤ z .producers) × (every t (λ p. producerInRange (sizes z) (reader (sizes z) s) (suc p)) ≡ ok)
@@ -21,32 +15,25 @@ Inv-loop s z ok₀ t₀ ok t = (t ≤ z .producers) × (every t (λ p. producerI
 abbrev μ-loop : tie.MeasureT-loop
 μ-loop s z ok₀ t₀ ok t = z .producers - t
 
--- src/lib.rt:99:5
 loop-holds : tie.Need-loop-holds Inv-loop μ-loop
 loop-holds c = (omega arith, refl)
 
--- src/lib.rt:100:43
 add-producer-in-range : tie.Need-add-producer-in-range Inv-loop μ-loop
 add-producer-in-range c = omega arith
 
--- src/lib.rt:100:19
 producer-in-range-requires : tie.Need-producer-in-range-requires Inv-loop μ-loop
 producer-in-range-requires c κs = (c .before .before .before .before .pre, omega arith)
 
--- src/lib.rt:101:9
 add-t : tie.Need-add-t Inv-loop μ-loop
 add-t c = omega arith
 
--- src/lib.rt:99:5
 loop-less : tie.Need-loop-less Inv-loop μ-loop
 loop-less c = omega arith
 
--- src/lib.rt:99:5
 loop-again : tie.Need-loop-again Inv-loop μ-loop
 loop-again c =
     (omega arith, rw (add-one (c .before .before .before .loop .t), c .before .before .before .loop .inv .1, rw add-one at (c .producer-in-range .ensures)) refl)
 
--- src/lib.rt:93:1
 returns : tie.Need-returns Inv-loop μ-loop
 returns c =
     let e : c .before .before .loop .t ≡ c .before .before .before .before .args .z .producers = omega arith in

@@ -1,48 +1,44 @@
+-- `admission::records_in_range` meets its contract.
+use mathlib.Core.Path.{_≡_, refl}
+use Prim.Native.Nat.{_-_, _≤_}
+use native.Mathlib.Numerals.{add-one}
+use native.Mathlib.Omega.{arith}
+use Rattle.rules.specs.Cell.{reader}
 use Rattle.rules.specs.Range.{every, recordInRange}
 use Rattle.store.specs.Shape.{sizes}
-use Rattle.rules.specs.Cell.{reader}
-use denote.Ref.{now}
-use native.Mathlib.Omega.{arith}
-use native.Mathlib.Numerals.{add-one}
-use Prim.Native.Nat.{suc, _+_, _*_, _-_, _≤_}
-use mathlib.Core.Bool.{_&&_}
-use mathlib.Core.Path.{_≡_, refl, sym, ap₂, _∙_}
 use Rattle.admission.proofs.records_in_range.Statement.{statement}
 use Rattle.admission.proofs.records_in_range.Tie as tie
-use Rattle.admission.proofs.records_in_range.Reads as reads
-use Rattle.admission.proofs.records_in_range.Lts as lts
-use Rattle.admission.proofs.record_in_range.Reads as record-in-range-reads
 
 abbrev Inv-loop : tie.InvT-loop
-Inv-loop s z ok₀ r₀ ok r = (r ≤ z .records) × (every r (recordInRange (sizes z) (reader (sizes z) s)) ≡ ok)
+Inv-loop s z b ok₀ r₀ ok r = (r ≤ z .records) × (every r (recordInRange (sizes z) (reader (sizes z) s)) ≡ ok)
 
 abbrev μ-loop : tie.MeasureT-loop
-μ-loop s z ok₀ r₀ ok r = z .records - r
+μ-loop s z b ok₀ r₀ ok r = z .records - r
 
--- src/lib.rt:52:5
+record-bounds-requires : tie.Need-record-bounds-requires Inv-loop μ-loop
+record-bounds-requires c κs = omega arith
+
 loop-holds : tie.Need-loop-holds Inv-loop μ-loop
 loop-holds c = (omega arith, refl)
 
--- src/lib.rt:53:19
 record-in-range-requires : tie.Need-record-in-range-requires Inv-loop μ-loop
-record-in-range-requires c κs = (c .before .before .before .before .pre, omega arith)
+record-in-range-requires c κs =
+    (c .before .before .before .before .before .before .pre, (omega arith, c .before .before .before .before .record-bounds .ensures))
 
--- src/lib.rt:54:9
 add-r : tie.Need-add-r Inv-loop μ-loop
 add-r c = omega arith
 
--- src/lib.rt:52:5
 loop-less : tie.Need-loop-less Inv-loop μ-loop
 loop-less c = omega arith
 
--- src/lib.rt:52:5
 loop-again : tie.Need-loop-again Inv-loop μ-loop
-loop-again c = (omega arith, rw (add-one (c .before .before .before .loop .r), c .before .before .before .loop .inv .1, c .record-in-range .ensures) refl)
+loop-again c =
+    let l = c .before .before .before .before .loop in
+    (omega arith, rw (add-one (l .r), l .inv .1, c .record-in-range .ensures) refl)
 
--- src/lib.rt:46:1
 returns : tie.Need-returns Inv-loop μ-loop
 returns c =
-    let e : c .before .before .loop .r ≡ c .before .before .before .before .args .z .records = omega arith in
+    let e : c .before .before .loop .r ≡ c .before .before .before .before .before .args .z .records = omega arith in
     rw e at (c .before .before .loop .inv .1)
 
 pub records-in-range-spec : {M : Type 1} → statement M
@@ -51,6 +47,7 @@ records-in-range-spec =
     (tie.spec
     Inv-loop
     μ-loop
+    record-bounds-requires
     loop-holds
     record-in-range-requires
     add-r

@@ -1,50 +1,46 @@
-use Rattle.rules.specs.Producer.{claimAhead}
-use Rattle.store.specs.Steps.{some, suc-pred}
-use Rattle.rules.specs.Request.{applied}
-use Rattle.rules.specs.Cell.{writes}
+-- `claim::claim_ahead` meets its contract.
 use mathlib.Core.Path.{refl}
 use borrow.Author.Needs.{needs}
+use Rattle.rules.specs.Cell.{writes}
+use Rattle.rules.specs.Producer.{claimAhead}
+use Rattle.rules.specs.Request.{applied}
+use Rattle.store.specs.Steps.{some}
 use Rattle.claim.proofs.claim_ahead.Statement.{statement}
 use Rattle.claim.proofs.claim_ahead.Tie as tie
-use Rattle.claim.proofs.claim_ahead.Reads as reads
-use Rattle.claim.proofs.claim_ahead.Lts as lts
-use Rattle.claim.proofs.lowest_free.Reads as lowest-free-reads
-use Rattle.claim.proofs.take_record.Reads as take-record-reads
-use Rattle.store.proofs.clear_producer.Reads as clear-producer-reads
 
--- src/lib.rt:103:9
 lowest-free-requires : tie.Need-lowest-free-requires
 lowest-free-requires c κs = search needs
 
--- src/lib.rt:105:9
 clear-producer-requires : tie.Need-clear-producer-requires
 clear-producer-requires c κs = search needs
 
--- src/lib.rt:106:9
 same-length : tie.Need-same-length
 same-length c = search needs
 
--- src/lib.rt:106:9
 returns : tie.Need-returns
 unfolding claimAhead applied writes
-returns c = rw (c .before .before .before .before .before .lowest-free .ensures .0, c .before .before .before .before .if1 .taken, c .before .before .clear-producer .ensures) refl
+returns c =
+    let lowest-free = c .before .before .before .before .before .lowest-free in
+    let if1 = c .before .before .before .before .if1 in
+    let clear-producer = c .before .before .clear-producer in
+    rw (lowest-free .ensures .0, if1 .taken, clear-producer .ensures) refl
 
--- src/lib.rt:108:26
 sub-take-record : tie.Need-sub-take-record
 sub-take-record c = search needs
 
--- src/lib.rt:108:5
 take-record-requires : tie.Need-take-record-requires
 take-record-requires c κs = search needs
 
--- src/lib.rt:98:1
 same-length-2 : tie.Need-same-length-2
 same-length-2 c = search needs
 
--- src/lib.rt:98:1
 returns-2 : tie.Need-returns-2
 unfolding claimAhead applied
-returns-2 c = rw (some (c .before .before .before .before .before .lowest-free .ensures .0) (c .before .before .before .before .if1 .left), c .before .before .take-record .ensures) refl
+returns-2 c =
+    let lowest-free = c .before .before .before .before .before .lowest-free in
+    let if1 = c .before .before .before .before .if1 in
+    let take-record = c .before .before .take-record in
+    rw (some (lowest-free .ensures .0) (if1 .left), take-record .ensures) refl
 
 pub claim-ahead-spec : {M : Type 1} → statement M
 claim-ahead-spec =

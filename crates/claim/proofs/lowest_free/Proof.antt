@@ -1,17 +1,15 @@
-use Rattle.claim.specs.Search.{none-yet, found-at}
-use Rattle.store.specs.Shape.{sizes}
-use Rattle.rules.specs.Free.{free, firstFree, lowestFree}
-use Rattle.rules.specs.Cell.{reader}
-use denote.Ref.{now}
-use native.Mathlib.Omega.{arith}
-use native.Mathlib.Numerals.{add-one}
-use Prim.Native.Nat.{suc, _-_, _≤_}
+-- `claim::lowest_free` meets its contract.
 use mathlib.Core.Path.{_≡_, refl, _∙_}
+use Prim.Native.Nat.{_-_, _≤_}
+use native.Mathlib.Numerals.{add-one}
+use native.Mathlib.Omega.{arith}
+use denote.Ref.{now}
+use Rattle.rules.specs.Cell.{reader}
+use Rattle.rules.specs.Free.{free, firstFree, lowestFree}
+use Rattle.store.specs.Shape.{sizes}
+use Rattle.claim.specs.Search.{none-yet, found-at}
 use Rattle.claim.proofs.lowest_free.Statement.{statement}
 use Rattle.claim.proofs.lowest_free.Tie as tie
-use Rattle.claim.proofs.lowest_free.Reads as reads
-use Rattle.claim.proofs.lowest_free.Lts as lts
-use Rattle.claim.proofs.is_free.Reads as is-free-reads
 
 abbrev Inv-loop : tie.InvT-loop
 Inv-loop s z r₀ r = (r ≤ z .records) × (firstFree r (free (sizes z) (reader (sizes z) s)) ≡ 0)
@@ -19,42 +17,36 @@ Inv-loop s z r₀ r = (r ≤ z .records) × (firstFree r (free (sizes z) (reader
 abbrev μ-loop : tie.MeasureT-loop
 μ-loop s z r₀ r = z .records - r
 
--- src/lib.rt:62:5
 loop-holds : tie.Need-loop-holds Inv-loop μ-loop
 loop-holds c = (omega arith, refl)
 
--- src/lib.rt:63:12
 is-free-requires : tie.Need-is-free-requires Inv-loop μ-loop
 is-free-requires c κs = (c .before .before .before .before .pre, omega arith)
 
--- src/lib.rt:64:20
 add-result : tie.Need-add-result Inv-loop μ-loop
 add-result c = omega arith
 
--- src/lib.rt:64:13
 returns : tie.Need-returns Inv-loop μ-loop
 unfolding lowestFree
 returns c =
-    let a = c .before .before .before .before .before .before .args in
-    (rw add-one (found-at (free (sizes (a .z)) (reader (sizes (a .z)) (now (a .s)))) (c .before .before .before .before .loop .r) (a .z .records) (c .before .before .before .before .loop .inv .1) (c .before .is-free .ensures ∙ c .if2 .taken) (omega arith)),
-    omega arith)
+    let a = c .before .before .before .before .before .before .args in (
+      rw add-one (found-at (free (sizes (a .z)) (reader (sizes (a .z)) (now (a .s)))) (c .before .before .before .before .loop .r) (a .z .records) (c .before .before .before .before .loop .inv .1) (c .before .is-free .ensures ∙ c .if2 .taken) (omega arith)),
+      omega arith,
+    )
 
--- src/lib.rt:66:9
 add-r : tie.Need-add-r Inv-loop μ-loop
 add-r c = omega arith
 
--- src/lib.rt:62:5
 loop-less : tie.Need-loop-less Inv-loop μ-loop
 loop-less c = omega arith
 
--- src/lib.rt:62:5
 loop-again : tie.Need-loop-again Inv-loop μ-loop
 loop-again c =
-    let a = c .before .before .before .before .before .before .args in
-    (omega arith,
-    rw add-one (none-yet (free (sizes (a .z)) (reader (sizes (a .z)) (now (a .s)))) (c .before .before .before .before .loop .r) (c .before .before .before .before .loop .inv .1) (c .before .is-free .ensures ∙ c .if2 .left)))
+    let a = c .before .before .before .before .before .before .args in (
+      omega arith,
+      rw add-one (none-yet (free (sizes (a .z)) (reader (sizes (a .z)) (now (a .s)))) (c .before .before .before .before .loop .r) (c .before .before .before .before .loop .inv .1) (c .before .is-free .ensures ∙ c .if2 .left)),
+    )
 
--- src/lib.rt:57:1
 returns-2 : tie.Need-returns-2 Inv-loop μ-loop
 unfolding lowestFree
 returns-2 c =

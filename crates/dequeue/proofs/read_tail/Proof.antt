@@ -1,79 +1,63 @@
-use Rattle.rules.specs.Consumer.{readTail}
-use Rattle.store.specs.Steps.{some, suc-pred}
-use Rattle.store.specs.Shape.{sizes}
-use Rattle.rules.specs.Request.{applied}
-use Rattle.rules.specs.Cell.{reader, writes}
-use denote.Ref.{now}
-use borrow.Author.Tests.{eq-eqb, ne-eqb, le-leb, lt-leb}
-use native.Mathlib.Omega.{arith}
-use native.Mathlib.Numerals.{add-one}
-use Prim.Native.Nat.{suc, _-_}
+-- `dequeue::read_tail` meets its contract.
 use mathlib.Core.Path.{refl}
+use Prim.Native.Nat.{suc}
+use native.Mathlib.Numerals.{add-one}
+use native.Mathlib.Omega.{arith}
 use borrow.Author.Needs.{needs}
+use borrow.Author.Tests.{eq-eqb, ne-eqb, le-leb, lt-leb}
+use Rattle.rules.specs.Cell.{writes}
+use Rattle.rules.specs.Consumer.{readTail}
+use Rattle.rules.specs.Request.{applied}
 use Rattle.dequeue.proofs.read_tail.Statement.{statement}
 use Rattle.dequeue.proofs.read_tail.Tie as tie
-use Rattle.dequeue.proofs.read_tail.Reads as reads
-use Rattle.dequeue.proofs.read_tail.Lts as lts
-use Rattle.store.proofs.clear_consumer.Reads as clear-consumer-reads
-use Rattle.store.proofs.content.Reads as content-reads
-use Rattle.store.proofs.put_consumer.Reads as put-consumer-reads
 
--- src/lib.rt:125:9
 content-requires : tie.Need-content-requires
 content-requires c κs = search needs
 
--- src/lib.rt:126:8
 content-requires-2 : tie.Need-content-requires-2
 content-requires-2 c κs = search needs
 
--- src/lib.rt:127:9
 clear-consumer-requires : tie.Need-clear-consumer-requires
-clear-consumer-requires c κs = search needs
+clear-consumer-requires c κs = omega (arith, c .before .before .before .before .before .before .before)
 
--- src/lib.rt:128:9
 same-length : tie.Need-same-length
 same-length c = search needs
 
--- src/lib.rt:128:9
 returns : tie.Need-returns
 unfolding applied readTail writes
-returns c = rw (c .before .before .before .before .before .before .before .content .ensures .is, c .before .before .before .before .before .content2 .ensures .is, eq-eqb _ _ (c .before .before .before .before .if1 .taken), c .before .before .clear-consumer .ensures) refl
+returns c =
+    let content = c .before .before .before .before .before .before .before .content in
+    let content2 = c .before .before .before .before .before .content2 in
+    let if1 = c .before .before .before .before .if1 in
+    let clear-consumer = c .before .before .clear-consumer in
+    rw (content .ensures .is, content2 .ensures .is, eq-eqb _ _ (if1 .taken), clear-consumer .ensures) refl
 
--- src/lib.rt:131:9
 same-length-2 : tie.Need-same-length-2
 same-length-2 c = search needs
 
--- src/lib.rt:131:9
 returns-2 : tie.Need-returns-2
 unfolding applied readTail
 returns-2 c =
     rw (c .before .before .before .before .before .content .ensures .is, c .before .before .before .content2 .ensures .is, ne-eqb _ _ (c .before .before .if1 .left), lt-leb (suc (c .before .before .before .before .before .content .result)) (c .before .before .before .before .before .before .before .before .args .z .starts) (omega arith)) refl
 
--- src/lib.rt:133:9
 content-requires-3 : tie.Need-content-requires-3
 content-requires-3 c κs = search needs
 
--- src/lib.rt:134:5
 put-consumer-requires : tie.Need-put-consumer-requires
-put-consumer-requires c κs = search needs
+put-consumer-requires c κs = omega (arith, c .before .before .before .before .before .before .before .before .before .before .before)
 
--- src/lib.rt:135:27
 add-put-consumer : tie.Need-add-put-consumer
 add-put-consumer c = search needs
 
--- src/lib.rt:135:5
 put-consumer-requires-2 : tie.Need-put-consumer-requires-2
-put-consumer-requires-2 c κs = search needs
+put-consumer-requires-2 c κs = omega (arith, c .before .before .before .before .before .before .before .before .before .before .before .before .before .before .before)
 
--- src/lib.rt:136:5
 put-consumer-requires-3 : tie.Need-put-consumer-requires-3
-put-consumer-requires-3 c κs = search needs
+put-consumer-requires-3 c κs = omega (arith, c .before .before .before .before .before .before .before .before .before .before .before .before .before .before .before .before .before .before .before)
 
--- src/lib.rt:121:1
 same-length-3 : tie.Need-same-length-3
 same-length-3 c = search needs
 
--- src/lib.rt:121:1
 returns-3 : tie.Need-returns-3
 unfolding applied readTail writes
 returns-3 c =

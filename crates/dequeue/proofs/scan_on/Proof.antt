@@ -1,141 +1,152 @@
-use Rattle.dequeue.specs.Front.{toCursor}
-use Rattle.rules.specs.Consumer.{scan}
-use Rattle.store.specs.Steps.{some, suc-pred}
-use Rattle.store.specs.Shape.{sizes}
-use Rattle.rules.specs.Request.{applied}
-use Rattle.rules.specs.Cell.{reader, writes}
-use denote.Ref.{now}
-use borrow.Author.Tests.{eq-eqb, ne-eqb, le-leb, lt-leb}
-use native.Mathlib.Omega.{arith}
-use native.Mathlib.Numerals.{add-one}
-use Prim.Native.Nat.{suc, _-_}
+-- `dequeue::scan_on` meets its contract.
 use mathlib.Core.Path.{refl}
+use native.Mathlib.Omega.{arith}
 use borrow.Author.Needs.{needs}
+use borrow.Author.Tests.{eq-eqb, ne-eqb}
+use denote.Ref.{now}
+use Rattle.rules.specs.Cell.{reader, writes}
+use Rattle.rules.specs.Consumer.{scan}
+use Rattle.rules.specs.Request.{applied}
+use Rattle.store.specs.Shape.{sizes}
+use Rattle.store.specs.Steps.{some, suc-pred}
+use Rattle.dequeue.specs.Front.{toCursor}
 use Rattle.dequeue.proofs.scan_on.Statement.{statement}
 use Rattle.dequeue.proofs.scan_on.Tie as tie
-use Rattle.dequeue.proofs.scan_on.Reads as reads
-use Rattle.dequeue.proofs.scan_on.Lts as lts
-use Rattle.dequeue.proofs.cross_from.Reads as cross-from-reads
-use Rattle.store.proofs.clear_consumer.Reads as clear-consumer-reads
-use Rattle.store.proofs.consumer.Reads as consumer-reads
-use Rattle.store.proofs.content.Reads as content-reads
-use Rattle.store.proofs.put_consumer.Reads as put-consumer-reads
-use Rattle.store.proofs.record_end.Reads as record-end-reads
 
--- src/lib.rt:146:9
 consumer-requires : tie.Need-consumer-requires
 consumer-requires c κs = search needs
 
--- src/lib.rt:148:9
 same-length : tie.Need-same-length
 same-length c = search needs
 
--- src/lib.rt:148:9
 returns : tie.Need-returns
 unfolding applied scan
 returns c = rw (c .before .consumer .ensures .is, c .if1 .taken) refl
 
--- src/lib.rt:150:9
 consumer-requires-2 : tie.Need-consumer-requires-2
 consumer-requires-2 c κs = search needs
 
--- src/lib.rt:151:37
 sub-record-end : tie.Need-sub-record-end
 sub-record-end c = search needs
 
--- src/lib.rt:151:20
 record-end-requires : tie.Need-record-end-requires
 record-end-requires c κs = search needs
 
--- src/lib.rt:152:24
 content-requires : tie.Need-content-requires
 content-requires c κs = search needs
 
--- src/lib.rt:153:13
 clear-consumer-requires : tie.Need-clear-consumer-requires
-clear-consumer-requires c κs = search needs
+clear-consumer-requires c κs = omega (arith, c .before .before .before .before .before .before .before .before .before .before .before .before .before)
 
--- src/lib.rt:154:13
 same-length-2 : tie.Need-same-length-2
 same-length-2 c = search needs
 
--- src/lib.rt:154:13
 returns-2 : tie.Need-returns-2
 unfolding applied scan writes
 returns-2 c =
-    rw (some (c .before .before .before .before .before .before .before .before .before .before .before .before .before .consumer .ensures .is) (c .before .before .before .before .before .before .before .before .before .before .before .before .if1 .left), c .before .before .before .before .before .before .before .before .before .before .consumer2 .ensures .is, c .before .before .before .before .before .before .before .before .record-end .ensures .0, ne-eqb _ _ (c .before .before .before .before .before .before .before .if2 .taken), c .before .before .before .before .before .content .ensures .is, eq-eqb _ _ (c .before .before .before .before .if3 .taken), c .before .before .clear-consumer .ensures) refl
+    let consumer = c .before .before .before .before .before .before .before .before .before .before .before .before .before .consumer in
+    let if1 = c .before .before .before .before .before .before .before .before .before .before .before .before .if1 in
+    let consumer2 = c .before .before .before .before .before .before .before .before .before .before .consumer2 in
+    let record-end = c .before .before .before .before .before .before .before .before .record-end in
+    let if2 = c .before .before .before .before .before .before .before .if2 in
+    let content = c .before .before .before .before .before .content in
+    let if3 = c .before .before .before .before .if3 in
+    let clear-consumer = c .before .before .clear-consumer in
+    rw (some (consumer .ensures .is) (if1 .left), consumer2 .ensures .is, record-end .ensures .0, ne-eqb _ _ (if2 .taken), content .ensures .is, eq-eqb _ _ (if3 .taken), clear-consumer .ensures) refl
 
--- src/lib.rt:156:9
 put-consumer-requires : tie.Need-put-consumer-requires
-put-consumer-requires c κs = search needs
+put-consumer-requires c κs = omega (arith, c .before .before .before .before .before .before .before .before .before .before .before .before .before)
 
--- src/lib.rt:157:9
 same-length-3 : tie.Need-same-length-3
 same-length-3 c = search needs
 
--- src/lib.rt:157:9
 returns-3 : tie.Need-returns-3
 unfolding applied scan writes
 returns-3 c =
-    rw (some (c .before .before .before .before .before .before .before .before .before .before .before .before .before .consumer .ensures .is) (c .before .before .before .before .before .before .before .before .before .before .before .before .if1 .left), c .before .before .before .before .before .before .before .before .before .before .consumer2 .ensures .is, c .before .before .before .before .before .before .before .before .record-end .ensures .0, ne-eqb _ _ (c .before .before .before .before .before .before .before .if2 .taken), c .before .before .before .before .before .content .ensures .is, ne-eqb _ _ (c .before .before .before .before .if3 .left), c .before .before .put-consumer .ensures) refl
+    let consumer = c .before .before .before .before .before .before .before .before .before .before .before .before .before .consumer in
+    let if1 = c .before .before .before .before .before .before .before .before .before .before .before .before .if1 in
+    let consumer2 = c .before .before .before .before .before .before .before .before .before .before .consumer2 in
+    let record-end = c .before .before .before .before .before .before .before .before .record-end in
+    let if2 = c .before .before .before .before .before .before .before .if2 in
+    let content = c .before .before .before .before .before .content in
+    let if3 = c .before .before .before .before .if3 in
+    let put-consumer = c .before .before .put-consumer in
+    rw (some (consumer .ensures .is) (if1 .left), consumer2 .ensures .is, record-end .ensures .0, ne-eqb _ _ (if2 .taken), content .ensures .is, ne-eqb _ _ (if3 .left), put-consumer .ensures) refl
 
--- src/lib.rt:159:8
 content-requires-2 : tie.Need-content-requires-2
 content-requires-2 c κs = search needs
 
--- src/lib.rt:160:9
 clear-consumer-requires-2 : tie.Need-clear-consumer-requires-2
-clear-consumer-requires-2 c κs = search needs
+clear-consumer-requires-2 c κs = omega (arith, c .before .before .before .before .before .before .before .before .before .before .before .before .before)
 
--- src/lib.rt:161:9
 same-length-4 : tie.Need-same-length-4
 same-length-4 c = search needs
 
--- src/lib.rt:161:9
 returns-4 : tie.Need-returns-4
 unfolding applied scan writes
 returns-4 c =
-    rw (some (c .before .before .before .before .before .before .before .before .before .before .before .before .before .consumer .ensures .is) (c .before .before .before .before .before .before .before .before .before .before .before .before .if1 .left), c .before .before .before .before .before .before .before .before .before .before .consumer2 .ensures .is, c .before .before .before .before .before .before .before .before .record-end .ensures .0, eq-eqb _ _ (c .before .before .before .before .before .before .before .if2 .left), c .before .before .before .before .before .content2 .ensures .is, suc-pred (c .before .before .before .before .before .before .before .before .before .before .before .before .if1 .left), eq-eqb _ _ (c .before .before .before .before .if4 .taken), c .before .before .clear-consumer2 .ensures) refl
+    let consumer = c .before .before .before .before .before .before .before .before .before .before .before .before .before .consumer in
+    let if1 = c .before .before .before .before .before .before .before .before .before .before .before .before .if1 in
+    let consumer2 = c .before .before .before .before .before .before .before .before .before .before .consumer2 in
+    let record-end = c .before .before .before .before .before .before .before .before .record-end in
+    let if2 = c .before .before .before .before .before .before .before .if2 in
+    let content2 = c .before .before .before .before .before .content2 in
+    let if4 = c .before .before .before .before .if4 in
+    let clear-consumer2 = c .before .before .clear-consumer2 in
+    rw (some (consumer .ensures .is) (if1 .left), consumer2 .ensures .is, record-end .ensures .0, eq-eqb _ _ (if2 .left), content2 .ensures .is, suc-pred (if1 .left), eq-eqb _ _ (if4 .taken), clear-consumer2 .ensures) refl
 
--- src/lib.rt:163:30
 sub-cross-from : tie.Need-sub-cross-from
 sub-cross-from c = search needs
 
--- src/lib.rt:163:9
 cross-from-requires : tie.Need-cross-from-requires
 cross-from-requires c κs = search needs
 
--- src/lib.rt:165:9
 same-length-5 : tie.Need-same-length-5
 same-length-5 c = search needs
 
--- src/lib.rt:165:9
 returns-5 : tie.Need-returns-5
 unfolding applied scan
 returns-5 c =
-    let a = c .before .before .before .before .before .before .before .before .before .before .before .before .before .before .before .before .args in
+    let args = c .before .before .before .before .before .before .before .before .before .before .before .before .before .before .before .before .args in
+    let consumer = c .before .before .before .before .before .before .before .before .before .before .before .before .before .consumer in
+    let if1 = c .before .before .before .before .before .before .before .before .before .before .before .before .if1 in
+    let consumer2 = c .before .before .before .before .before .before .before .before .before .before .consumer2 in
+    let record-end = c .before .before .before .before .before .before .before .before .record-end in
+    let if2 = c .before .before .before .before .before .before .before .if2 in
+    let content2 = c .before .before .before .before .before .content2 in
+    let if4 = c .before .before .before .before .if4 in
+    let cross-from = c .before .before .cross-from in
+    let a = args in
     let f = toCursor (sizes (a .z)) (reader (sizes (a .z)) (now (a .s))) in
-    rw (some (c .before .before .before .before .before .before .before .before .before .before .before .before .before .consumer .ensures .is) (c .before .before .before .before .before .before .before .before .before .before .before .before .if1 .left), c .before .before .before .before .before .before .before .before .before .before .consumer2 .ensures .is, c .before .before .before .before .before .before .before .before .record-end .ensures .0, eq-eqb _ _ (c .before .before .before .before .before .before .before .if2 .left), c .before .before .before .before .before .content2 .ensures .is, suc-pred (c .before .before .before .before .before .before .before .before .before .before .before .before .if1 .left), ne-eqb _ _ (c .before .before .before .before .if4 .left), c .before .before .cross-from .ensures .refused (c .if5 .taken) f) refl
+    rw (some (consumer .ensures .is) (if1 .left), consumer2 .ensures .is, record-end .ensures .0, eq-eqb _ _ (if2 .left), content2 .ensures .is, suc-pred (if1 .left), ne-eqb _ _ (if4 .left), cross-from .ensures .refused (c .if5 .taken) f) refl
 
--- src/lib.rt:167:5
 put-consumer-requires-2 : tie.Need-put-consumer-requires-2
-put-consumer-requires-2 c κs = search needs
+put-consumer-requires-2 c κs = omega (arith, c .before .before .before .before .before .before .before .before .before .before .before .before .before .before .before .before .before)
 
--- src/lib.rt:168:5
 put-consumer-requires-3 : tie.Need-put-consumer-requires-3
-put-consumer-requires-3 c κs = search needs
+put-consumer-requires-3 c κs = omega (arith, c .before .before .before .before .before .before .before .before .before .before .before .before .before .before .before .before .before .before .before .before .before)
 
--- src/lib.rt:142:1
 same-length-6 : tie.Need-same-length-6
 same-length-6 c = search needs
 
--- src/lib.rt:142:1
 returns-6 : tie.Need-returns-6
 unfolding applied scan writes
 returns-6 c =
-    let a = c .before .before .before .before .before .before .before .before .before .before .before .before .before .before .before .before .before .before .before .before .before .before .before .before .args in
+    let args = c .before .before .before .before .before .before .before .before .before .before .before .before .before .before .before .before .before .before .before .before .before .before .before .before .args in
+    let consumer = c .before .before .before .before .before .before .before .before .before .before .before .before .before .before .before .before .before .before .before .before .before .consumer in
+    let if1 = c .before .before .before .before .before .before .before .before .before .before .before .before .before .before .before .before .before .before .before .before .if1 in
+    let consumer2 = c .before .before .before .before .before .before .before .before .before .before .before .before .before .before .before .before .before .before .consumer2 in
+    let record-end = c .before .before .before .before .before .before .before .before .before .before .before .before .before .before .before .before .record-end in
+    let if2 = c .before .before .before .before .before .before .before .before .before .before .before .before .before .before .before .if2 in
+    let content2 = c .before .before .before .before .before .before .before .before .before .before .before .before .before .content2 in
+    let if4 = c .before .before .before .before .before .before .before .before .before .before .before .before .if4 in
+    let cross-from = c .before .before .before .before .before .before .before .before .before .before .cross-from in
+    let if5 = c .before .before .before .before .before .before .before .before .if5 in
+    let put-consumer2 = c .before .before .before .before .before .before .put-consumer2 in
+    let put-consumer3 = c .before .before .put-consumer3 in
+    let a = args in
     let f = toCursor (sizes (a .z)) (reader (sizes (a .z)) (now (a .s))) in
-    rw (some (c .before .before .before .before .before .before .before .before .before .before .before .before .before .before .before .before .before .before .before .before .before .consumer .ensures .is) (c .before .before .before .before .before .before .before .before .before .before .before .before .before .before .before .before .before .before .before .before .if1 .left), c .before .before .before .before .before .before .before .before .before .before .before .before .before .before .before .before .before .before .consumer2 .ensures .is, c .before .before .before .before .before .before .before .before .before .before .before .before .before .before .before .before .record-end .ensures .0, eq-eqb _ _ (c .before .before .before .before .before .before .before .before .before .before .before .before .before .before .before .if2 .left), c .before .before .before .before .before .before .before .before .before .before .before .before .before .content2 .ensures .is, suc-pred (c .before .before .before .before .before .before .before .before .before .before .before .before .before .before .before .before .before .before .before .before .if1 .left), ne-eqb _ _ (c .before .before .before .before .before .before .before .before .before .before .before .before .if4 .left), c .before .before .before .before .before .before .before .before .before .before .cross-from .ensures .to (c .before .before .before .before .before .before .before .before .if5 .left) f, suc-pred (c .before .before .before .before .before .before .before .before .if5 .left), c .before .before .put-consumer3 .ensures, c .before .before .before .before .before .before .put-consumer2 .ensures) refl
+    rw (some (consumer .ensures .is) (if1 .left), consumer2 .ensures .is, record-end .ensures .0, eq-eqb _ _ (if2 .left), content2 .ensures .is, suc-pred (if1 .left), ne-eqb _ _ (if4 .left), cross-from .ensures .to (if5 .left) f, suc-pred (if5 .left), put-consumer3 .ensures, put-consumer2 .ensures) refl
 
 pub scan-on-spec : {M : Type 1} → statement M
 scan-on-spec =

@@ -1,91 +1,94 @@
-use Rattle.rules.specs.Request.{applied, startingEnqueue}
-use Rattle.rules.specs.Cell.{writes}
-use borrow.Author.Tests.{lt-ltb, le-ltb, eq-eqb, ne-eqb}
-use native.Mathlib.Numerals.{add-one}
+-- `engine::begin_enqueue` meets its contract.
 use mathlib.Core.Path.{refl}
+use native.Mathlib.Numerals.{add-one}
 use borrow.Author.Needs.{needs}
+use borrow.Author.Tests.{lt-ltb, le-ltb, eq-eqb, ne-eqb}
+use Rattle.rules.specs.Cell.{writes}
+use Rattle.rules.specs.Request.{applied, startingEnqueue}
 use Rattle.engine.proofs.begin_enqueue.Statement.{statement}
 use Rattle.engine.proofs.begin_enqueue.Tie as tie
-use Rattle.engine.proofs.begin_enqueue.Reads as reads
-use Rattle.engine.proofs.begin_enqueue.Lts as lts
-use Rattle.store.proofs.content.Reads as content-reads
-use Rattle.store.proofs.producer.Reads as producer-reads
-use Rattle.store.proofs.put_content.Reads as put-content-reads
-use Rattle.store.proofs.put_producer.Reads as put-producer-reads
 
--- src/lib.rt:98:9
 returns : tie.Need-returns
 unfolding startingEnqueue applied
 returns c = rw (eq-eqb (c .before .before .args .t) 0 (c .if1 .taken)) refl
 
--- src/lib.rt:101:9
 returns-2 : tie.Need-returns-2
 unfolding startingEnqueue applied
-returns-2 c = rw (ne-eqb (c .before .before .before .before .args .t) 0 (c .before .before .if1 .left), lt-ltb (c .before .before .before .before .args .z .producers) (c .before .before .before .before .args .t) (c .if2 .taken)) refl
+returns-2 c =
+    let args = c .before .before .before .before .args in
+    let if1 = c .before .before .if1 in
+    rw (ne-eqb (args .t) 0 (if1 .left), lt-ltb (args .z .producers) (args .t) (c .if2 .taken)) refl
 
--- src/lib.rt:103:8
 producer-requires : tie.Need-producer-requires
 producer-requires c κs = search needs
 
--- src/lib.rt:104:9
 same-length : tie.Need-same-length
 same-length c = search needs
 
--- src/lib.rt:104:9
 returns-3 : tie.Need-returns-3
 unfolding startingEnqueue applied
-returns-3 c = rw (le-ltb (c .before .before .before .before .before .before .before .args .z .producers) (c .before .before .before .before .before .before .before .args .t) (c .before .before .before .if2 .left), ne-eqb (c .before .before .before .before .before .before .before .args .t) 0 (c .before .before .before .before .before .if1 .left), c .before .producer .ensures .is, ne-eqb _ _ (c .if3 .taken)) refl
+returns-3 c =
+    let args = c .before .before .before .before .before .before .before .args in
+    let if1 = c .before .before .before .before .before .if1 in
+    let if2 = c .before .before .before .if2 in
+    rw (le-ltb (args .z .producers) (args .t) (if2 .left), ne-eqb (args .t) 0 (if1 .left), c .before .producer .ensures .is, ne-eqb _ _ (c .if3 .taken)) refl
 
--- src/lib.rt:106:9
 content-requires : tie.Need-content-requires
 content-requires c κs = search needs
 
--- src/lib.rt:108:9
 same-length-2 : tie.Need-same-length-2
 same-length-2 c = search needs
 
--- src/lib.rt:108:9
 returns-4 : tie.Need-returns-4
 unfolding startingEnqueue applied
-returns-4 c = rw (le-ltb (c .before .before .before .before .before .before .before .before .before .before .before .args .z .producers) (c .before .before .before .before .before .before .before .before .before .before .before .args .t) (c .before .before .before .before .before .before .before .if2 .left), ne-eqb (c .before .before .before .before .before .before .before .before .before .before .before .args .t) 0 (c .before .before .before .before .before .before .before .before .before .if1 .left), c .before .before .before .before .before .producer .ensures .is, c .before .before .before .before .if3 .left, c .before .before .content .ensures .is, eq-eqb _ _ (c .if4 .taken)) refl
+returns-4 c =
+    let args = c .before .before .before .before .before .before .before .before .before .before .before .args in
+    let if1 = c .before .before .before .before .before .before .before .before .before .if1 in
+    let if2 = c .before .before .before .before .before .before .before .if2 in
+    let producer = c .before .before .before .before .before .producer in
+    let if3 = c .before .before .before .before .if3 in
+    let content = c .before .before .content in
+    rw (le-ltb (args .z .producers) (args .t) (if2 .left), ne-eqb (args .t) 0 (if1 .left), producer .ensures .is, if3 .left, content .ensures .is, eq-eqb _ _ (c .if4 .taken)) refl
 
--- src/lib.rt:110:27
 add-put-content : tie.Need-add-put-content
 add-put-content c = search needs
 
--- src/lib.rt:110:5
 put-content-requires : tie.Need-put-content-requires
 put-content-requires c κs = search needs
 
--- src/lib.rt:111:5
 put-producer-requires : tie.Need-put-producer-requires
 put-producer-requires c κs = search needs
 
--- src/lib.rt:112:30
 add-put-producer : tie.Need-add-put-producer
 add-put-producer c = search needs
 
--- src/lib.rt:112:5
 put-producer-requires-2 : tie.Need-put-producer-requires-2
 put-producer-requires-2 c κs = search needs
 
--- src/lib.rt:113:5
 put-producer-requires-3 : tie.Need-put-producer-requires-3
 put-producer-requires-3 c κs = search needs
 
--- src/lib.rt:114:20
 add-t7 : tie.Need-add-t7
 add-t7 c = search needs
 
--- src/lib.rt:93:1
 same-length-3 : tie.Need-same-length-3
 same-length-3 c = search needs
 
--- src/lib.rt:93:1
 returns-5 : tie.Need-returns-5
 unfolding startingEnqueue applied writes
 returns-5 c =
-    rw (le-ltb (c .before .before .before .before .before .before .before .before .before .before .before .before .before .before .before .before .before .before .before .before .before .before .before .before .before .before .before .args .z .producers) (c .before .before .before .before .before .before .before .before .before .before .before .before .before .before .before .before .before .before .before .before .before .before .before .before .before .before .before .args .t) (c .before .before .before .before .before .before .before .before .before .before .before .before .before .before .before .before .before .before .before .before .before .before .before .if2 .left), ne-eqb (c .before .before .before .before .before .before .before .before .before .before .before .before .before .before .before .before .before .before .before .before .before .before .before .before .before .before .before .args .t) 0 (c .before .before .before .before .before .before .before .before .before .before .before .before .before .before .before .before .before .before .before .before .before .before .before .before .before .if1 .left), c .before .before .before .before .before .before .before .before .before .before .before .before .before .before .before .before .before .before .before .before .before .producer .ensures .is, c .before .before .before .before .before .before .before .before .before .before .before .before .before .before .before .before .before .before .before .before .if3 .left, c .before .before .before .before .before .before .before .before .before .before .before .before .before .before .before .before .before .before .content .ensures .is, ne-eqb _ _ (c .before .before .before .before .before .before .before .before .before .before .before .before .before .before .before .before .if4 .left), c .before .before .put-producer3 .ensures, c .before .before .before .before .before .before .put-producer2 .ensures, c .before .before .before .before .before .before .before .before .before .before .put-producer .ensures, c .before .before .before .before .before .before .before .before .before .before .before .before .before .before .put-content .ensures, add-one (c .before .before .before .before .before .before .before .before .before .before .before .before .before .before .before .before .before .before .content .result)) refl
+    let args = c .before .before .before .before .before .before .before .before .before .before .before .before .before .before .before .before .before .before .before .before .before .before .before .before .before .before .before .args in
+    let if1 = c .before .before .before .before .before .before .before .before .before .before .before .before .before .before .before .before .before .before .before .before .before .before .before .before .before .if1 in
+    let if2 = c .before .before .before .before .before .before .before .before .before .before .before .before .before .before .before .before .before .before .before .before .before .before .before .if2 in
+    let producer = c .before .before .before .before .before .before .before .before .before .before .before .before .before .before .before .before .before .before .before .before .before .producer in
+    let if3 = c .before .before .before .before .before .before .before .before .before .before .before .before .before .before .before .before .before .before .before .before .if3 in
+    let content = c .before .before .before .before .before .before .before .before .before .before .before .before .before .before .before .before .before .before .content in
+    let if4 = c .before .before .before .before .before .before .before .before .before .before .before .before .before .before .before .before .if4 in
+    let put-content = c .before .before .before .before .before .before .before .before .before .before .before .before .before .before .put-content in
+    let put-producer = c .before .before .before .before .before .before .before .before .before .before .put-producer in
+    let put-producer2 = c .before .before .before .before .before .before .put-producer2 in
+    let put-producer3 = c .before .before .put-producer3 in
+    rw (le-ltb (args .z .producers) (args .t) (if2 .left), ne-eqb (args .t) 0 (if1 .left), producer .ensures .is, if3 .left, content .ensures .is, ne-eqb _ _ (if4 .left), put-producer3 .ensures, put-producer2 .ensures, put-producer .ensures, put-content .ensures, add-one (content .result)) refl
 
 pub begin-enqueue-spec : {M : Type 1} → statement M
 begin-enqueue-spec =

@@ -1,52 +1,46 @@
-use Rattle.engine.specs.Calls.{call-refused, call-answered}
-use Rattle.admission.specs.Admit.{admitted-by}
-use Rattle.store.specs.Store.{Admitted}
-use Rattle.rules.specs.Request.{step, answer}
-use Rattle.rules.specs.Free.{lowestFree}
-use Rattle.rules.specs.Sizes.{Sizes}
-use denote.Ref.{now}
-use native.Mathlib.Omega.{arith}
+-- `engine::step` meets its contract.
 use mathlib.Core.Path.{sym, subst, _∙_}
+use native.Mathlib.Omega.{arith}
 use borrow.Author.Needs.{needs}
+use denote.Ref.{now}
+use Rattle.rules.specs.Free.{lowestFree}
+use Rattle.rules.specs.Request.{step, answer}
+use Rattle.rules.specs.Sizes.{Sizes}
+use Rattle.store.specs.Store.{Admitted}
+use Rattle.admission.specs.Admit.{admitted-by}
+use Rattle.engine.specs.Calls.{call-refused, call-answered}
 use Rattle.engine.proofs.step.Statement.{statement}
 use Rattle.engine.proofs.step.Tie as tie
-use Rattle.engine.proofs.step.Reads as reads
-use Rattle.engine.proofs.step.Lts as lts
-use Rattle.admission.proofs.admit.Reads as admit-reads
-use Rattle.admission.proofs.shape_of.Reads as shape-of-reads
-use Rattle.engine.proofs.step_thread.Reads as step-thread-reads
 
--- src/lib.rt:210:9
 admit-requires : tie.Need-admit-requires
 admit-requires c κs = search needs
 
--- src/lib.rt:212:9
 same-length : tie.Need-same-length
 same-length c = search needs
 
--- src/lib.rt:212:9
 returns : tie.Need-returns
 returns c = call-refused lowestFree (step (c .before .before .before .before .args .t)) (now (c .before .before .before .before .args .s)) (c .before .admit .result) (c .before .admit .ensures) (c .if1 .taken)
 
--- src/lib.rt:214:20
 shape-of-requires : tie.Need-shape-of-requires
 shape-of-requires c κs = omega (arith, admitted-by (now (c .before .before .before .before .before .before .args .s)) (c .before .before .before .admit .ensures ∙ c .before .before .if1 .left))
 
--- src/lib.rt:214:5
 step-thread-requires : tie.Need-step-thread-requires
 step-thread-requires c κs =
     let m = now (c .before .before .before .before .before .before .before .args .s) in
     subst (λ (y : Sizes). Admitted y m) (sym (c .shape-of .ensures)) (admitted-by m (c .before .before .before .before .admit .ensures ∙ c .before .before .before .if1 .left))
 
--- src/lib.rt:207:1
 same-length-2 : tie.Need-same-length-2
 same-length-2 c = search needs
 
--- src/lib.rt:207:1
 returns-2 : tie.Need-returns-2
 unfolding answer
 returns-2 c =
-    call-answered lowestFree (step (c .before .before .before .before .before .before .before .before .before .before .args .t)) (now (c .before .before .before .before .before .before .before .before .before .before .args .s)) _ (c .before .before .before .shape-of .result) (c .before .before .before .shape-of .ensures) (c .before .before .before .before .before .before .before .admit .ensures ∙ c .before .before .before .before .before .before .if1 .left) (c .before .before .step-thread .ensures)
+    let args = c .before .before .before .before .before .before .before .before .before .before .args in
+    let admit = c .before .before .before .before .before .before .before .admit in
+    let if1 = c .before .before .before .before .before .before .if1 in
+    let shape-of = c .before .before .before .shape-of in
+    let step-thread = c .before .before .step-thread in
+    call-answered lowestFree (step (args .t)) (now (args .s)) _ (shape-of .result) (shape-of .ensures) (admit .ensures ∙ if1 .left) (step-thread .ensures)
 
 pub step-spec : {M : Type 1} → statement M
 step-spec =

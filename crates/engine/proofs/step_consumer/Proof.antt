@@ -1,131 +1,124 @@
-use Rattle.engine.specs.Calls.{past}
-use Rattle.rules.specs.Request.{applied}
-use Rattle.rules.specs.Consumer.{consumerStep}
-use native.Mathlib.Omega.{arith}
+-- `engine::step_consumer` meets its contract.
 use mathlib.Core.Path.{refl}
+use native.Mathlib.Omega.{arith}
 use borrow.Author.Needs.{needs}
+use Rattle.rules.specs.Consumer.{consumerStep}
+use Rattle.rules.specs.Request.{applied}
+use Rattle.engine.specs.Calls.{past}
 use Rattle.engine.proofs.step_consumer.Statement.{statement}
 use Rattle.engine.proofs.step_consumer.Tie as tie
-use Rattle.engine.proofs.step_consumer.Reads as reads
-use Rattle.engine.proofs.step_consumer.Lts as lts
-use Rattle.dequeue.proofs.mark_handled.Reads as mark-handled-reads
-use Rattle.dequeue.proofs.read_entry.Reads as read-entry-reads
-use Rattle.dequeue.proofs.read_front.Reads as read-front-reads
-use Rattle.dequeue.proofs.read_item.Reads as read-item-reads
-use Rattle.dequeue.proofs.read_tail.Reads as read-tail-reads
-use Rattle.dequeue.proofs.rescan_on.Reads as rescan-on-reads
-use Rattle.dequeue.proofs.scan_on.Reads as scan-on-reads
-use Rattle.store.proofs.consumer.Reads as consumer-reads
 
--- src/lib.rt:157:9
 consumer-requires : tie.Need-consumer-requires
 consumer-requires c κs = search needs
 
--- src/lib.rt:159:14
 read-front-requires : tie.Need-read-front-requires
 read-front-requires c κs = search needs
 
--- src/lib.rt:160:14
 read-tail-requires : tie.Need-read-tail-requires
 read-tail-requires c κs = search needs
 
--- src/lib.rt:161:14
 scan-on-requires : tie.Need-scan-on-requires
 scan-on-requires c κs = search needs
 
--- src/lib.rt:162:14
 read-entry-requires : tie.Need-read-entry-requires
 read-entry-requires c κs = search needs
 
--- src/lib.rt:163:14
 rescan-on-requires : tie.Need-rescan-on-requires
 rescan-on-requires c κs = search needs
 
--- src/lib.rt:164:14
 read-item-requires : tie.Need-read-item-requires
 read-item-requires c κs = search needs
 
--- src/lib.rt:165:14
 mark-handled-requires : tie.Need-mark-handled-requires
 mark-handled-requires c κs = search needs
 
--- src/lib.rt:153:1
 same-length : tie.Need-same-length
 same-length c = search needs
 
--- src/lib.rt:153:1
 returns : tie.Need-returns
 unfolding consumerStep
-returns c = rw (c .before .before .before .before .before .consumer .ensures .is, c .before .before .before .before .match .keys1) (c .before .before .read-front .ensures)
+returns c =
+    let consumer = c .before .before .before .before .before .consumer in
+    let match = c .before .before .before .before .match in
+    let read-front = c .before .before .read-front in
+    rw (consumer .ensures .is, match .keys1) (read-front .ensures)
 
--- src/lib.rt:153:1
 same-length-2 : tie.Need-same-length-2
 same-length-2 c = search needs
 
--- src/lib.rt:153:1
 returns-2 : tie.Need-returns-2
 unfolding consumerStep
-returns-2 c = rw (c .before .before .before .before .before .consumer .ensures .is, c .before .before .before .before .match .keys2) (c .before .before .read-tail .ensures)
+returns-2 c =
+    let consumer = c .before .before .before .before .before .consumer in
+    let match = c .before .before .before .before .match in
+    let read-tail = c .before .before .read-tail in
+    rw (consumer .ensures .is, match .keys2) (read-tail .ensures)
 
--- src/lib.rt:153:1
 same-length-3 : tie.Need-same-length-3
 same-length-3 c = search needs
 
--- src/lib.rt:153:1
 returns-3 : tie.Need-returns-3
 unfolding consumerStep
-returns-3 c = rw (c .before .before .before .before .before .consumer .ensures .is, c .before .before .before .before .match .keys3) (c .before .before .scan-on .ensures)
+returns-3 c =
+    let consumer = c .before .before .before .before .before .consumer in
+    let match = c .before .before .before .before .match in
+    let scan-on = c .before .before .scan-on in
+    rw (consumer .ensures .is, match .keys3) (scan-on .ensures)
 
--- src/lib.rt:153:1
 same-length-4 : tie.Need-same-length-4
 same-length-4 c = search needs
 
--- src/lib.rt:153:1
 returns-4 : tie.Need-returns-4
 unfolding consumerStep
-returns-4 c = rw (c .before .before .before .before .before .consumer .ensures .is, c .before .before .before .before .match .keys4) (c .before .before .read-entry .ensures)
+returns-4 c =
+    let consumer = c .before .before .before .before .before .consumer in
+    let match = c .before .before .before .before .match in
+    let read-entry = c .before .before .read-entry in
+    rw (consumer .ensures .is, match .keys4) (read-entry .ensures)
 
--- src/lib.rt:153:1
 same-length-5 : tie.Need-same-length-5
 same-length-5 c = search needs
 
--- src/lib.rt:153:1
 returns-5 : tie.Need-returns-5
 unfolding consumerStep
-returns-5 c = rw (c .before .before .before .before .before .consumer .ensures .is, c .before .before .before .before .match .keys5) (c .before .before .rescan-on .ensures)
+returns-5 c =
+    let consumer = c .before .before .before .before .before .consumer in
+    let match = c .before .before .before .before .match in
+    let rescan-on = c .before .before .rescan-on in
+    rw (consumer .ensures .is, match .keys5) (rescan-on .ensures)
 
--- src/lib.rt:153:1
 same-length-6 : tie.Need-same-length-6
 same-length-6 c = search needs
 
--- src/lib.rt:153:1
 returns-6 : tie.Need-returns-6
 unfolding consumerStep
-returns-6 c = rw (c .before .before .before .before .before .consumer .ensures .is, c .before .before .before .before .match .keys6) (c .before .before .read-item .ensures)
+returns-6 c =
+    let consumer = c .before .before .before .before .before .consumer in
+    let match = c .before .before .before .before .match in
+    let read-item = c .before .before .read-item in
+    rw (consumer .ensures .is, match .keys6) (read-item .ensures)
 
--- src/lib.rt:153:1
 same-length-7 : tie.Need-same-length-7
 same-length-7 c = search needs
 
--- src/lib.rt:153:1
 returns-7 : tie.Need-returns-7
 unfolding consumerStep
-returns-7 c = rw (c .before .before .before .before .before .consumer .ensures .is, c .before .before .before .before .match .keys7) (c .before .before .mark-handled .ensures)
+returns-7 c =
+    let consumer = c .before .before .before .before .before .consumer in
+    let match = c .before .before .before .before .match in
+    let mark-handled = c .before .before .mark-handled in
+    rw (consumer .ensures .is, match .keys7) (mark-handled .ensures)
 
--- src/lib.rt:153:1
 same-length-8 : tie.Need-same-length-8
 same-length-8 c = search needs
 
--- src/lib.rt:153:1
 returns-8 : tie.Need-returns-8
 unfolding applied
 returns-8 c = rw (c .before .consumer .ensures .is, c .match .keys8) refl
 
--- src/lib.rt:153:1
 same-length-9 : tie.Need-same-length-9
 same-length-9 c = search needs
 
--- src/lib.rt:153:1
 returns-9 : tie.Need-returns-9
 returns-9 c = absurd (omega (arith, past 7 (c .before .consumer .result) (c .match .rest .0) (c .match .rest .1)))
 

@@ -1,187 +1,180 @@
-use Rattle.engine.specs.Calls.{past}
-use Rattle.rules.specs.Request.{applied}
-use Rattle.rules.specs.Producer.{producerStep}
-use native.Mathlib.Omega.{arith}
+-- `engine::step_producer` meets its contract.
 use mathlib.Core.Path.{refl}
+use native.Mathlib.Omega.{arith}
 use borrow.Author.Needs.{needs}
+use Rattle.rules.specs.Producer.{producerStep}
+use Rattle.rules.specs.Request.{applied}
+use Rattle.engine.specs.Calls.{past}
 use Rattle.engine.proofs.step_producer.Statement.{statement}
 use Rattle.engine.proofs.step_producer.Tie as tie
-use Rattle.engine.proofs.step_producer.Reads as reads
-use Rattle.engine.proofs.step_producer.Lts as lts
-use Rattle.claim.proofs.claim_ahead.Reads as claim-ahead-reads
-use Rattle.claim.proofs.claim_record.Reads as claim-record-reads
-use Rattle.enqueue.proofs.go_back.Reads as go-back-reads
-use Rattle.enqueue.proofs.link_ahead.Reads as link-ahead-reads
-use Rattle.enqueue.proofs.link_claimed.Reads as link-claimed-reads
-use Rattle.enqueue.proofs.load_tail.Reads as load-tail-reads
-use Rattle.enqueue.proofs.look_next.Reads as look-next-reads
-use Rattle.enqueue.proofs.set_entry.Reads as set-entry-reads
-use Rattle.enqueue.proofs.shift_tail.Reads as shift-tail-reads
-use Rattle.enqueue.proofs.take_position.Reads as take-position-reads
-use Rattle.enqueue.proofs.write_entry.Reads as write-entry-reads
-use Rattle.store.proofs.producer.Reads as producer-reads
 
--- src/lib.rt:135:9
 producer-requires : tie.Need-producer-requires
 producer-requires c κs = search needs
 
--- src/lib.rt:137:14
 take-position-requires : tie.Need-take-position-requires
 take-position-requires c κs = search needs
 
--- src/lib.rt:138:14
 load-tail-requires : tie.Need-load-tail-requires
 load-tail-requires c κs = search needs
 
--- src/lib.rt:139:14
 look-next-requires : tie.Need-look-next-requires
 look-next-requires c κs = search needs
 
--- src/lib.rt:140:14
 claim-record-requires : tie.Need-claim-record-requires
 claim-record-requires c κs = search needs
 
--- src/lib.rt:141:14
 link-claimed-requires : tie.Need-link-claimed-requires
 link-claimed-requires c κs = search needs
 
--- src/lib.rt:142:14
 shift-tail-requires : tie.Need-shift-tail-requires
 shift-tail-requires c κs = search needs
 
--- src/lib.rt:143:14
 go-back-requires : tie.Need-go-back-requires
 go-back-requires c κs = search needs
 
--- src/lib.rt:144:14
 write-entry-requires : tie.Need-write-entry-requires
 write-entry-requires c κs = search needs
 
--- src/lib.rt:145:14
 set-entry-requires : tie.Need-set-entry-requires
 set-entry-requires c κs = search needs
 
--- src/lib.rt:146:15
 claim-ahead-requires : tie.Need-claim-ahead-requires
 claim-ahead-requires c κs = search needs
 
--- src/lib.rt:147:15
 link-ahead-requires : tie.Need-link-ahead-requires
 link-ahead-requires c κs = search needs
 
--- src/lib.rt:130:1
 same-length : tie.Need-same-length
 same-length c = search needs
 
--- src/lib.rt:130:1
 returns : tie.Need-returns
 unfolding producerStep
-returns c = rw (c .before .before .before .before .before .producer .ensures .is, c .before .before .before .before .match .keys1) (c .before .before .take-position .ensures)
+returns c =
+    let producer = c .before .before .before .before .before .producer in
+    let match = c .before .before .before .before .match in
+    let take-position = c .before .before .take-position in
+    rw (producer .ensures .is, match .keys1) (take-position .ensures)
 
--- src/lib.rt:130:1
 same-length-2 : tie.Need-same-length-2
 same-length-2 c = search needs
 
--- src/lib.rt:130:1
 returns-2 : tie.Need-returns-2
 unfolding producerStep
-returns-2 c = rw (c .before .before .before .before .before .producer .ensures .is, c .before .before .before .before .match .keys2) (c .before .before .load-tail .ensures)
+returns-2 c =
+    let producer = c .before .before .before .before .before .producer in
+    let match = c .before .before .before .before .match in
+    let load-tail = c .before .before .load-tail in
+    rw (producer .ensures .is, match .keys2) (load-tail .ensures)
 
--- src/lib.rt:130:1
 same-length-3 : tie.Need-same-length-3
 same-length-3 c = search needs
 
--- src/lib.rt:130:1
 returns-3 : tie.Need-returns-3
 unfolding producerStep
-returns-3 c = rw (c .before .before .before .before .before .producer .ensures .is, c .before .before .before .before .match .keys3) (c .before .before .look-next .ensures)
+returns-3 c =
+    let producer = c .before .before .before .before .before .producer in
+    let match = c .before .before .before .before .match in
+    let look-next = c .before .before .look-next in
+    rw (producer .ensures .is, match .keys3) (look-next .ensures)
 
--- src/lib.rt:130:1
 same-length-4 : tie.Need-same-length-4
 same-length-4 c = search needs
 
--- src/lib.rt:130:1
 returns-4 : tie.Need-returns-4
 unfolding producerStep
-returns-4 c = rw (c .before .before .before .before .before .producer .ensures .is, c .before .before .before .before .match .keys4) (c .before .before .claim-record .ensures)
+returns-4 c =
+    let producer = c .before .before .before .before .before .producer in
+    let match = c .before .before .before .before .match in
+    let claim-record = c .before .before .claim-record in
+    rw (producer .ensures .is, match .keys4) (claim-record .ensures)
 
--- src/lib.rt:130:1
 same-length-5 : tie.Need-same-length-5
 same-length-5 c = search needs
 
--- src/lib.rt:130:1
 returns-5 : tie.Need-returns-5
 unfolding producerStep
-returns-5 c = rw (c .before .before .before .before .before .producer .ensures .is, c .before .before .before .before .match .keys5) (c .before .before .link-claimed .ensures)
+returns-5 c =
+    let producer = c .before .before .before .before .before .producer in
+    let match = c .before .before .before .before .match in
+    let link-claimed = c .before .before .link-claimed in
+    rw (producer .ensures .is, match .keys5) (link-claimed .ensures)
 
--- src/lib.rt:130:1
 same-length-6 : tie.Need-same-length-6
 same-length-6 c = search needs
 
--- src/lib.rt:130:1
 returns-6 : tie.Need-returns-6
 unfolding producerStep
-returns-6 c = rw (c .before .before .before .before .before .producer .ensures .is, c .before .before .before .before .match .keys6) (c .before .before .shift-tail .ensures)
+returns-6 c =
+    let producer = c .before .before .before .before .before .producer in
+    let match = c .before .before .before .before .match in
+    let shift-tail = c .before .before .shift-tail in
+    rw (producer .ensures .is, match .keys6) (shift-tail .ensures)
 
--- src/lib.rt:130:1
 same-length-7 : tie.Need-same-length-7
 same-length-7 c = search needs
 
--- src/lib.rt:130:1
 returns-7 : tie.Need-returns-7
 unfolding producerStep
-returns-7 c = rw (c .before .before .before .before .before .producer .ensures .is, c .before .before .before .before .match .keys7) (c .before .before .go-back .ensures)
+returns-7 c =
+    let producer = c .before .before .before .before .before .producer in
+    let match = c .before .before .before .before .match in
+    let go-back = c .before .before .go-back in
+    rw (producer .ensures .is, match .keys7) (go-back .ensures)
 
--- src/lib.rt:130:1
 same-length-8 : tie.Need-same-length-8
 same-length-8 c = search needs
 
--- src/lib.rt:130:1
 returns-8 : tie.Need-returns-8
 unfolding producerStep
-returns-8 c = rw (c .before .before .before .before .before .producer .ensures .is, c .before .before .before .before .match .keys8) (c .before .before .write-entry .ensures)
+returns-8 c =
+    let producer = c .before .before .before .before .before .producer in
+    let match = c .before .before .before .before .match in
+    let write-entry = c .before .before .write-entry in
+    rw (producer .ensures .is, match .keys8) (write-entry .ensures)
 
--- src/lib.rt:130:1
 same-length-9 : tie.Need-same-length-9
 same-length-9 c = search needs
 
--- src/lib.rt:130:1
 returns-9 : tie.Need-returns-9
 unfolding producerStep
-returns-9 c = rw (c .before .before .before .before .before .producer .ensures .is, c .before .before .before .before .match .keys9) (c .before .before .set-entry .ensures)
+returns-9 c =
+    let producer = c .before .before .before .before .before .producer in
+    let match = c .before .before .before .before .match in
+    let set-entry = c .before .before .set-entry in
+    rw (producer .ensures .is, match .keys9) (set-entry .ensures)
 
--- src/lib.rt:130:1
 same-length-10 : tie.Need-same-length-10
 same-length-10 c = search needs
 
--- src/lib.rt:130:1
 returns-10 : tie.Need-returns-10
 unfolding producerStep
-returns-10 c = rw (c .before .before .before .before .before .producer .ensures .is, c .before .before .before .before .match .keys10) (c .before .before .claim-ahead .ensures)
+returns-10 c =
+    let producer = c .before .before .before .before .before .producer in
+    let match = c .before .before .before .before .match in
+    let claim-ahead = c .before .before .claim-ahead in
+    rw (producer .ensures .is, match .keys10) (claim-ahead .ensures)
 
--- src/lib.rt:130:1
 same-length-11 : tie.Need-same-length-11
 same-length-11 c = search needs
 
--- src/lib.rt:130:1
 returns-11 : tie.Need-returns-11
 unfolding producerStep
-returns-11 c = rw (c .before .before .before .before .before .producer .ensures .is, c .before .before .before .before .match .keys11) (c .before .before .link-ahead .ensures)
+returns-11 c =
+    let producer = c .before .before .before .before .before .producer in
+    let match = c .before .before .before .before .match in
+    let link-ahead = c .before .before .link-ahead in
+    rw (producer .ensures .is, match .keys11) (link-ahead .ensures)
 
--- src/lib.rt:130:1
 same-length-12 : tie.Need-same-length-12
 same-length-12 c = search needs
 
--- src/lib.rt:130:1
 returns-12 : tie.Need-returns-12
 unfolding applied
 returns-12 c = rw (c .before .producer .ensures .is, c .match .keys12) refl
 
--- src/lib.rt:130:1
 same-length-13 : tie.Need-same-length-13
 same-length-13 c = search needs
 
--- src/lib.rt:130:1
 returns-13 : tie.Need-returns-13
 returns-13 c = absurd (omega (arith, past 11 (c .before .producer .result) (c .match .rest .0) (c .match .rest .1)))
 

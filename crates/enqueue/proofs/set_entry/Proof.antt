@@ -1,97 +1,93 @@
-use Rattle.rules.specs.Producer.{setEntry}
-use Rattle.store.specs.Steps.{some, suc-pred}
-use Rattle.rules.specs.Request.{applied}
-use Rattle.rules.specs.Cell.{writes}
-use borrow.Author.Tests.{eq-eqb, ne-eqb, le-leb, lt-leb, lt-ltb, le-ltb}
-use native.Mathlib.Omega.{arith}
-use native.Mathlib.Numerals.{add-one}
-use Prim.Native.Nat.{suc}
+-- `enqueue::set_entry` meets its contract.
 use mathlib.Core.Path.{refl}
+use native.Mathlib.Omega.{arith}
 use borrow.Author.Needs.{needs}
+use Rattle.rules.specs.Cell.{writes}
+use Rattle.rules.specs.Producer.{setEntry}
+use Rattle.rules.specs.Request.{applied}
+use Rattle.store.specs.Steps.{some}
 use Rattle.enqueue.proofs.set_entry.Statement.{statement}
 use Rattle.enqueue.proofs.set_entry.Tie as tie
-use Rattle.enqueue.proofs.set_entry.Reads as reads
-use Rattle.enqueue.proofs.set_entry.Lts as lts
-use Rattle.store.proofs.clear_producer.Reads as clear-producer-reads
-use Rattle.store.proofs.index_in.Reads as index-in-reads
-use Rattle.store.proofs.producer.Reads as producer-reads
-use Rattle.store.proofs.put_entry.Reads as put-entry-reads
-use Rattle.store.proofs.put_producer.Reads as put-producer-reads
 
--- src/lib.rt:206:9
 producer-requires : tie.Need-producer-requires
 producer-requires c κs = search needs
 
--- src/lib.rt:208:9
 same-length : tie.Need-same-length
 same-length c = search needs
 
--- src/lib.rt:208:9
 returns : tie.Need-returns
 unfolding setEntry applied
 returns c = rw (c .before .producer .ensures .is, c .if1 .taken) refl
 
--- src/lib.rt:210:28
 sub-index-in : tie.Need-sub-index-in
 sub-index-in c = search needs
 
--- src/lib.rt:210:38
 producer-requires-2 : tie.Need-producer-requires-2
 producer-requires-2 c κs = search needs
 
--- src/lib.rt:210:9
 index-in-requires : tie.Need-index-in-requires
 index-in-requires c κs = search needs
 
--- src/lib.rt:212:9
 same-length-2 : tie.Need-same-length-2
 same-length-2 c = search needs
 
--- src/lib.rt:212:9
 returns-2 : tie.Need-returns-2
 unfolding setEntry applied
 returns-2 c =
-    rw (some (c .before .before .before .before .before .before .producer .ensures .is) (c .before .before .before .before .before .if1 .left), c .before .before .before .producer2 .ensures .is, c .before .before .index-in .ensures .outside (c .if2 .taken)) refl
+    let producer = c .before .before .before .before .before .before .producer in
+    let if1 = c .before .before .before .before .before .if1 in
+    let producer2 = c .before .before .before .producer2 in
+    let index-in = c .before .before .index-in in
+    rw (some (producer .ensures .is) (if1 .left), producer2 .ensures .is, index-in .ensures .outside (c .if2 .taken)) refl
 
--- src/lib.rt:214:29
 producer-requires-3 : tie.Need-producer-requires-3
 producer-requires-3 c κs = search needs
 
--- src/lib.rt:215:21
 sub-put-entry : tie.Need-sub-put-entry
 sub-put-entry c = search needs
 
--- src/lib.rt:215:5
 put-entry-requires : tie.Need-put-entry-requires
-put-entry-requires c κs = search needs
+put-entry-requires c κs = omega (arith, c .before .before .before .before .before .before .before .before .before .before .before .before)
 
--- src/lib.rt:217:9
 put-producer-requires : tie.Need-put-producer-requires
-put-producer-requires c κs = search needs
+put-producer-requires c κs = omega (arith, c .before .before .before .before .before .before .before .before .before .before .before .before .before .before .before .before .before)
 
--- src/lib.rt:218:9
 same-length-3 : tie.Need-same-length-3
 same-length-3 c = search needs
 
--- src/lib.rt:218:9
 returns-3 : tie.Need-returns-3
 unfolding setEntry applied writes
 returns-3 c =
-    rw (some (c .before .before .before .before .before .before .before .before .before .before .before .before .before .before .before .before .before .producer .ensures .is) (c .before .before .before .before .before .before .before .before .before .before .before .before .before .before .before .before .if1 .left), c .before .before .before .before .before .before .before .before .before .before .before .before .before .before .producer2 .ensures .is, c .before .before .before .before .before .before .before .before .before .before .before .before .before .index-in .ensures .inside (c .before .before .before .before .before .before .before .before .before .before .before .if2 .left), c .before .before .before .before .before .before .before .before .before .before .before .before .before .index-in .ensures .is (c .before .before .before .before .before .before .before .before .before .before .before .if2 .left), c .before .before .before .before .before .before .before .before .before .producer3 .ensures .is, c .before .before .before .before .if3 .taken, c .before .before .put-producer .ensures, c .before .before .before .before .before .before .before .put-entry .ensures) refl
+    let producer = c .before .before .before .before .before .before .before .before .before .before .before .before .before .before .before .before .before .producer in
+    let if1 = c .before .before .before .before .before .before .before .before .before .before .before .before .before .before .before .before .if1 in
+    let producer2 = c .before .before .before .before .before .before .before .before .before .before .before .before .before .before .producer2 in
+    let index-in = c .before .before .before .before .before .before .before .before .before .before .before .before .before .index-in in
+    let if2 = c .before .before .before .before .before .before .before .before .before .before .before .if2 in
+    let producer3 = c .before .before .before .before .before .before .before .before .before .producer3 in
+    let put-entry = c .before .before .before .before .before .before .before .put-entry in
+    let if3 = c .before .before .before .before .if3 in
+    let put-producer = c .before .before .put-producer in
+    rw (some (producer .ensures .is) (if1 .left), producer2 .ensures .is, index-in .ensures .inside (if2 .left), index-in .ensures .is (if2 .left), producer3 .ensures .is, if3 .taken, put-producer .ensures, put-entry .ensures) refl
 
--- src/lib.rt:220:5
 clear-producer-requires : tie.Need-clear-producer-requires
-clear-producer-requires c κs = search needs
+clear-producer-requires c κs = omega (arith, c .before .before .before .before .before .before .before .before .before .before .before .before .before .before .before .before .before)
 
--- src/lib.rt:201:1
 same-length-4 : tie.Need-same-length-4
 same-length-4 c = search needs
 
--- src/lib.rt:201:1
 returns-4 : tie.Need-returns-4
 unfolding setEntry applied writes
 returns-4 c =
-    rw (some (c .before .before .before .before .before .before .before .before .before .before .before .before .before .before .before .before .before .producer .ensures .is) (c .before .before .before .before .before .before .before .before .before .before .before .before .before .before .before .before .if1 .left), c .before .before .before .before .before .before .before .before .before .before .before .before .before .before .producer2 .ensures .is, c .before .before .before .before .before .before .before .before .before .before .before .before .before .index-in .ensures .inside (c .before .before .before .before .before .before .before .before .before .before .before .if2 .left), c .before .before .before .before .before .before .before .before .before .before .before .before .before .index-in .ensures .is (c .before .before .before .before .before .before .before .before .before .before .before .if2 .left), c .before .before .before .before .before .before .before .before .before .producer3 .ensures .is, c .before .before .before .before .if3 .left, c .before .before .clear-producer .ensures, c .before .before .before .before .before .before .before .put-entry .ensures) refl
+    let producer = c .before .before .before .before .before .before .before .before .before .before .before .before .before .before .before .before .before .producer in
+    let if1 = c .before .before .before .before .before .before .before .before .before .before .before .before .before .before .before .before .if1 in
+    let producer2 = c .before .before .before .before .before .before .before .before .before .before .before .before .before .before .producer2 in
+    let index-in = c .before .before .before .before .before .before .before .before .before .before .before .before .before .index-in in
+    let if2 = c .before .before .before .before .before .before .before .before .before .before .before .if2 in
+    let producer3 = c .before .before .before .before .before .before .before .before .before .producer3 in
+    let put-entry = c .before .before .before .before .before .before .before .put-entry in
+    let if3 = c .before .before .before .before .if3 in
+    let clear-producer = c .before .before .clear-producer in
+    rw (some (producer .ensures .is) (if1 .left), producer2 .ensures .is, index-in .ensures .inside (if2 .left), index-in .ensures .is (if2 .left), producer3 .ensures .is, if3 .left, clear-producer .ensures, put-entry .ensures) refl
 
 pub set-entry-spec : {M : Type 1} → statement M
 set-entry-spec =

@@ -1,17 +1,14 @@
-use denote.Ref.{now}
-use Prim.Native.Nat.{_+_, _-_, _≤_, ℕ}
-use Rattle.store.specs.Words.{clear-more}
-use borrow.Author.Needs.{needs}
-use native.Mathlib.Omega.{arith}
-use native.Mathlib.Numerals.{add-one}
-use lib.Seq.{sets}
-use lib.ListN.{length, set, replicate, length-set}
+-- `store::clear` meets its contract.
 use mathlib.Core.Path.{_≡_, refl, ap, _∙_}
-use Prim.Native.Nat.{_+_, _-_, _≤_}
+use Prim.Native.Nat.{_-_, _≤_, ℕ}
+use native.Mathlib.Numerals.{add-one}
+use native.Mathlib.Omega.{arith}
+use lib.ListN.{length, replicate, length-set}
+use lib.Seq.{sets}
+use denote.Ref.{now}
+use Rattle.store.specs.Words.{clear-more}
 use Rattle.store.proofs.clear.Statement.{statement}
 use Rattle.store.proofs.clear.Tie as tie
-use Rattle.store.proofs.clear.Reads as reads
-use Rattle.store.proofs.clear.Lts as lts
 
 abbrev Inv-loop : tie.InvT-loop
 Inv-loop s₀ at n from count i₀ s i = (i ≤ count) × (s ≡ sets s₀ at (replicate i 0)) × (length s ≡ length s₀)
@@ -19,43 +16,35 @@ Inv-loop s₀ at n from count i₀ s i = (i ≤ count) × (s ≡ sets s₀ at (r
 abbrev μ-loop : tie.MeasureT-loop
 μ-loop s₀ at n from count i₀ s i = count - i
 
--- src/lib.rt:140:5
 loop-holds : tie.Need-loop-holds Inv-loop μ-loop
 loop-holds c = (omega arith, refl, refl)
 
--- src/lib.rt:141:11
 add-s : tie.Need-add-s Inv-loop μ-loop
 add-s c = omega arith
 
--- src/lib.rt:141:9
 mul-s : tie.Need-mul-s Inv-loop μ-loop
 mul-s c = omega arith
 
--- src/lib.rt:141:9
 slice-write-s : tie.Need-slice-write-s Inv-loop μ-loop
 slice-write-s c = omega arith
 
--- src/lib.rt:142:9
 add-i : tie.Need-add-i Inv-loop μ-loop
 add-i c = omega arith
 
--- src/lib.rt:140:5
 loop-less : tie.Need-loop-less Inv-loop μ-loop
 loop-less c = omega arith
 
--- src/lib.rt:140:5
 loop-again : tie.Need-loop-again Inv-loop μ-loop
 loop-again c =
-    let a = c .before .before .args in
-    (omega arith,
-    rw (c .before .loop .inv .1, add-one) (clear-more (c .before .loop .i) (now (a .s)) (a .at)),
-    simp length-set (c .before .loop .inv .2))
+    let a = c .before .before .args in (
+      omega arith,
+      rw (c .before .loop .inv .1, add-one) (clear-more (c .before .loop .i) (now (a .s)) (a .at)),
+      simp length-set (c .before .loop .inv .2),
+    )
 
--- src/lib.rt:133:1
 same-length : tie.Need-same-length Inv-loop μ-loop
 same-length c = c .before .loop .inv .2
 
--- src/lib.rt:133:1
 returns : tie.Need-returns Inv-loop μ-loop
 returns c =
     let a = c .before .before .args in

@@ -1,23 +1,19 @@
-use denote.Ref.{now}
-use Rattle.rules.specs.Cell.{content, consumer, producer, part, entry}
-use Rattle.store.specs.Shape.{sizes}
-use Rattle.store.specs.Words.{reads-word, inside-words}
+-- `store::content` meets its contract.
 use native.Mathlib.Omega.{arith}
 use borrow.Author.Needs.{needs}
+use denote.Ref.{now}
+use Rattle.rules.specs.Cell.{content}
+use Rattle.store.specs.Shape.{sizes}
+use Rattle.store.specs.Words.{reads-word}
 use Rattle.store.proofs.content.Statement.{statement}
 use Rattle.store.proofs.content.Tie as tie
-use Rattle.store.proofs.content.Reads as reads
-use Rattle.store.proofs.content.Lts as lts
 
--- src/lib.rt:45:5
 mul-result : tie.Need-mul-result
 mul-result c = search needs
 
--- src/lib.rt:45:5
 shared-slice-read-result : tie.Need-shared-slice-read-result
 shared-slice-read-result c = search needs
 
--- src/lib.rt:40:1
 returns : tie.Need-returns
 returns c =
     let a = c .before .args in

@@ -1,52 +1,46 @@
-use borrow.Author.Tests.{lt-ltb, le-ltb, le-leb, lt-leb}
+-- `store::index_in` meets its contract.
 use mathlib.Core.Path.{refl}
 use native.Mathlib.Omega.{arith}
 use borrow.Author.Needs.{needs}
+use borrow.Author.Tests.{lt-ltb, le-ltb, le-leb, lt-leb}
 use Rattle.store.proofs.index_in.Statement.{statement}
 use Rattle.store.proofs.index_in.Tie as tie
-use Rattle.store.proofs.index_in.Reads as reads
-use Rattle.store.proofs.index_in.Lts as lts
-use Rattle.store.proofs.record_end.Reads as record-end-reads
 
--- src/lib.rt:185:9
 record-end-requires : tie.Need-record-end-requires
 record-end-requires c κs = search needs
 
--- src/lib.rt:187:9
 returns : tie.Need-returns
 returns c =
     record {
       inside = λ h. absurd (omega arith);
       is = λ h. absurd (omega arith);
-      outside = λ h. rw (c .before .record-end .ensures .0, le-ltb _ _ (c .if1 .taken)) refl }
+      outside = λ h. rw (c .before .record-end .ensures .0, le-ltb _ _ (c .if1 .taken)) refl;
+    }
 
--- src/lib.rt:189:8
 add-if2 : tie.Need-add-if2
 add-if2 c = search needs
 
--- src/lib.rt:190:9
 returns-2 : tie.Need-returns-2
 returns-2 c =
     record {
       inside = λ h. absurd (omega arith);
       is = λ h. absurd (omega arith);
-      outside = λ h. rw (c .before .before .before .record-end .ensures .0, lt-ltb _ _ (c .before .before .if1 .left), lt-leb _ _ (c .if2 .taken)) refl }
+      outside = λ h. rw (c .before .before .before .record-end .ensures .0, lt-ltb _ _ (c .before .before .if1 .left), lt-leb _ _ (c .if2 .taken)) refl;
+    }
 
--- src/lib.rt:192:5
 add-result : tie.Need-add-result
 add-result c = search needs
 
--- src/lib.rt:192:5
 sub-result : tie.Need-sub-result
 sub-result c = search needs
 
--- src/lib.rt:180:1
 returns-3 : tie.Need-returns-3
 returns-3 c =
     record {
       inside = λ h. rw (c .before .before .before .before .record-end .ensures .0, lt-ltb _ _ (c .before .before .before .if1 .left), le-leb _ _ (c .before .if2 .left)) refl;
       is = λ h. rw (c .before .before .before .before .record-end .ensures .0) refl;
-      outside = λ h. absurd (omega arith) }
+      outside = λ h. absurd (omega arith);
+    }
 
 pub index-in-spec : {M : Type 1} → statement M
 index-in-spec =

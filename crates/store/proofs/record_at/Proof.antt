@@ -1,44 +1,35 @@
-use Rattle.store.specs.Words.{record-below}
+-- `store::record_at` meets its contract.
 use native.Mathlib.Omega.{arith}
 use borrow.Author.Needs.{needs}
+use Rattle.store.specs.Words.{record-below}
 use Rattle.store.proofs.record_at.Statement.{statement}
 use Rattle.store.proofs.record_at.Tie as tie
-use Rattle.store.proofs.record_at.Reads as reads
-use Rattle.store.proofs.record_at.Lts as lts
 
--- src/lib.rt:36:15
 add-result : tie.Need-add-result
 add-result c = search needs
 
--- src/lib.rt:36:10
 mul-result : tie.Need-mul-result
 mul-result c = search needs
 
--- src/lib.rt:36:5
 add-result-2 : tie.Need-add-result-2
 add-result-2 c = search needs
 
--- src/lib.rt:36:39
 mul-result-2 : tie.Need-mul-result-2
 mul-result-2 c = search needs
 
--- src/lib.rt:36:39
 add-result-3 : tie.Need-add-result-3
 add-result-3 c = search needs
 
--- src/lib.rt:36:34
 mul-result-3 : tie.Need-mul-result-3
 mul-result-3 c =
     let a = c .before .before .args in
     omega (arith, record-below (a .z .entries) (a .r) (omega arith) (omega arith))
 
--- src/lib.rt:36:5
 add-result-4 : tie.Need-add-result-4
 add-result-4 c =
     let a = c .before .before .args in
     omega (arith, record-below (a .z .entries) (a .r) (omega arith) (omega arith))
 
--- src/lib.rt:32:1
 returns : tie.Need-returns
 returns c =
     let a = c .before .before .args in

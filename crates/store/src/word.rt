@@ -1,0 +1,57 @@
+// The words of a store by their place in the contents, a thread, a record or an entry.
+
+// Contents, words 6 to 10.
+pub const TAIL: u32 = 6;
+
+pub const TAIL_RECORD: u32 = 7;
+
+pub const HEAD_RECORD: u32 = 8;
+
+pub const HEAD_POSITION: u32 = 9;
+
+pub const STARTS: u32 = 10;
+
+// A thread's phase.
+pub const PHASE: u32 = 0;
+
+// A producer's words.
+pub const CALL: u32 = 1;
+
+pub const VALUE: u32 = 2;
+
+pub const POSITION: u32 = 3;
+
+pub const HELD: u32 = 4;
+
+pub const CLAIMED: u32 = 5;
+
+pub const BACKED: u32 = 6;
+
+// The consumer's words.
+pub const CURSOR_RECORD: u32 = 1;
+
+pub const CURSOR_POSITION: u32 = 2;
+
+pub const FOUND_RECORD: u32 = 3;
+
+pub const FOUND_POSITION: u32 = 4;
+
+pub const ITEM_CALL: u32 = 5;
+
+pub const ITEM_VALUE: u32 = 6;
+
+// A record's words before its entries.
+pub const PLACE: u32 = 0;
+
+pub const NEXT: u32 = 1;
+
+pub const PREV: u32 = 2;
+
+pub const USE: u32 = 3;
+
+// An entry's words.
+pub const STATE: u32 = 0;
+
+pub const ENTRY_CALL: u32 = 1;
+
+pub const ENTRY_VALUE: u32 = 2;
