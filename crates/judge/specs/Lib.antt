@@ -1,0 +1,5 @@
+pub mod Build
+pub mod Table
+pub mod Steps
+pub mod Marks
+pub mod Answer
