@@ -4,7 +4,6 @@ filled by each call and never cleared, and each figure is the best of five round
 import ctypes
 import pathlib
 import random
-import subprocess
 
 import judge_library as jl
 from judge_model import flatten
@@ -57,9 +56,8 @@ def empties(n):
 
 
 def main():
-    if not jl.ARCHIVE.exists():
-        subprocess.run(['rt', 'staticlib', 'judge_c'], cwd=jl.ROOT, check=True, stdout=subprocess.DEVNULL)
-    library = jl.shared([pathlib.Path(__file__).with_suffix('.c'), jl.ARCHIVE], 'bench', '-O2')
+    archive = jl.built(jl.ARCHIVE, 'judge_c')
+    library = jl.shared([pathlib.Path(__file__).with_suffix('.c'), archive], 'bench', '-O2')
     library.time_judge.restype = library.time_pass.restype = ctypes.c_double
     cases = [(f'engine-like {n}', engine_like(n)) for n in (512, 1024, 2048, 4096)]
     cases += [

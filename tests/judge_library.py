@@ -7,9 +7,19 @@ import tempfile
 
 ROOT = pathlib.Path(__file__).resolve().parent.parent
 ARCHIVE = ROOT / 'target' / 'staticlib' / 'libjudge_c.a'
+CALL_TABLE = ROOT / 'target' / 'staticlib' / 'libcall_table.a'
 PROGRAM = ROOT / 'target' / 'bin' / 'verdict'
 WORDS = {0: 'explained', 1: 'unexplained'}
 Words = ctypes.POINTER(ctypes.c_uint32)
+
+
+class Call(ctypes.Structure):
+    """An entry of the lent table."""
+
+    _fields_ = [(name, ctypes.c_uint32) for name in ('kind', 'start', 'end', 'answer')]
+
+    def row(self):
+        return (self.kind, self.start, self.end, self.answer)
 
 
 def shared(sources, name, *flags):
@@ -23,10 +33,22 @@ def shared(sources, name, *flags):
     return library
 
 
+def built(archive, crate):
+    """The crate's static library, proved and built where it is not there yet."""
+    if not archive.exists():
+        subprocess.run(['rt', 'staticlib', crate], cwd=ROOT, check=True, stdout=subprocess.DEVNULL)
+    return archive
+
+
+def load_call_table():
+    library = shared([built(CALL_TABLE, 'call_table')], 'call_table')
+    library.fill_calls.argtypes = [ctypes.POINTER(Call), ctypes.c_size_t, Words, ctypes.c_size_t, ctypes.c_size_t]
+    library.fill_calls.restype = None
+    return library
+
+
 def load():
-    if not ARCHIVE.exists():
-        subprocess.run(['rt', 'staticlib', 'judge_c'], cwd=ROOT, check=True, stdout=subprocess.DEVNULL)
-    library = shared([ARCHIVE], 'judge')
+    library = shared([built(ARCHIVE, 'judge_c')], 'judge')
     library.judge_history.argtypes = [Words, ctypes.c_size_t, Words, ctypes.c_size_t]
     library.judge_history.restype = ctypes.c_uint32
     return library

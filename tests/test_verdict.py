@@ -243,5 +243,21 @@ class Differential(unittest.TestCase):
             self.assertEqual(program(text_of(history)), printed(word), history)
 
 
+class LentTable(unittest.TestCase):
+    """The lent slice of call structs, filled from the judge's words."""
+
+    def test_rows(self):
+        """A field in the wrong place, an entry too few or too many, or one after them touched."""
+        library, table, rng = jl.load(), jl.load_call_table(), random.Random(4)
+        for _ in range(500):
+            history = run_of_calls(rng, rng.randrange(120), wrong=0.05)
+            rows = [call.row() for call in jm.calls_of(history)]
+            _, words = jl.judge(library, flatten(history), [MARK] * (4 * len(history)))
+            lent = (jl.Call * (len(history) + 2))(*[(MARK, k, MARK, k) for k in range(len(history) + 2)])
+            table.fill_calls(lent, len(lent), jl.array(words), len(words), len(rows))
+            after = [(MARK, k, MARK, k) for k in range(len(rows), len(lent))]
+            self.assertEqual([call.row() for call in lent], rows + after)
+
+
 if __name__ == '__main__':
     unittest.main()

@@ -11,16 +11,12 @@ use Rattle.history.specs.Calls.{Answer, Call, enq, deq, endEnqueue, endDequeue,
 use Rattle.history.specs.Form.{any, enqueues, enqueuesItem, dequeues, follows}
 use Rattle.judge.specs.Build.{build}
 use Rattle.judge.specs.Table.{startAt, endAt, answerAt, threadAt, numberAt, valueAt, busyAt, topOf, answerOf, callOf, callAt, callsIn, Table}
-use Rattle.judge.specs.Steps.{endEvent, ended, Enters}
+use Rattle.judge.specs.Steps.{endEvent, ended, repeatsAt, Enters}
 use Rattle.judge.proofs.Logic.{same-or-not, true-not-false, both}
 use Rattle.judge.proofs.Builds.{build-same, map-build, none-of, one-of}
 use Rattle.judge.proofs.Cells.{Ended, ended-is}
 use Rattle.judge.proofs.Starting.{refusing, accepting, idle-dequeue, busy-dequeue}
 use Rattle.judge.proofs.Words
-
--- whether an end repeats its start's number and value; a dequeue has nothing to repeat
-abbrev pub repeating : List ℕ → (i t n v : ℕ) → Bool
-repeating m i t n v = eqb t 0 || (eqb (numberAt m i) n && eqb (valueAt m i) v)
 
 module _ (m : List ℕ) (c : ℕ) (table : Table m c) where
   pub idle-end : (t n v : ℕ) → t ≤ 16 → busyAt m t ≡ 0 → follows (endEvent t n v) (callsIn m c) ≡ false
@@ -32,7 +28,7 @@ module _ (m : List ℕ) (c : ℕ) (table : Table m c) where
       Words.not-enqueuing-item _ _ _ _ _ _ _ _ _ (λ p q. let b = table .known (suc t) j a l p q in absurd (omega arith)))
 
   pub other-end :
-      (t n v i : ℕ) → t ≤ 16 → busyAt m t ≡ suc i → repeating m i t n v ≡ false → follows (endEvent t n v) (callsIn m c) ≡ false
+      (t n v i : ℕ) → t ≤ 16 → busyAt m t ≡ suc i → repeatsAt m i t n v ≡ false → follows (endEvent t n v) (callsIn m c) ≡ false
   other-end zero n v i a busy r = absurd (true-not-false r)
   other-end (suc t) n v i a busy r =
       none-of (enqueuesItem (suc t) n v) (callAt m) c
@@ -44,7 +40,7 @@ module _ (m : List ℕ) (c : ℕ) (table : Table m c) where
       rw e (rw (eqb·suc-zero t) at r)))
 
   pub good-end :
-      (t n v i : ℕ) → t ≤ 16 → busyAt m t ≡ suc i → repeating m i t n v ≡ true → follows (endEvent t n v) (callsIn m c) ≡ true
+      (t n v i : ℕ) → t ≤ 16 → busyAt m t ≡ suc i → repeatsAt m i t n v ≡ true → follows (endEvent t n v) (callsIn m c) ≡ true
   good-end zero zero v i a busy r = busy-dequeue m c table i busy
   good-end zero (suc n) v i a busy r = busy-dequeue m c table i busy
   good-end (suc t) n v i a busy r =
@@ -149,11 +145,11 @@ module _ (m : List ℕ) (c k t n v : ℕ) (table : Table m c) (a : t ≤ 16) whe
   end-idle m′ idle = refusing k _ m c m′ c (idle-end m c table t n v a idle)
 
   pub end-other :
-      (m′ : List ℕ) (i : ℕ) → busyAt m t ≡ suc i → repeating m i t n v ≡ false → Enters k (endEvent t n v) m c m′ c false
+      (m′ : List ℕ) (i : ℕ) → busyAt m t ≡ suc i → repeatsAt m i t n v ≡ false → Enters k (endEvent t n v) m c m′ c false
   end-other m′ i busy r = refusing k _ m c m′ c (other-end m c table t n v i a busy r)
 
   pub end-good :
-      (m′ : List ℕ) (i : ℕ) → m′ ≡ ended m i k t n v → c ≤ 4096 → 1 ≤ k → busyAt m t ≡ suc i → repeating m i t n v ≡ true
+      (m′ : List ℕ) (i : ℕ) → m′ ≡ ended m i k t n v → c ≤ 4096 → 1 ≤ k → busyAt m t ≡ suc i → repeatsAt m i t n v ≡ true
       → Enters k (endEvent t n v) m c m′ c true
   end-good m′ i e room late busy r =
       let l = table .under-way t i a busy .0 in
@@ -161,6 +157,6 @@ module _ (m : List ℕ) (c k t n v : ℕ) (table : Table m c) (a : t ≤ 16) whe
       accepting k _ m c m′ c (good-end m c table t n v i a busy r) (table-ended m m′ c i k t n v b table room a busy late)
       (calls-ended m m′ c i k t n v b table room a busy late (λ z. same t z r))
     where
-      same : (u : ℕ) → u ≢ 0 → repeating m i u n v ≡ true → valueAt m i ≡ v
+      same : (u : ℕ) → u ≢ 0 → repeatsAt m i u n v ≡ true → valueAt m i ≡ v
       same zero z r = absurd (z refl)
       same (suc u) z r = eqb-true _ _ (both (eqb (numberAt m i) n) (eqb (valueAt m i) v) (rw (eqb·suc-zero u) at r) .1)

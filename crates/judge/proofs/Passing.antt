@@ -149,8 +149,8 @@ module _ (m : List ℕ) (c : ℕ) where
     pub not-found : (i : ℕ) (flags flags′ : List ℕ) → Found m c n i → c ≤ i → Moves m c j mark flags flags′ Stuck
     not-found i flags flags′ f l =
         let none =
-            look-none n (callAt m) c
-            (λ h o. Words.not-number (numberAt m h) (valueAt m h) (startAt m h) (endAt m h) (answerAt m h) (threadAt m h) n (f .is-nowhere l h o)) in
+        look-none n (callAt m) c
+        (λ h o. Words.not-number (numberAt m h) (valueAt m h) (startAt m h) (endAt m h) (answerAt m h) (threadAt m h) n (f .is-nowhere l h o)) in
         stuck-at flags flags′ (λ given g on. ap (giving n (valueAt m j) (endAt m j) mark given on) none)
 
     -- enqueue i is the one with the item's number
@@ -210,10 +210,10 @@ module _ (m : List ℕ) (c : ℕ) where
                 n ∷ given,
                 flag-on flags given room g,
                 λ l.
-                item-is l given
-                ∙ tested flags given g (passes (callsIn m c) l)
-                ∙ ap (λ b. b && passes (callsIn m c) l (max mark (startAt m i)) (n ∷ given)) (sym e ∙ f)
-                ∙ ap (λ k. passes (callsIn m c) l k (n ∷ given)) (sym top ∙ same-mark mark′ hint x y z),
+                    item-is l given
+                    ∙ tested flags given g (passes (callsIn m c) l)
+                    ∙ ap (λ b. b && passes (callsIn m c) l (max mark (startAt m i)) (n ∷ given)) (sym e ∙ f)
+                    ∙ ap (λ k. passes (callsIn m c) l k (n ∷ given)) (sym top ∙ same-mark mark′ hint x y z),
               ),
             );
       }
@@ -260,8 +260,8 @@ all-passed m c flags mark j p e = record {
         p .given,
         p .are-given,
         p .is-same
-        ∙ ap (λ l. passes (callsIn m c) l mark (p .given)) (ap (λ i. drop i (callsIn m c)) e ∙ drop-built (callAt m) c)
-        ∙ ap (λ i. leaves i (p .given) (callsIn m c)) (same-marked mark k z),
+            ∙ ap (λ l. passes (callsIn m c) l mark (p .given)) (ap (λ i. drop i (callsIn m c)) e ∙ drop-built (callAt m) c)
+            ∙ ap (λ i. leaves i (p .given) (callsIn m c)) (same-marked mark k z),
       );
 }
 

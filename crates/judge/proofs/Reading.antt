@@ -100,35 +100,35 @@ module _ (h : History) (k : ℕ) (m : List ℕ) (c : ℕ) (m′ : List ℕ) (r :
 
 module _ (ws m : List ℕ) (c k : ℕ) (p : Progress ws m c k) (more : 4 * k + 3 < length ws) (m′ : List ℕ) (r : Entered)
     (s :
-        Stepped (decode (getD ws (4 * k) 0) (getD ws (4 * k + 1) 0) (getD ws (4 * k + 2) 0) (getD ws (4 * k + 3) 0)) (k + 1) m c m′ r)
-    where
-  abbrev words : Option Event
-  words = decode (getD ws (4 * k) 0) (getD ws (4 * k + 1) 0) (getD ws (4 * k + 2) 0) (getD ws (4 * k + 3) 0)
+    Stepped (decode (getD ws (4 * k) 0) (getD ws (4 * k + 1) 0) (getD ws (4 * k + 2) 0) (getD ws (4 * k + 3) 0)) (k + 1) m c m′ r)
+  where
+    abbrev words : Option Event
+    words = decode (getD ws (4 * k) 0) (getD ws (4 * k + 1) 0) (getD ws (4 * k + 2) 0) (getD ws (4 * k + 3) 0)
 
-  onward : readEvents [] ws ≡ readEvent words (p .past) (λ g. readEvents g (drop (4 * k + 4) ws))
-  onward = p .to-come ∙ ap (readEvents (p .past)) (four ws (4 * k) more)
+    onward : readEvents [] ws ≡ readEvent words (p .past) (λ g. readEvents g (drop (4 * k + 4) ws))
+    onward = p .to-come ∙ ap (readEvents (p .past)) (four ws (4 * k) more)
 
-  pub event-refused : (n : ℕ) → r ≡ Refused n → readEvents [] ws ≡ refused n
-  event-refused n e =
-      onward ∙ was-refused (p .past) (k + 1) m c m′ r (p .are-calls) words n (λ g. readEvents g (drop (4 * k + 4) ws)) s e
+    pub event-refused : (n : ℕ) → r ≡ Refused n → readEvents [] ws ≡ refused n
+    event-refused n e =
+        onward ∙ was-refused (p .past) (k + 1) m c m′ r (p .are-calls) words n (λ g. readEvents g (drop (4 * k + 4) ws)) s e
 
-  pub event-read : (d : ℕ) → r ≡ Calls d → Progress ws m′ d (k + 1)
-  event-read d e =
-      let t = was-taken (p .past) (k + 1) m c m′ r (p .are-calls) words d s e in
-      let z : k + 1 ≡ suc (length (p .past)) = omega (arith, p .length-is) in
-      let y : 4 * k + 4 ≡ 4 * (k + 1) = omega arith in
-      record {
-        past = t .event ∷ p .past;
-        length-is = sym z;
-        is-formed = rw (t .follows-on) (p .is-formed);
-        are-calls = rw (← z) (t .entered);
-        table = t .table;
-        few = omega (arith, t .few, p .few);
-        to-come =
-            onward
-            ∙ reads-on (p .past) (k + 1) m c m′ r (p .are-calls) words (t .event) _ (t .is-event) (t .follows-on)
-            ∙ ap (λ i. readEvents (t .event ∷ p .past) (drop i ws)) y;
-      }
+    pub event-read : (d : ℕ) → r ≡ Calls d → Progress ws m′ d (k + 1)
+    event-read d e =
+        let t = was-taken (p .past) (k + 1) m c m′ r (p .are-calls) words d s e in
+        let z : k + 1 ≡ suc (length (p .past)) = omega (arith, p .length-is) in
+        let y : 4 * k + 4 ≡ 4 * (k + 1) = omega arith in
+        record {
+          past = t .event ∷ p .past;
+          length-is = sym z;
+          is-formed = rw (t .follows-on) (p .is-formed);
+          are-calls = rw (← z) (t .entered);
+          table = t .table;
+          few = omega (arith, t .few, p .few);
+          to-come =
+              onward
+              ∙ reads-on (p .past) (k + 1) m c m′ r (p .are-calls) words (t .event) _ (t .is-event) (t .follows-on)
+              ∙ ap (λ i. readEvents (t .event ∷ p .past) (drop i ws)) y;
+        }
 
 -- fewer than four words are left
 no-more : (h : History) (ws : List ℕ) → length ws < 4 → readEvents h ws ≡ history h

@@ -5,14 +5,14 @@ use mathlib.Core.Bool.{Bool, true, false, _&&_, _||_, cond}
 use mathlib.Core.List.{List, []}
 use mathlib.Core.Option.{Option, none, some}
 use Prim.Native.Nat.{ℕ, zero, suc, _+_, _≤_, _<_, max}
-use lib.Dec.{leb, eqb}
-use lib.ListN.{set, getD}
+use lib.Dec.{eqb}
+use lib.ListN.{set}
 use Rattle.history.specs.Event.{Event, History, enqueueStarted, enqueueEnded, dequeueStarted, gaveItem, gaveEmpty, decode}
 use Rattle.history.specs.Calls.{calls, enter}
 use Rattle.history.specs.Form.{Reading, refused, history, follows, wellFormed, readEvents}
 use Rattle.judge.specs.declared.Entered.{Entered}
 use Rattle.judge.specs.declared.Entered.the-variants.{Refused, Calls}
-use Rattle.judge.specs.Table.{Table, callsIn, numberAt, topOf}
+use Rattle.judge.specs.Table.{Table, callsIn, numberAt, valueAt, topOf}
 
 abbrev pub isEvent : Option Event → Bool
 isEvent none = false
@@ -48,6 +48,10 @@ begun m c k t n v =
 -- the memory with call i ended at event k
 unfoldable pub ended : List ℕ → (i k thread number value : ℕ) → List ℕ
 ended m i k t n v = set (set (set (set m (8192 + i) k) (12288 + i) n) (24576 + i) v) t 0
+
+-- Whether an end repeats the number and value of call i; a dequeue has nothing to repeat.
+abbrev pub repeatsAt : (m : List ℕ) (i thread number value : ℕ) → Bool
+repeatsAt m i t n v = eqb t 0 || (eqb (numberAt m i) n && eqb (valueAt m i) v)
 
 -- Whether no call has this number.
 pub record Fresh (m : List ℕ) (c : ℕ) (number : ℕ) (r : Bool) : Type 0 where

@@ -1,28 +1,35 @@
 // The judge: whether a history of events is explained by a first-in first-out queue (document 01, "Judge").
 ghost use mathlib.Core.Path.{_≡_};
 ghost use mathlib.Core.Logic.{_≢_};
-ghost use mathlib.Core.Bool.{_&&_, _||_, not};
+ghost use mathlib.Core.Bool.{_&&_, _||_};
 ghost use mathlib.Core.List.{List, [], map};
 ghost use Prim.Native.Nat.{ℕ, _+_, _*_, _/_, _≤_, _<_, max};
 ghost use lib.Dec.{leb, eqb};
-ghost use lib.ListN.{length, getD, set};
+ghost use lib.ListN.{length, set};
 ghost use Rattle.history.specs.Event.{decode, isProducer};
 ghost use Rattle.history.specs.Calls.{row};
 ghost use Rattle.history.specs.Form.{readEvents, read};
 ghost use Rattle.criterion.specs.Pass.{leaves, passes};
-ghost use Rattle.judge.specs.Table.{Table, callAt, callsIn, threadAt, startAt, endAt, answerAt, numberAt, valueAt};
+ghost use Rattle.judge.specs.Table.{Table, callAt, callsIn, threadAt, endAt, answerAt, numberAt};
 ghost use Rattle.judge.specs.Answer.{flat, over, JudgesWords};
-ghost use Rattle.judge.specs.Marks.{Found, Given, Moves, Marks};
-ghost use Rattle.judge.specs.Steps.{isEvent, startEvent, endEvent, Starts, begun, ended, Fresh, Enters, Stepped, Read};
+ghost use Rattle.judge.specs.Marks.{Found, Given, fairAt, staysAt, Moves, Marks};
+ghost use Rattle.judge.specs.Steps.{isEvent, startEvent, endEvent, Starts, begun, ended, repeatsAt, Fresh, Enters, Stepped, Read};
 
 // The working memory (specs/Table.antt): a word for each thread, the largest number, and six columns.
 const MEMORY: usize = 28_672;
+
 const TOP: usize = 17;
+
 const START: usize = 4_096;
+
 const END: usize = 8_192;
+
 const ANSWER: usize = 12_288;
+
 const THREAD: usize = 16_384;
+
 const NUMBER: usize = 20_480;
+
 const VALUE: usize = 24_576;
 
 // What the words read so far give: a refusal's number, or how many calls have been started.
@@ -181,7 +188,7 @@ fn start(m: &mut [u32; MEMORY], c: usize, k: u32, thread: u32, number: u32, valu
 // An enqueue's end repeats its number and value.
 fn repeats(m: &[u32; MEMORY], i: usize, thread: u32, number: u32, value: u32) -> bool
     requires { ⌜ i < 4096 ⌝ }
-    ensures { λ r. ⌜ r ≡ (eqb thread 0 || (eqb (numberAt (now (m .entry)) i) number && eqb (valueAt (now (m .entry)) i) value)) ⌝ }
+    ensures { λ r. ⌜ r ≡ repeatsAt (now (m .entry)) i thread number value ⌝ }
 {
     (thread == 0) | ((m[NUMBER + i] == number) & (m[VALUE + i] == value))
 }
@@ -204,7 +211,15 @@ fn finish(m: &mut [u32; MEMORY], c: usize, k: u32, thread: u32, number: u32, val
 }
 
 // Takes in event k, or refuses it: 12 not of the form, 13 does not follow.
-fn step(m: &mut [u32; MEMORY], c: usize, k: u32, kind: u32, thread: u32, number: u32, value: u32) -> Entered
+fn step(
+    m: &mut [u32; MEMORY],
+    c: usize,
+    k: u32,
+    kind: u32,
+    thread: u32,
+    number: u32,
+    value: u32,
+) -> Entered
     requires { ⌜ Table (now m) c × (c < 4096) × (1 ≤ k) ⌝ }
     ensures { λ r. ⌜ Stepped (decode kind thread number value) k (now (m .entry)) c (now (m .exit)) r ⌝ }
 {
@@ -233,7 +248,15 @@ fn read_events(history: &[u32], m: &mut [u32; MEMORY]) -> Entered
     let mut k = 0;
     while k < events {
         let at = 4 * k;
-        let e = step(m, c, (k + 1) as u32, history[at], history[at + 1], history[at + 2], history[at + 3]);
+        let e = step(
+            m,
+            c,
+            (k + 1) as u32,
+            history[at],
+            history[at + 1],
+            history[at + 2],
+            history[at + 3],
+        );
         match e {
             Entered::Refused(n) => {
                 return Entered::Refused(n);
@@ -267,10 +290,13 @@ fn position(m: &[u32; MEMORY], hint: usize, c: usize, number: u32) -> usize
 // the mark.
 fn fair(m: &[u32; MEMORY], flags: &[u32; 4_096], i: usize, j: usize, mark: u32) -> bool
     requires { ⌜ (i < 4096) × (j < 4096) ⌝ }
-    ensures { λ r. ⌜ r ≡ (eqb (valueAt (now (m .entry)) i) (valueAt (now (m .entry)) j) && not (eqb (getD (now (flags .entry)) i 0) 1) && leb (startAt (now (m .entry)) i) (endAt (now (m .entry)) j) && (eqb (endAt (now (m .entry)) i) 0 || leb mark (endAt (now (m .entry)) i))) ⌝ }
+    ensures { λ r. ⌜ r ≡ fairAt (now (m .entry)) (now (flags .entry)) i j mark ⌝ }
 {
     let end = m[END + i];
-    (m[VALUE + i] == m[VALUE + j]) & (flags[i] != 1) & (m[START + i] <= m[END + j]) & ((end == 0) | (mark <= end))
+    (m[VALUE + i] == m[VALUE + j])
+        & (flags[i] != 1)
+        & (m[START + i] <= m[END + j])
+        & ((end == 0) | (mark <= end))
 }
 
 // The first enqueue from the hint on whose item was not given, or c: where the next item is looked for first.
@@ -289,7 +315,14 @@ fn first_left(m: &[u32; MEMORY], flags: &[u32; 4_096], hint: usize, c: usize) ->
 }
 
 // Dequeue j gives an item: its enqueue's start moves the mark.
-fn give(m: &[u32; MEMORY], flags: &mut [u32; 4_096], c: usize, mark: u32, hint: usize, j: usize) -> Moved
+fn give(
+    m: &[u32; MEMORY],
+    flags: &mut [u32; 4_096],
+    c: usize,
+    mark: u32,
+    hint: usize,
+    j: usize,
+) -> Moved
     requires { ⌜ Table (now m) c × (c ≤ 4096) × (hint ≤ c) × (j < c) × (threadAt (now m) j ≡ 0) × (endAt (now m) j ≢ 0) × (answerAt (now m) j ≢ 0) ⌝ }
     ensures { λ r. ⌜ Moves (now (m .entry)) c j mark (now (flags .entry)) (now (flags .exit)) r ⌝ }
 {
@@ -303,11 +336,21 @@ fn give(m: &[u32; MEMORY], flags: &mut [u32; 4_096], c: usize, mark: u32, hint: 
     flags[i] = 1;
     let next = larger(mark, m[START + i]);
     let first = first_left(m, flags, hint, c);
-    Moved::To { mark: next, hint: first }
+    Moved::To {
+        mark: next,
+        hint: first,
+    }
 }
 
 // Call j moves the mark, if it is a dequeue that has ended.
-fn pass(m: &[u32; MEMORY], flags: &mut [u32; 4_096], c: usize, mark: u32, hint: usize, j: usize) -> Moved
+fn pass(
+    m: &[u32; MEMORY],
+    flags: &mut [u32; 4_096],
+    c: usize,
+    mark: u32,
+    hint: usize,
+    j: usize,
+) -> Moved
     requires { ⌜ Table (now m) c × (c ≤ 4096) × (hint ≤ c) × (j < c) ⌝ }
     ensures { λ r. ⌜ Moves (now (m .entry)) c j mark (now (flags .entry)) (now (flags .exit)) r ⌝ }
 {
@@ -351,7 +394,7 @@ fn marks(m: &[u32; MEMORY], flags: &mut [u32; 4_096], c: usize) -> Marked
 // An enqueue whose item was not given has not ended before the mark.
 fn stays(m: &[u32; MEMORY], flags: &[u32; 4_096], mark: u32, j: usize) -> bool
     requires { ⌜ j < 4096 ⌝ }
-    ensures { λ r. ⌜ r ≡ (eqb (threadAt (now (m .entry)) j) 0 || (eqb (getD (now (flags .entry)) j 0) 1 || (eqb (endAt (now (m .entry)) j) 0 || leb mark (endAt (now (m .entry)) j)))) ⌝ }
+    ensures { λ r. ⌜ r ≡ staysAt (now (m .entry)) (now (flags .entry)) j mark ⌝ }
 {
     let end = m[END + j];
     (m[THREAD + j] == 0) | ((flags[j] == 1) | ((end == 0) | (mark <= end)))
@@ -445,7 +488,14 @@ fn fill(table: &mut [u32], m: &[u32; MEMORY], c: usize)
 {
     let mut j = 0;
     while j < c {
-        put_row(table, j, kind_of(m, j), m[START + j], m[END + j], answer_of(m, j));
+        put_row(
+            table,
+            j,
+            kind_of(m, j),
+            m[START + j],
+            m[END + j],
+            answer_of(m, j),
+        );
         j += 1;
     }
 }

@@ -1,3 +1,4 @@
+-- `judge::all_stay` meets its contract. Assumes nothing.
 use Prim.Native.Nat.{_≤_, _-_}
 use mathlib.Core.Path.{refl}
 use native.Mathlib.Omega.{arith}
@@ -5,9 +6,6 @@ use borrow.Author.Tests.{not-true, not-false}
 use Rattle.judge.proofs.Passing.{Left, call-stays, call-goes, all-left}
 use Rattle.judge.proofs.all_stay.Statement.{statement}
 use Rattle.judge.proofs.all_stay.Tie as tie
-use Rattle.judge.proofs.all_stay.Reads as reads
-use Rattle.judge.proofs.all_stay.Lts as lts
-use Rattle.judge.proofs.stays.Reads as stays-reads
 
 abbrev Inv-loop : tie.InvT-loop
 Inv-loop m flags c mark j₀ j = Left m c flags mark j × (j ≤ c)
@@ -15,34 +13,27 @@ Inv-loop m flags c mark j₀ j = Left m c flags mark j × (j ≤ c)
 abbrev μ-loop : tie.MeasureT-loop
 μ-loop m flags c mark j₀ j = c - j
 
--- src/lib.rt:340:5
 loop-holds : tie.Need-loop-holds Inv-loop μ-loop
 loop-holds c = (record { is-same = λ given g. refl }, omega arith)
 
--- src/lib.rt:341:13
 stays-requires : tie.Need-stays-requires Inv-loop μ-loop
 stays-requires c κs = omega arith
 
--- src/lib.rt:342:13
 returns : tie.Need-returns Inv-loop μ-loop
 returns c = call-goes _ _ _ _ _ (c .before .before .before .loop .inv .0) (c .before .before .loop-test .taken) _ (c .before .stays .ensures) (not-true _ (c .if1 .taken))
 
--- src/lib.rt:344:9
 add-j : tie.Need-add-j Inv-loop μ-loop
 add-j c = omega arith
 
--- src/lib.rt:340:5
 loop-less : tie.Need-loop-less Inv-loop μ-loop
 loop-less c = omega arith
 
--- src/lib.rt:340:5
 loop-again : tie.Need-loop-again Inv-loop μ-loop
 loop-again c = (
   call-stays _ _ _ _ _ (c .before .before .before .loop .inv .0) (c .before .before .loop-test .taken) _ (c .before .stays .ensures) (not-false _ (c .if1 .left)),
   omega arith,
 )
 
--- src/lib.rt:335:1
 returns-2 : tie.Need-returns-2 Inv-loop μ-loop
 returns-2 c = all-left _ _ _ _ _ (c .before .loop .inv .0) (omega arith)
 

@@ -1,112 +1,84 @@
+-- `judge::begin` meets its contract. Assumes nothing.
 use Rattle.judge.specs.Steps.{begun}
 use borrow.Author.Needs.{needs}
 use Rattle.judge.proofs.begin.Statement.{statement}
 use Rattle.judge.proofs.begin.Tie as tie
-use Rattle.judge.proofs.begin.Reads as reads
-use Rattle.judge.proofs.begin.Lts as lts
-use Rattle.judge.proofs.larger.Reads as larger-reads
 
--- src/lib.rt:109:22
 element-copy-out-larger : tie.Need-element-copy-out-larger
 element-copy-out-larger c = search needs
 
--- src/lib.rt:109:9
 larger-requires : tie.Need-larger-requires
 larger-requires c κs = search needs
 
--- src/lib.rt:110:7
 add-m : tie.Need-add-m
 add-m c = search needs
 
--- src/lib.rt:110:5
 mul-m : tie.Need-mul-m
 mul-m c = search needs
 
--- src/lib.rt:110:5
 element-write-m : tie.Need-element-write-m
 element-write-m c = search needs
 
--- src/lib.rt:111:7
 add-m-2 : tie.Need-add-m-2
 add-m-2 c = search needs
 
--- src/lib.rt:111:5
 mul-m-2 : tie.Need-mul-m-2
 mul-m-2 c = search needs
 
--- src/lib.rt:111:5
 element-write-m-2 : tie.Need-element-write-m-2
 element-write-m-2 c = search needs
 
--- src/lib.rt:112:7
 add-m-3 : tie.Need-add-m-3
 add-m-3 c = search needs
 
--- src/lib.rt:112:5
 mul-m-3 : tie.Need-mul-m-3
 mul-m-3 c = search needs
 
--- src/lib.rt:112:5
 element-write-m-3 : tie.Need-element-write-m-3
 element-write-m-3 c = search needs
 
--- src/lib.rt:113:7
 add-m-4 : tie.Need-add-m-4
 add-m-4 c = search needs
 
--- src/lib.rt:113:5
 mul-m-4 : tie.Need-mul-m-4
 mul-m-4 c = search needs
 
--- src/lib.rt:113:5
 element-write-m-4 : tie.Need-element-write-m-4
 element-write-m-4 c = search needs
 
--- src/lib.rt:114:7
 add-m-5 : tie.Need-add-m-5
 add-m-5 c = search needs
 
--- src/lib.rt:114:5
 mul-m-5 : tie.Need-mul-m-5
 mul-m-5 c = search needs
 
--- src/lib.rt:114:5
 element-write-m-5 : tie.Need-element-write-m-5
 element-write-m-5 c = search needs
 
--- src/lib.rt:115:7
 add-m-6 : tie.Need-add-m-6
 add-m-6 c = search needs
 
--- src/lib.rt:115:5
 mul-m-6 : tie.Need-mul-m-6
 mul-m-6 c = search needs
 
--- src/lib.rt:115:5
 element-write-m-6 : tie.Need-element-write-m-6
 element-write-m-6 c = search needs
 
--- src/lib.rt:116:27
 add-m-7 : tie.Need-add-m-7
 add-m-7 c = search needs
 
--- src/lib.rt:116:26
 cast-m : tie.Need-cast-m
 cast-m c = search needs
 
--- src/lib.rt:116:5
 mul-m-7 : tie.Need-mul-m-7
 mul-m-7 c = search needs
 
--- src/lib.rt:116:5
 element-write-m-7 : tie.Need-element-write-m-7
 element-write-m-7 c = search needs
 
--- src/lib.rt:117:5
 element-write-m-8 : tie.Need-element-write-m-8
 element-write-m-8 c = search needs
 
--- src/lib.rt:105:1
 returns : tie.Need-returns
 unfolding begun
 returns c = rw (c .larger .ensures)

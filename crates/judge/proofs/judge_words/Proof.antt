@@ -1,3 +1,4 @@
+-- `judge::judge_words` meets its contract. Assumes nothing.
 use mathlib.Core.Path.{refl}
 use native.Mathlib.Nat.{le-trans}
 use Rattle.judge.proofs.Zeros.{no-calls}
@@ -5,55 +6,40 @@ use Rattle.judge.proofs.Answering.{read-refused, read-held, admitted, i
 use borrow.Author.Needs.{needs}
 use Rattle.judge.proofs.judge_words.Statement.{statement}
 use Rattle.judge.proofs.judge_words.Tie as tie
-use Rattle.judge.proofs.judge_words.Reads as reads
-use Rattle.judge.proofs.judge_words.Lts as lts
-use Rattle.judge.proofs.explains.Reads as explains-reads
-use Rattle.judge.proofs.fill.Reads as fill-reads
-use Rattle.judge.proofs.read.Reads as read-reads
 
--- src/lib.rt:442:9
 read-requires : tie.Need-read-requires
 read-requires c κs = no-calls 28672 refl
 
--- src/lib.rt:444:26
 enum-known-entered : tie.Need-enum-known-entered
 enum-known-entered c = search needs
 
--- src/lib.rt:445:13
 returns : tie.Need-returns
 returns c = is-refused _ _ _ (read-refused _ _ _ _ _ (c .before .before .before .read .ensures) (c .before .entered .given .1))
 
--- src/lib.rt:447:24
 enum-known-entered-2 : tie.Need-enum-known-entered-2
 enum-known-entered-2 c = search needs
 
--- src/lib.rt:448:13
 fill-requires : tie.Need-fill-requires
 fill-requires c κs =
     let h = read-held _ _ _ _ _ (c .before .before .before .before .before .read .ensures) (c .before .before .before .entered2 .given .1) in
     let a = admitted _ _ _ (h .is-read) in
     (le-trans (h .few) (a .0), le-trans (h .few) (a .1))
 
--- src/lib.rt:449:16
 explains-requires : tie.Need-explains-requires
 explains-requires c κs =
     let h = read-held _ _ _ _ _ (c .before .before .before .before .before .before .before .before .before .read .ensures) (c .before .before .before .before .before .before .before .entered2 .given .1) in
     (h .table, le-trans (h .few) (admitted _ _ _ (h .is-read) .0))
 
--- src/lib.rt:450:17
 same-length : tie.Need-same-length
 same-length c = search needs
 
--- src/lib.rt:450:17
 returns-2 : tie.Need-returns-2
 returns-2 c =
     is-explained _ _ _ _ _ _ (read-held _ _ _ _ _ (c .before .before .before .before .before .before .before .before .before .before .before .read .ensures) (c .before .before .before .before .before .before .before .before .before .entered2 .given .1)) (c .before .before .before .before .before .fill .ensures) _ (c .before .explains .ensures) (c .if1 .taken)
 
--- src/lib.rt:452:13
 same-length-2 : tie.Need-same-length-2
 same-length-2 c = search needs
 
--- src/lib.rt:452:13
 returns-3 : tie.Need-returns-3
 returns-3 c =
     is-unexplained _ _ _ _ _ _ (read-held _ _ _ _ _ (c .before .before .before .before .before .before .before .before .before .before .before .read .ensures) (c .before .before .before .before .before .before .before .before .before .entered2 .given .1)) (c .before .before .before .before .before .fill .ensures) _ (c .before .explains .ensures) (c .if1 .left)

@@ -1,27 +1,21 @@
+-- `judge::kind_of` meets its contract. Assumes nothing.
 use Rattle.judge.proofs.Filling.{kind-dequeue, kind-enqueue}
 use borrow.Author.Needs.{needs}
 use Rattle.judge.proofs.kind_of.Statement.{statement}
 use Rattle.judge.proofs.kind_of.Tie as tie
-use Rattle.judge.proofs.kind_of.Reads as reads
-use Rattle.judge.proofs.kind_of.Lts as lts
 
--- src/lib.rt:394:10
 add-if1 : tie.Need-add-if1
 add-if1 c = search needs
 
--- src/lib.rt:394:8
 mul-if1 : tie.Need-mul-if1
 mul-if1 c = search needs
 
--- src/lib.rt:394:8
 element-copy-out-if1 : tie.Need-element-copy-out-if1
 element-copy-out-if1 c = search needs
 
--- src/lib.rt:395:9
 returns : tie.Need-returns
 returns c = kind-dequeue _ _ _ _ _ _ (c .if1 .taken)
 
--- src/lib.rt:390:1
 returns-2 : tie.Need-returns-2
 returns-2 c = kind-enqueue _ _ _ _ _ _ (c .if1 .left)
 

@@ -1,3 +1,4 @@
+-- `judge::position` meets its contract. Assumes nothing.
 use mathlib.Core.Logic.{inl, inr}
 use Prim.Native.Nat.{zero-le}
 use native.Mathlib.Omega.{arith}
@@ -5,23 +6,16 @@ use Rattle.judge.proofs.Logic.{at-most-or-above}
 use borrow.Author.Needs.{needs}
 use Rattle.judge.proofs.position.Statement.{statement}
 use Rattle.judge.proofs.position.Tie as tie
-use Rattle.judge.proofs.position.Reads as reads
-use Rattle.judge.proofs.position.Lts as lts
-use Rattle.judge.proofs.scan.Reads as scan-reads
 
--- src/lib.rt:246:9
 scan-requires : tie.Need-scan-requires
 scan-requires c κs = search needs
 
--- src/lib.rt:248:9
 returns : tie.Need-returns
 returns c = search needs
 
--- src/lib.rt:250:9
 scan-requires-2 : tie.Need-scan-requires-2
 scan-requires-2 c κs = search needs
 
--- src/lib.rt:252:9
 returns-2 : tie.Need-returns-2
 returns-2 c =
     let late = c .before .before .before .scan .ensures in
@@ -32,7 +26,6 @@ returns-2 c =
       is-nowhere = λ l. absurd (omega arith);
     }
 
--- src/lib.rt:242:1
 returns-3 : tie.Need-returns-3
 returns-3 c =
     let hint = c .before .before .before .before .args .hint in

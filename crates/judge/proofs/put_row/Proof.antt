@@ -1,64 +1,49 @@
+-- `judge::put_row` meets its contract. Assumes nothing.
 use native.Mathlib.Omega.{arith}
 use lib.ListN.{length-set}
 use borrow.Author.Needs.{needs}
 use Rattle.judge.proofs.put_row.Statement.{statement}
 use Rattle.judge.proofs.put_row.Tie as tie
-use Rattle.judge.proofs.put_row.Reads as reads
-use Rattle.judge.proofs.put_row.Lts as lts
 
--- src/lib.rt:418:14
 mul-at : tie.Need-mul-at
 mul-at c = search needs
 
--- src/lib.rt:419:5
 mul-table : tie.Need-mul-table
 mul-table c = search needs
 
--- src/lib.rt:419:5
 slice-write-table : tie.Need-slice-write-table
 slice-write-table c = search needs
 
--- src/lib.rt:420:11
 add-table : tie.Need-add-table
 add-table c = search needs
 
--- src/lib.rt:420:5
 mul-table-2 : tie.Need-mul-table-2
 mul-table-2 c = search needs
 
--- src/lib.rt:420:5
 slice-write-table-2 : tie.Need-slice-write-table-2
 slice-write-table-2 c = simp length-set (omega arith)
 
--- src/lib.rt:421:11
 add-table-2 : tie.Need-add-table-2
 add-table-2 c = search needs
 
--- src/lib.rt:421:5
 mul-table-3 : tie.Need-mul-table-3
 mul-table-3 c = search needs
 
--- src/lib.rt:421:5
 slice-write-table-3 : tie.Need-slice-write-table-3
 slice-write-table-3 c = simp length-set (omega arith)
 
--- src/lib.rt:422:11
 add-table-3 : tie.Need-add-table-3
 add-table-3 c = search needs
 
--- src/lib.rt:422:5
 mul-table-4 : tie.Need-mul-table-4
 mul-table-4 c = search needs
 
--- src/lib.rt:422:5
 slice-write-table-4 : tie.Need-slice-write-table-4
 slice-write-table-4 c = search needs
 
--- src/lib.rt:414:1
 same-length : tie.Need-same-length
 same-length c = search needs
 
--- src/lib.rt:414:1
 returns : tie.Need-returns
 returns c = search needs
 

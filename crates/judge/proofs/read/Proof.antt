@@ -1,32 +1,25 @@
+-- `judge::read` meets its contract. Assumes nothing.
 use Rattle.judge.specs.Steps.{Read}
 use Rattle.judge.proofs.Reading.{no-multiple, too-many, too-few-entries, reads-all, same-reading}
 use borrow.Author.Needs.{needs}
 use Rattle.judge.proofs.read.Statement.{statement}
 use Rattle.judge.proofs.read.Tie as tie
-use Rattle.judge.proofs.read.Reads as reads
-use Rattle.judge.proofs.read.Lts as lts
-use Rattle.judge.proofs.read_events.Reads as read-events-reads
 
--- src/lib.rt:378:9
 returns : tie.Need-returns
 unfolding Read
 returns c = no-multiple _ _ (c .if1 .taken)
 
--- src/lib.rt:381:9
 returns-2 : tie.Need-returns-2
 unfolding Read
 returns-2 c = too-many _ _ (c .before .if1 .left) (c .if2 .taken)
 
--- src/lib.rt:384:9
 returns-3 : tie.Need-returns-3
 unfolding Read
 returns-3 c = too-few-entries _ _ (c .before .before .if1 .left) (c .before .if2 .left) (c .if3 .taken)
 
--- src/lib.rt:386:5
 read-events-requires : tie.Need-read-events-requires
 read-events-requires c κs = search needs
 
--- src/lib.rt:372:1
 returns-4 : tie.Need-returns-4
 returns-4 c =
     let e = reads-all _ _ (c .before .before .before .before .if1 .left) (c .before .before .before .if2 .left) (c .before .before .if3 .left) in

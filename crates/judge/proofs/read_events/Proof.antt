@@ -1,3 +1,4 @@
+-- `judge::read_events` meets its contract. Assumes nothing.
 use Rattle.judge.specs.Steps.{Read}
 use mathlib.Core.Path.{_≡_}
 use Prim.Native.Nat.{_≤_, _-_, _/_}
@@ -7,9 +8,6 @@ use lib.ListN.{length}
 use Rattle.judge.proofs.Reading.{Progress, none-read, event-refused, event-read, all-read}
 use Rattle.judge.proofs.read_events.Statement.{statement}
 use Rattle.judge.proofs.read_events.Tie as tie
-use Rattle.judge.proofs.read_events.Reads as reads
-use Rattle.judge.proofs.read_events.Lts as lts
-use Rattle.judge.proofs.step.Reads as step-reads
 
 abbrev Inv-loop : tie.InvT-loop
 Inv-loop history m₀ events c₀ k₀ m c k = Progress history m c k × (k ≤ events)
@@ -17,100 +15,77 @@ Inv-loop history m₀ events c₀ k₀ m c k = Progress history m c k × (k ≤ 
 abbrev μ-loop : tie.MeasureT-loop
 μ-loop history m₀ events c₀ k₀ m c k = events - k
 
--- src/lib.rt:216:5
 loop-holds : tie.Need-loop-holds Inv-loop μ-loop
 loop-holds c = (none-read _ _ (c .before .pre .0), omega arith)
 
--- src/lib.rt:217:18
 mul-at : tie.Need-mul-at Inv-loop μ-loop
 mul-at c = omega arith
 
--- src/lib.rt:218:29
 add-step : tie.Need-add-step Inv-loop μ-loop
 add-step c = omega arith
 
--- src/lib.rt:218:28
 cast-step : tie.Need-cast-step Inv-loop μ-loop
 cast-step c = omega arith
 
--- src/lib.rt:218:44
 mul-step : tie.Need-mul-step Inv-loop μ-loop
 mul-step c = omega arith
 
--- src/lib.rt:218:44
 shared-slice-read-step : tie.Need-shared-slice-read-step Inv-loop μ-loop
 shared-slice-read-step c = omega arith
 
--- src/lib.rt:218:65
 add-step-2 : tie.Need-add-step-2 Inv-loop μ-loop
 add-step-2 c = omega arith
 
--- src/lib.rt:218:57
 mul-step-2 : tie.Need-mul-step-2 Inv-loop μ-loop
 mul-step-2 c = omega arith
 
--- src/lib.rt:218:57
 shared-slice-read-step-2 : tie.Need-shared-slice-read-step-2 Inv-loop μ-loop
 shared-slice-read-step-2 c = omega arith
 
--- src/lib.rt:218:82
 add-step-3 : tie.Need-add-step-3 Inv-loop μ-loop
 add-step-3 c = omega arith
 
--- src/lib.rt:218:74
 mul-step-3 : tie.Need-mul-step-3 Inv-loop μ-loop
 mul-step-3 c = omega arith
 
--- src/lib.rt:218:74
 shared-slice-read-step-3 : tie.Need-shared-slice-read-step-3 Inv-loop μ-loop
 shared-slice-read-step-3 c = omega arith
 
--- src/lib.rt:218:99
 add-step-4 : tie.Need-add-step-4 Inv-loop μ-loop
 add-step-4 c = omega arith
 
--- src/lib.rt:218:91
 mul-step-4 : tie.Need-mul-step-4 Inv-loop μ-loop
 mul-step-4 c = omega arith
 
--- src/lib.rt:218:91
 shared-slice-read-step-4 : tie.Need-shared-slice-read-step-4 Inv-loop μ-loop
 shared-slice-read-step-4 c = omega arith
 
--- src/lib.rt:218:13
 step-requires : tie.Need-step-requires Inv-loop μ-loop
 step-requires c κs = let p = c .before .before .before .before .before .before .loop .inv .0 in (p .table, omega (arith, p .few, c .before .before .before .before .before .before .before .before .pre .1), omega arith)
 
--- src/lib.rt:220:30
 enum-known-e : tie.Need-enum-known-e Inv-loop μ-loop
 enum-known-e c = search needs
 
--- src/lib.rt:221:17
 returns : tie.Need-returns Inv-loop μ-loop
 unfolding Read
 returns c =
     event-refused _ _ _ _ (c .before .before .before .before .before .before .before .before .before .before .loop .inv .0) (omega arith) _ _ (c .before .before .before .step .ensures) _ (c .before .e .given .1)
 
--- src/lib.rt:223:28
 enum-known-e-2 : tie.Need-enum-known-e-2 Inv-loop μ-loop
 enum-known-e-2 c = search needs
 
--- src/lib.rt:227:9
 add-k : tie.Need-add-k Inv-loop μ-loop
 add-k c = omega arith
 
--- src/lib.rt:216:5
 loop-less : tie.Need-loop-less Inv-loop μ-loop
 loop-less c = omega arith
 
--- src/lib.rt:216:5
 loop-again : tie.Need-loop-again Inv-loop μ-loop
 loop-again c = (
   event-read _ _ _ _ (c .before .before .before .before .before .before .before .before .before .before .loop .inv .0) (omega arith) _ _ (c .before .before .before .step .ensures) _ (c .before .e2 .given .1),
   omega arith,
 )
 
--- src/lib.rt:209:1
 returns-2 : tie.Need-returns-2 Inv-loop μ-loop
 unfolding Read
 returns-2 c = all-read _ _ _ _ (c .before .loop .inv .0) (c .loop-test .left) (c .before .loop .inv .1)

@@ -1,13 +1,11 @@
+-- `judge::scan` meets its contract. Assumes nothing.
 use borrow.Author.Count.{below-more}
 use Prim.Native.Nat.{ℕ, _≤_, _<_, _-_, _+_}
 use mathlib.Core.Logic.{_≢_}
 use native.Mathlib.Omega.{arith}
-use borrow.Author.Needs.{needs}
 use Rattle.judge.specs.Table.{numberAt}
 use Rattle.judge.proofs.scan.Statement.{statement}
 use Rattle.judge.proofs.scan.Tie as tie
-use Rattle.judge.proofs.scan.Reads as reads
-use Rattle.judge.proofs.scan.Lts as lts
 
 abbrev Inv-loop : tie.InvT-loop
 Inv-loop m from to number j₀ j = (from ≤ j) × (j ≤ to) × ((i : ℕ) → i < j → from ≤ i → numberAt m i ≢ number)
@@ -15,40 +13,31 @@ Inv-loop m from to number j₀ j = (from ≤ j) × (j ≤ to) × ((i : ℕ) → 
 abbrev μ-loop : tie.MeasureT-loop
 μ-loop m from to number j₀ j = to - j
 
--- src/lib.rt:95:5
 loop-holds : tie.Need-loop-holds Inv-loop μ-loop
 loop-holds c = (omega arith, omega arith, λ i l m e. omega arith)
 
--- src/lib.rt:96:14
 add-if1 : tie.Need-add-if1 Inv-loop μ-loop
 add-if1 c = omega arith
 
--- src/lib.rt:96:12
 mul-if1 : tie.Need-mul-if1 Inv-loop μ-loop
 mul-if1 c = omega arith
 
--- src/lib.rt:96:12
 element-copy-out-if1 : tie.Need-element-copy-out-if1 Inv-loop μ-loop
 element-copy-out-if1 c = omega arith
 
--- src/lib.rt:97:13
 returns : tie.Need-returns Inv-loop μ-loop
 returns c = (omega arith, λ l. c .if1 .taken, c .before .before .before .loop .inv .2)
 
--- src/lib.rt:99:9
 add-j : tie.Need-add-j Inv-loop μ-loop
 add-j c = omega arith
 
--- src/lib.rt:95:5
 loop-less : tie.Need-loop-less Inv-loop μ-loop
 loop-less c = omega arith
 
--- src/lib.rt:95:5
 loop-again : tie.Need-loop-again Inv-loop μ-loop
 loop-again c =
     (omega arith, omega arith, below-more _ _ (c .before .before .before .loop .inv .2) (λ l. c .if1 .left))
 
--- src/lib.rt:90:1
 returns-2 : tie.Need-returns-2 Inv-loop μ-loop
 returns-2 c = (omega arith, λ l. absurd (omega arith), λ j l. c .before .loop .inv .2 j (omega arith))
 

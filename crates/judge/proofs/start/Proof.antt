@@ -1,40 +1,30 @@
+-- `judge::start` meets its contract. Assumes nothing.
 use borrow.Author.Tests.{not-true, not-false}
 use Rattle.judge.proofs.Starting.{start-busy, start-old, start-good}
 use borrow.Author.Needs.{needs}
 use Rattle.judge.proofs.start.Statement.{statement}
 use Rattle.judge.proofs.start.Tie as tie
-use Rattle.judge.proofs.start.Reads as reads
-use Rattle.judge.proofs.start.Lts as lts
-use Rattle.judge.proofs.begin.Reads as begin-reads
-use Rattle.judge.proofs.fresh.Reads as fresh-reads
 
--- src/lib.rt:153:8
 mul-if1 : tie.Need-mul-if1
 mul-if1 c = search needs
 
--- src/lib.rt:153:8
 element-copy-out-if1 : tie.Need-element-copy-out-if1
 element-copy-out-if1 c = search needs
 
--- src/lib.rt:154:9
 returns : tie.Need-returns
 returns c = let p = c .before .before .pre in start-busy _ _ _ _ _ _ (p .0) (p .2) _ (c .if1 .taken)
 
--- src/lib.rt:156:9
 fresh-requires : tie.Need-fresh-requires
 fresh-requires c κs = search needs
 
--- src/lib.rt:157:9
 returns-2 : tie.Need-returns-2
 returns-2 c =
     let p = c .before .before .before .before .before .pre in
     start-old _ _ _ _ _ _ (p .0) (p .2) _ _ (not-true _ (c .if2 .taken)) (c .before .fresh .ensures)
 
--- src/lib.rt:159:5
 begin-requires : tie.Need-begin-requires
 begin-requires c κs = search needs
 
--- src/lib.rt:149:1
 returns-3 : tie.Need-returns-3
 returns-3 c =
     let p = c .before .before .before .before .before .before .before .pre in

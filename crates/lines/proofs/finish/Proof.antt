@@ -1,43 +1,33 @@
+-- `lines::finish` meets its contract. Assumes nothing.
 use borrow.Author.Tests.{not-true, not-false}
 use Rattle.lines.proofs.Texts.{may-not-end, ends-inside-number, ends-after-line}
 use borrow.Author.Needs.{needs}
 use Rattle.lines.proofs.finish.Statement.{statement}
 use Rattle.lines.proofs.finish.Tie as tie
-use Rattle.lines.proofs.finish.Reads as reads
-use Rattle.lines.proofs.finish.Lts as lts
-use Rattle.lines.proofs.may_end.Reads as may-end-reads
 
--- src/lib.rt:91:9
 may-end-requires : tie.Need-may-end-requires
 may-end-requires c κs = search needs
 
--- src/lib.rt:92:9
 returns : tie.Need-returns
 returns c = may-not-end _ _ _ _ (c .before .before .before .pre) _ (c .before .may-end .ensures) (not-true _ (c .if1 .taken))
 
--- src/lib.rt:95:9
 mul-numbers : tie.Need-mul-numbers
 mul-numbers c = search needs
 
--- src/lib.rt:95:9
 slice-write-numbers : tie.Need-slice-write-numbers
 slice-write-numbers c = search needs
 
--- src/lib.rt:96:32
 add-t7 : tie.Need-add-t7
 add-t7 c = search needs
 
--- src/lib.rt:96:9
 same-length : tie.Need-same-length
 same-length c = search needs
 
--- src/lib.rt:96:9
 returns-2 : tie.Need-returns-2
 returns-2 c =
     ends-inside-number _ _ _ _ (c .before .before .before .before .pre) _ (c .before .before .may-end .ensures) (not-false _ (c .before .if1 .left))
     (c .if2 .taken)
 
--- src/lib.rt:87:1
 returns-3 : tie.Need-returns-3
 returns-3 c =
     ends-after-line _ _ _ _ (c .before .before .before .before .pre) _ (c .before .before .may-end .ensures) (not-false _ (c .before .if1 .left))

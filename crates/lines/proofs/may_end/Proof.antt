@@ -1,14 +1,11 @@
+-- `lines::may_end` meets its contract. Assumes nothing.
 use Rattle.lines.proofs.Scanning.{ends-inside, ends-between}
 use Rattle.lines.proofs.may_end.Statement.{statement}
 use Rattle.lines.proofs.may_end.Tie as tie
-use Rattle.lines.proofs.may_end.Reads as reads
-use Rattle.lines.proofs.may_end.Lts as lts
 
--- src/lib.rt:85:9
 returns : tie.Need-returns
 returns c = ends-inside _ _ _ (c .if1 .taken)
 
--- src/lib.rt:81:1
 returns-2 : tie.Need-returns-2
 returns-2 c = ends-between _ _ _ (c .if1 .left)
 
