@@ -39,6 +39,15 @@ class Readme(unittest.TestCase):
         last = [line for line in done.stdout.splitlines() if not line.startswith('make')][-1]
         self.assertTrue(last.startswith("8000 items received, each producer's in its order"), last)
 
+    def test_program(self):
+        """The program's first run as the README shows it."""
+        if not os.path.exists(os.path.join(ROOT, 'target', 'bin', 'intake')):
+            subprocess.run(['rt', 'check', 'intake'], cwd=ROOT, check=True, stdout=subprocess.DEVNULL)
+        self.assertIn('    target/bin/intake < crates/intake/stdin\n', readme())
+        done = subprocess.run('target/bin/intake < crates/intake/stdin', shell=True, cwd=ROOT, capture_output=True, text=True)
+        shown = [line[21:33].strip() for line in readme().split('crates/intake/stdin\n\n')[1].split('\n\n')[0].splitlines()]
+        self.assertEqual(done.stdout.splitlines(), shown)
+
     def test_verdict(self):
         """The verdict example as written; the program is built by the proofs that the gate has run."""
         command = re.search(r"    (printf .*\| target/bin/verdict)\n", readme()).group(1)

@@ -1,0 +1,30 @@
+-- `protocol::print_item` meets its contract: what the two writes leave, one after the other.
+use Rattle.text.specs.Laws.{wrote-append}
+use borrow.Author.Needs.{needs}
+use Rattle.protocol.proofs.print_item.Statement.{statement}
+use Rattle.protocol.proofs.print_item.Tie as tie
+
+slice-aggregate-write-bytes : tie.Need-slice-aggregate-write-bytes
+slice-aggregate-write-bytes c = search needs
+
+write-bytes-requires : tie.Need-write-bytes-requires
+write-bytes-requires c κs = search needs
+
+print-pair-requires : tie.Need-print-pair-requires
+print-pair-requires c κs = search needs
+
+same-length : tie.Need-same-length
+same-length c = search needs
+
+returns : tie.Need-returns
+returns c = wrote-append (c .before .before .before .before .before .before .write-bytes .ensures) (c .before .before .print-pair .ensures)
+
+pub print-item-spec : {M : Type 1} → statement M
+print-item-spec =
+    tie.close
+    (tie.spec
+    slice-aggregate-write-bytes
+    write-bytes-requires
+    print-pair-requires
+    same-length
+    returns)

@@ -1,0 +1,5 @@
+pub mod Words
+pub mod Line
+pub mod Printed
+pub mod Laws
+pub mod Runs

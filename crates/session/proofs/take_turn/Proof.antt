@@ -1,0 +1,128 @@
+-- `session::take_turn` meets its contract: in each case the turn of that line.
+use Rattle.rules.specs.Request.{startEnqueue, startDequeue, step}
+use Rattle.session.specs.Session.{opening, calling}
+use borrow.Author.Needs.{needs}
+use Rattle.session.proofs.take_turn.Statement.{statement}
+use Rattle.session.proofs.take_turn.Tie as tie
+
+enum-known-line : tie.Need-enum-known-line
+enum-known-line c = search needs
+
+open-turn-requires : tie.Need-open-turn-requires
+open-turn-requires c κs = search needs
+
+same-length : tie.Need-same-length
+same-length c = search needs
+
+same-length-2 : tie.Need-same-length-2
+same-length-2 c = search needs
+
+returns : tie.Need-returns
+returns c =
+    let g = c .before .before .before .before .before .before .before .before .line .given .0 in
+    (opening (record { B = g .0; N = g .1 .0; P = g .1 .1 .0; M = g .1 .1 .1 .0 }), rw (c .before .before .before .before .before .before .before .before .line .given .1), c .before .before .before .before .open-turn .ensures (c .before .before .before .before .before .before .before .before .before .before .before .before .before .args .history .now))
+
+enum-known-line-2 : tie.Need-enum-known-line-2
+enum-known-line-2 c = search needs
+
+enqueue-turn-requires : tie.Need-enqueue-turn-requires
+enqueue-turn-requires c κs = search needs
+
+same-length-3 : tie.Need-same-length-3
+same-length-3 c = search needs
+
+same-length-4 : tie.Need-same-length-4
+same-length-4 c = search needs
+
+same-length-5 : tie.Need-same-length-5
+same-length-5 c = search needs
+
+returns-2 : tie.Need-returns-2
+returns-2 c =
+    let g = c .before .before .before .before .before .before .before .before .before .before .before .line2 .given .0 in
+    (calling (startEnqueue (g .0) (g .1 .0)), rw (c .before .before .before .before .before .before .before .before .before .before .before .line2 .given .1), c .before .before .before .before .before .before .enqueue-turn .ensures)
+
+enum-told : tie.Need-enum-told
+enum-told c = search needs
+
+dequeue-turn-requires : tie.Need-dequeue-turn-requires
+dequeue-turn-requires c κs = search needs
+
+same-length-6 : tie.Need-same-length-6
+same-length-6 c = search needs
+
+same-length-7 : tie.Need-same-length-7
+same-length-7 c = search needs
+
+same-length-8 : tie.Need-same-length-8
+same-length-8 c = search needs
+
+returns-3 : tie.Need-returns-3
+returns-3 c = (calling startDequeue, rw (c .before .before .before .before .before .before .before .before .before .before .enum-told .given .1), c .before .before .before .before .before .before .dequeue-turn .ensures)
+
+enum-known-line-3 : tie.Need-enum-known-line-3
+enum-known-line-3 c = search needs
+
+step-turn-requires : tie.Need-step-turn-requires
+step-turn-requires c κs = search needs
+
+same-length-9 : tie.Need-same-length-9
+same-length-9 c = search needs
+
+same-length-10 : tie.Need-same-length-10
+same-length-10 c = search needs
+
+same-length-11 : tie.Need-same-length-11
+same-length-11 c = search needs
+
+returns-4 : tie.Need-returns-4
+returns-4 c =
+    (calling (step (c .before .before .before .before .before .before .before .before .before .before .before .line3 .given .0 .0)), rw (c .before .before .before .before .before .before .before .before .before .before .before .line3 .given .1), c .before .before .before .before .before .before .step-turn .ensures)
+
+enum-told-2 : tie.Need-enum-told-2
+enum-told-2 c = search needs
+
+slice-aggregate-write-bytes : tie.Need-slice-aggregate-write-bytes
+slice-aggregate-write-bytes c = search needs
+
+write-bytes-requires : tie.Need-write-bytes-requires
+write-bytes-requires c κs = search needs
+
+same-length-12 : tie.Need-same-length-12
+same-length-12 c = search needs
+
+returns-5 : tie.Need-returns-5
+returns-5 c = (rw (c .before .before .before .before .before .enum-told2 .given .1), c .before .before .write-bytes .ensures)
+
+pub take-turn-spec : {M : Type 1} → statement M
+take-turn-spec =
+    tie.close
+    (tie.spec
+    enum-known-line
+    open-turn-requires
+    same-length
+    same-length-2
+    returns
+    enum-known-line-2
+    enqueue-turn-requires
+    same-length-3
+    same-length-4
+    same-length-5
+    returns-2
+    enum-told
+    dequeue-turn-requires
+    same-length-6
+    same-length-7
+    same-length-8
+    returns-3
+    enum-known-line-3
+    step-turn-requires
+    same-length-9
+    same-length-10
+    same-length-11
+    returns-4
+    enum-told-2
+    slice-aggregate-write-bytes
+    write-bytes-requires
+    same-length-12
+    returns-5)

@@ -1,0 +1,12 @@
+pub mod Session
+pub mod Events
+pub mod EventLaws
+pub mod Turns
+pub mod TurnLaws
+pub mod LoopLaws
+pub mod Verdicts
+pub mod Reading
+pub mod Reaching
+pub mod RunLaws
+pub mod Few
+pub mod Runs

@@ -1,0 +1,230 @@
+-- Whatever was reached has a history that is well-formed and explained, by demand 3, and whose enqueues have a producer's
+-- thread and a call number.
+use mathlib.Core.Path.{_≡_, refl, ap, sym, _∙_, subst}
+use mathlib.Core.Bool.{Bool, true, false, _&&_, _||_, not, cond, true≢false}
+use mathlib.Core.List.{List, [], _∷_, _++_}
+use mathlib.Core.Option.{Option, none, some}
+use Prim.Native.Nat.{ℕ, zero, suc, _+_, _≤_}
+use native.Mathlib.Omega.{arith}
+use lib.Dec.{leb, ltb, eqb}
+use lib.ListN.{length, getD, replicate, length-replicate}
+use borrow.Author.Tests.{le-ltb, le-leb, ltb-false, leb-true, eqb-false, not-false}
+use Rattle.history.specs.Event.{Event, History, isProducer, enqueueStarted, enqueueEnded, dequeueStarted, gaveItem, gaveEmpty}
+use Rattle.history.specs.Form.{wellFormed}
+use Rattle.history.specs.Linearization.{Linearizable}
+use Rattle.criterion.specs.Explained.{Explained}
+use Rattle.criterion.specs.Criterion.{criterion}
+use Rattle.rules.specs.Sizes.{Sizes, between, sizesInRange, storeWords}
+use Rattle.rules.specs.Cell.{Reader, reader, starts, phase}
+use Rattle.rules.specs.Address.{both}
+use Rattle.rules.specs.Range.{inRange}
+use Rattle.rules.specs.Free.{Picker, lowestFree}
+use Rattle.rules.specs.Pick.{lowest-free-picks}
+use Rattle.rules.specs.Rule.{Answer, refuse, reply, Reply, Response, refused, accepted, ok, started, going, ended, empty, item}
+use Rattle.rules.specs.Refusal.{accepted-not-refused}
+use Rattle.rules.specs.Request.{Result, Request, startEnqueue, startDequeue, step, applied, open-store, opened, startingEnqueue, answer, sizesOf, admitted, result}
+use Rattle.rules.specs.Play.{Played, events, endOfEnqueue, playOne, play}
+use Rattle.ordering.specs.Good.{by-cond}
+use Rattle.ordering.specs.Demand.{Ordered}
+use Rattle.ordering.specs.Theorem.{demand-3}
+use Rattle.protocol.specs.declared.Line.{Line}
+use Rattle.protocol.specs.declared.Line.the-variants.{Open, Enqueue, Dequeue, Step, Bad}
+use Rattle.session.specs.Session.{blank, Session, start, Turn, reopened, openTurn, callTurn, opening, calling, callOf}
+use Rattle.session.specs.Turns.{Reached, begun, turned}
+use Rattle.session.specs.Reading.{Names, Named}
+
+abbrev picks : ℕ → Picker
+picks k = lowestFree
+
+-- an opened store, and what stands after some calls on it
+abbrev from : Sizes → List ℕ → Played
+from z m = record { words = open-store z m .words; replies = []; history = [] }
+
+abbrev after : Sizes → List ℕ → List Request → Played
+after z m qs = play picks qs (from z m)
+
+-- What was reached: nothing was opened yet, or some calls followed an accepted open.
+data Past : Session → Type 0 where
+  unopened : {x : Session} → x .words ≡ blank → x .history ≡ [] → Past x
+  played : {x : Session} (z : Sizes) (m : List ℕ) (qs : List Request) → open-store z m .reply ≡ accepted ok → x .words ≡ after z m qs .words → x .history ≡ after z m qs .history → Past x
+
+-- one call more
+play-more : (qs : List Request) (q : Request) (p : Played) → play picks (qs ++ (q ∷ [])) p ≡ playOne lowestFree q (play picks qs p)
+unfolding play
+play-more [] q p = refl
+play-more (r ∷ qs) q p = play-more qs q (playOne lowestFree r p)
+
+-- words that no open wrote
+unopened-refused : (q : Request) (m : List ℕ) → 16 ≤ length m → getD m 0 0 ≡ 0 → result lowestFree q m ≡ record { reply = refused 3; words = m }
+unfolding result admitted applied
+unopened-refused q m l e = simp (le-ltb (length m) 16 l, e)
+
+blank-length : 16 ≤ length blank
+unfolding blank
+blank-length = rw length-replicate (omega arith)
+
+blank-first : getD blank 0 0 ≡ 0
+unfolding blank
+blank-first = refl
+
+call-past : (q : Request) (x : Session) → Past x → Past (calling q x .session)
+unfolding calling
+call-past q x (unopened w e) =
+    let f = unopened-refused q (x .words) (rw w blank-length) (rw w blank-first) in
+    subst (λ (r : Result). Past (callTurn q r (x .history) .session)) (sym f) (unopened w e)
+call-past q x (played z m qs o w e) =
+    let f = play-more qs q (from z m) in
+    played {x = calling q x .session} z m (qs ++ (q ∷ [])) o
+    (ap (λ (y : List ℕ). result lowestFree q y .words) w ∙ ap (λ (p : Played). p .words) (sym f))
+    (rw (w, e) (ap (λ (p : Played). p .history) (sym f)))
+
+open-past : (z : Sizes) (x : Session) → Past x → Past (opening z x .session)
+unfolding opening open-store play
+open-past z x p = go (sizesInRange z) refl (ltb (length (x .words)) 16 || ltb (length (x .words)) (storeWords z)) refl
+  where
+    answered : Bool → Bool → Result
+    answered a b =
+        cond (not a) (record { reply = refused 1; words = x .words })
+        (cond b (record { reply = refused 2; words = x .words }) (record { reply = accepted ok; words = opened z (x .words) }))
+
+    go : (a : Bool) → sizesInRange z ≡ a → (b : Bool) → (ltb (length (x .words)) 16 || ltb (length (x .words)) (storeWords z)) ≡ b → Past (openTurn (answered a b) (x .history) .session)
+    go false e b f = p
+    go true e true f = p
+    go true e false f =
+        let o : open-store z (x .words) ≡ record { reply = accepted ok; words = opened z (x .words) } = rw (e, f) in
+        played z (x .words) [] (ap (λ (r : Result). r .reply) o) (sym (ap (λ (r : Result). r .words) o)) refl
+
+-- What holds of the beginning, and after every call of what it held of, holds of all that was reached.
+module _ (P : Session → Type 0) (first : P start) (opens : (z : Sizes) (x : Session) → P x → P (opening z x .session)) (calls : (q : Request) (x : Session) → P x → P (calling q x .session)) where
+  by-call : (line : Line) (call : Session → Turn) → callOf line ≡ some call → (x : Session) → P x → P (call x .session)
+  by-call (Open b n p m) call c x h =
+      let z : Sizes = record { B = b; N = n; P = p; M = m } in
+      let e : opening z ≡ call = cc in
+      subst (λ (f : Session → Turn). P (f x .session)) e (opens z x h)
+  by-call (Enqueue t v) call c x h =
+      let e : calling (startEnqueue t v) ≡ call = cc in
+      subst (λ (f : Session → Turn). P (f x .session)) e (calls (startEnqueue t v) x h)
+  by-call Dequeue call c x h =
+      let e : calling startDequeue ≡ call = cc in
+      subst (λ (f : Session → Turn). P (f x .session)) e (calls startDequeue x h)
+  by-call (Step t) call c x h =
+      let e : calling (step t) ≡ call = cc in
+      subst (λ (f : Session → Turn). P (f x .session)) e (calls (step t) x h)
+  by-call Bad call c x h = let z : _≡_ {A = ℕ} 0 1 = cc in absurd (omega arith)
+
+  by-reached : {x : Session} → Reached x → P x
+  by-reached begun = first
+  by-reached (turned {x} r line call c) = by-call line call c x (by-reached r)
+
+-- Demand 3.
+past-formed : (x : Session) → Past x → (wellFormed (x .history) ≡ true) × Explained (x .history)
+past-formed x (unopened w e) = rw e (refl, tt)
+past-formed x (played z m qs o w e) =
+    let d = demand-3 z m qs picks o (λ k. lowest-free-picks) in
+    rw e (d .formed, criterion (after z m qs .history) (d .formed) .1 (d .linearizable))
+
+pub reached-formed : {x : Session} → Reached x → (wellFormed (x .history) ≡ true) × Explained (x .history)
+reached-formed {x} r = past-formed x (by-reached Past (unopened refl refl) open-past call-past r)
+
+neither : (a b : Bool) → (a || b) ≡ false → (a ≡ false) × (b ≡ false)
+neither true b e = absurd (true≢false e)
+neither false b e = (refl, e)
+
+positive : (t : ℕ) → (t ≡ 0 → ⊥) → 1 ≤ t
+positive zero f = absurd (f refl)
+positive (suc t) f = omega arith
+
+most-producers : (z : Sizes) → sizesInRange z ≡ true → z .P ≤ 16
+most-producers z e =
+    let p = both (between 2 64 (z .B) && between 2 64 (z .N) && between 1 16 (z .P)) (between 1 1000000 (z .M)) e in
+    let q = both (between 2 64 (z .B) && between 2 64 (z .N)) (between 1 16 (z .P)) (p .0) in
+    leb-true (z .P) 16 (both (leb 1 (z .P)) (leb (z .P) 16) (q .1) .1)
+
+-- An accepted start enqueue has a producer's thread, and gives a call number.
+module _ (t v n : ℕ) (m : List ℕ) where
+  abbrev z : Sizes
+  z = sizesOf m
+
+  abbrev σ : Reader
+  σ = reader z m
+
+  abbrev P : Answer → Type 0
+  P a = applied z m a .reply ≡ accepted (started n) → Names t n
+
+  no : {k : ℕ} → refused k ≡ accepted (started n) → Names t n
+  no e = absurd (accepted-not-refused (sym e))
+
+  producer : sizesInRange z ≡ true → (eqb t 0 ≡ false) × (ltb (z .P) t ≡ false) → isProducer t ≡ true
+  producer s b =
+      let l = most-producers z s in
+      let g = ltb-false (z .P) t (b .1) in
+      simp (le-leb 1 t (positive t (eqb-false t 0 (b .0))), le-leb t 16 (omega arith))
+
+  number : {k : ℕ} → accepted (started (suc k)) ≡ accepted (started n) → leb 1 n ≡ true
+  number {k} e = let q : n ≡ suc k = cc in le-leb 1 n (omega arith)
+
+  started-names : result lowestFree (startEnqueue t v) m .reply ≡ accepted (started n) → Names t n
+  unfolding result admitted answer startingEnqueue applied
+  started-names =
+      by-cond P (ltb (length m) 16) (refuse 2) _ (λ _. no) λ _. by-cond P (not (sizesInRange z)) (refuse 3) _ (λ _. no) λ s.
+      by-cond P (ltb (length m) (storeWords z)) (refuse 2) _ (λ _. no) λ _. by-cond P (not (inRange z σ)) (refuse 3) _ (λ _. no) λ _.
+      by-cond P (eqb t 0 || ltb (z .P) t) (refuse 4) _ (λ _. no) λ b. by-cond P (not (eqb (σ (phase t)) 0)) (refuse 5) _ (λ _. no) λ _.
+      by-cond P (eqb (σ starts) (z .M)) (refuse 6) _ (λ _. no) λ _ e.
+      (producer (not-false (sizesInRange z) s) (neither (eqb t 0) (ltb (z .P) t) b), number e)
+
+-- the end of an enqueue repeats its start's words
+end-named : (t : ℕ) (h g : History) → Named h → Named g → Named (endOfEnqueue t h ++ g)
+end-named t [] g a b = b
+end-named t (enqueueStarted u n v ∷ h) g a b = go (eqb u t) (end-named t h g (a .1) b)
+  where
+    go : (x : Bool) → Named (endOfEnqueue t h ++ g) → Named (elim x [ true ↦ enqueueEnded u n v ∷ [] | false ↦ endOfEnqueue t h ] ++ g)
+    go true i = (a .0, b)
+    go false i = i
+end-named t (enqueueEnded u n v ∷ h) g a b = end-named t h g (a .1) b
+end-named t (dequeueStarted ∷ h) g a b = end-named t h g a b
+end-named t (gaveItem n v ∷ h) g a b = end-named t h g a b
+end-named t (gaveEmpty ∷ h) g a b = end-named t h g a b
+
+call-named : (q : Request) (x : Session) → Named (x .history) → Named (calling q x .session .history)
+unfolding calling
+call-named (startEnqueue t v) x a = go (result lowestFree (startEnqueue t v) (x .words) .reply) refl
+  where
+    go : (r : Response) → result lowestFree (startEnqueue t v) (x .words) .reply ≡ r → Named (events (startEnqueue t v) (x .history) r ++ x .history)
+    go (refused n) e = a
+    go (accepted ok) e = a
+    go (accepted (started n)) e = (started-names t v n (x .words) e, a)
+    go (accepted going) e = a
+    go (accepted ended) e = a
+    go (accepted empty) e = a
+    go (accepted (item n w)) e = a
+call-named startDequeue x a = go (result lowestFree startDequeue (x .words) .reply)
+  where
+    go : (r : Response) → Named (events startDequeue (x .history) r ++ x .history)
+    go (refused n) = a
+    go (accepted ok) = a
+    go (accepted (started n)) = a
+    go (accepted going) = a
+    go (accepted ended) = a
+    go (accepted empty) = a
+    go (accepted (item n w)) = a
+call-named (step t) x a = go (result lowestFree (step t) (x .words) .reply)
+  where
+    go : (r : Response) → Named (events (step t) (x .history) r ++ x .history)
+    go (refused n) = a
+    go (accepted ok) = a
+    go (accepted (started n)) = a
+    go (accepted going) = a
+    go (accepted ended) = end-named t (x .history) (x .history) a a
+    go (accepted empty) = a
+    go (accepted (item n w)) = a
+
+open-named : (z : Sizes) (x : Session) → Named (x .history) → Named (opening z x .session .history)
+unfolding opening
+open-named z x a = go (open-store z (x .words) .reply)
+  where
+    go : (r : Response) → Named (reopened r (x .history))
+    go (refused n) = a
+    go (accepted r) = tt
+
+pub reached-named : {x : Session} → Reached x → Named (x .history)
+reached-named r = by-reached (λ x. Named (x .history)) tt open-named call-named r

@@ -1,0 +1,84 @@
+-- What the program prints, from the bytes that it reads (document 01, "Program").
+use mathlib.Core.Bool.{Bool, cond}
+use mathlib.Core.List.{List, [], _∷_, _++_}
+use mathlib.Core.Option.{Option, none, some}
+use Prim.Native.Nat.{ℕ}
+use lib.Dec.{ltb}
+use lib.ListN.{length, replicate}
+use Rattle.history.specs.Event.{History}
+use Rattle.criterion.specs.Pass.{explains}
+use Rattle.rules.specs.Sizes.{Sizes}
+use Rattle.rules.specs.Free.{lowestFree}
+use Rattle.rules.specs.Rule.{Response, refused, accepted}
+use Rattle.rules.specs.Request.{Result, Request, startEnqueue, startDequeue, step, open-store, result}
+use Rattle.rules.specs.Play.{events}
+use Rattle.protocol.specs.declared.Line.{Line}
+use Rattle.protocol.specs.declared.Line.the-variants.{Open, Enqueue, Dequeue, Step, Bad}
+use Rattle.protocol.specs.Words.{badLine, tooLongLine}
+use Rattle.protocol.specs.Line.{linesOf, parseLine}
+use Rattle.protocol.specs.Printed.{printed, printedVerdict}
+
+-- the most bytes that are read
+abbrev pub mostInput : ℕ
+mostInput = 8192
+
+-- the words of the store, as many as the largest sizes need
+abbrev pub mostWords : ℕ
+mostWords = 12696
+
+-- What stands between two lines: the words of the store, and the history since the last accepted open, or no events if there was
+-- none. The newest event comes first.
+pub record Session : Type 0 where
+  pub words : List ℕ
+  pub history : History
+
+-- Before any open the words are zero.
+unfoldable pub blank : List ℕ
+blank = replicate mostWords 0
+
+abbrev pub start : Session
+start = record { words = blank; history = [] }
+
+-- What a call replies, and what stands after it.
+pub record Turn : Type 0 where
+  pub reply : Response
+  pub session : Session
+
+-- An accepted open begins a new history.
+abbrev pub reopened : Response → History → History
+reopened (refused n) h = h
+reopened (accepted r) h = []
+
+abbrev pub openTurn : Result → History → Turn
+openTurn r h = record { reply = r .reply; session = record { words = r .words; history = reopened (r .reply) h } }
+
+abbrev pub callTurn : Request → Result → History → Turn
+callTurn q r h = record { reply = r .reply; session = record { words = r .words; history = events q h (r .reply) ++ h } }
+
+unfoldable pub opening : Sizes → Session → Turn
+opening z x = openTurn (open-store z (x .words)) (x .history)
+
+unfoldable pub calling : Request → Session → Turn
+calling q x = callTurn q (result lowestFree q (x .words)) (x .history)
+
+-- The call that a line asks for; a bad line asks for none.
+abbrev pub callOf : Line → Option (Session → Turn)
+callOf (Open b n p m) = some (opening (record { B = b; N = n; P = p; M = m }))
+callOf (Enqueue t v) = some (calling (startEnqueue t v))
+callOf Dequeue = some (calling startDequeue)
+callOf (Step t) = some (calling (step t))
+callOf Bad = none
+
+-- A call prints its reply, and the lines after it go on with what stands then. A bad line prints `bad line` and nothing after it.
+abbrev pub runLine : Option (Session → Turn) → Session → (Session → List ℕ) → List ℕ
+runLine none x rest = badLine
+runLine (some call) x rest = printed (call x .reply) ++ rest (call x .session)
+
+-- The lines in turn; after the last, the judge's word on the history.
+unfoldable pub runLines : List (List ℕ) → Session → List ℕ
+runLines [] x = printedVerdict (explains (x .history))
+runLines (l ∷ ls) x = runLine (callOf (parseLine l)) x (runLines ls)
+
+-- Longer input prints `too long` only.
+unfoldable pub output : List ℕ → List ℕ
+output input = cond (ltb mostInput (length input)) tooLongLine (runLines (linesOf input) start)

@@ -1,0 +1,62 @@
+-- Laws of turns: a call of the engine, recorded and printed, is a turn.
+use mathlib.Core.Path.{_≡_, refl, ap, sym, _∙_, subst}
+use mathlib.Core.List.{List, [], _∷_, _++_}
+use Prim.Native.Nat.{ℕ, _+_, _*_, _≤_}
+use native.Mathlib.Omega.{arith}
+use lib.ListN.{length, take}
+use Rattle.history.specs.Event.{History}
+use Rattle.rules.specs.Sizes.{Sizes}
+use Rattle.rules.specs.Free.{lowestFree}
+use Rattle.rules.specs.Rule.{Response, refused, accepted}
+use Rattle.rules.specs.Request.{Result, Request, open-store, result}
+use Rattle.rules.specs.Play.{events}
+use Rattle.store.specs.declared.Reply.{Reply}
+use Rattle.store.specs.Outcome.{response, left}
+use Rattle.text.specs.Wrote.{Wrote}
+use Rattle.protocol.specs.Printed.{printed}
+use Rattle.protocol.specs.Laws.{length-printed}
+use Rattle.session.specs.declared.Place.{Place}
+use Rattle.session.specs.declared.Noted.{Noted}
+use Rattle.session.specs.Session.{Session, Turn, reopened, openTurn, callTurn, opening, calling}
+use Rattle.session.specs.Events.{Recorded, notedEvents, Records}
+use Rattle.session.specs.Turns.{Stands, Turned}
+
+module _ {store history out store′ out′ : List ℕ} {at next : Place} (reply : Reply) (writes : Wrote out (at .bytes) (printed (response reply)) out′ (next .bytes)) where
+  -- a start or a step
+  module _ {history′ : List ℕ} (q : Request) (noted : Noted) (does : left reply store′ ≡ result lowestFree q store) (adds : (h : History) → notedEvents noted h ≡ events q h (response reply)) (records : Records (notedEvents noted) history (at .events) history′ (next .events)) where
+    call-is : (x : Session) → Stands x store history (at .events) → calling q x ≡ callTurn q (left reply store′) (x .history)
+    unfolding calling
+    call-is x s = ap (λ (w : List ℕ). callTurn q (result lowestFree q w) (x .history)) (s .words-are) ∙ ap (λ (r : Result). callTurn q r (x .history)) (sym does)
+
+    pub call-turned : Turned (calling q) store history out at store′ history′ out′ next
+    call-turned =
+        record {
+          stands =
+              λ x s. subst (λ (t : Turn). Stands (t .session) store′ history′ (next .events)) (sym (call-is x s))
+              (record {
+                words-are = refl;
+                recorded =
+                    subst (λ (g : History). Recorded history′ (next .events) (g ++ x .history)) (adds (x .history))
+                    (records .events (x .history) (s .recorded));
+              });
+          prints = λ x s. subst (λ (t : Turn). Wrote out (at .bytes) (printed (t .reply)) out′ (next .bytes)) (sym (call-is x s)) writes;
+          most = records .most;
+          short = omega (arith, writes .next-is, length-printed (response reply));
+        }
+
+  -- an open
+  module _ (z : Sizes) (does : left reply store′ ≡ open-store z store) (keeps : (b : List ℕ) (h : History) → Recorded b (at .events) h → Recorded b (next .events) (reopened (response reply) h)) (few : next .events ≤ at .events) where
+    open-is : (x : Session) → Stands x store history (at .events) → opening z x ≡ openTurn (left reply store′) (x .history)
+    unfolding opening
+    open-is x s = ap (λ (w : List ℕ). openTurn (open-store z w) (x .history)) (s .words-are) ∙ ap (λ (r : Result). openTurn r (x .history)) (sym does)
+
+    pub open-turned : Turned (opening z) store history out at store′ history out′ next
+    open-turned =
+        record {
+          stands =
+              λ x s. subst (λ (t : Turn). Stands (t .session) store′ history (next .events)) (sym (open-is x s))
+              (record { words-are = refl; recorded = keeps history (x .history) (s .recorded) });
+          prints = λ x s. subst (λ (t : Turn). Wrote out (at .bytes) (printed (t .reply)) out′ (next .bytes)) (sym (open-is x s)) writes;
+          most = omega arith;
+          short = omega (arith, writes .next-is, length-printed (response reply));
+        }

@@ -1,0 +1,350 @@
+// What the program prints, from the bytes that it reads.
+use judge::Verdict;
+use protocol::Line;
+use store::Reply;
+use store::Shape;
+ghost use mathlib.Core.Path.{_≡_};
+ghost use mathlib.Core.List.{List, [], _∷_};
+ghost use Prim.Native.Nat.{ℕ, _+_, _*_, _≤_};
+ghost use mathlib.Core.Bool.{true};
+ghost use lib.ListN.{length, take};
+ghost use lib.Seq.{sets};
+ghost use Rattle.history.specs.Event.{History};
+ghost use Rattle.history.specs.Form.{wellFormed, history, read};
+ghost use Rattle.criterion.specs.Pass.{explains};
+ghost use Rattle.rules.specs.Request.{startEnqueue, startDequeue, step};
+ghost use Rattle.rules.specs.Play.{events, endOfEnqueue};
+ghost use Rattle.store.specs.Outcome.{response};
+ghost use Rattle.store.specs.Shape.{sizes};
+ghost use Rattle.text.specs.Wrote.{Wrote};
+ghost use Rattle.protocol.specs.Printed.{printed, mostPrinted, printedVerdict};
+ghost use Rattle.session.specs.Session.{mostInput, reopened, opening, calling, output};
+ghost use Rattle.session.specs.Events.{Recorded, startFound, notedEvents, Records};
+ghost use Rattle.session.specs.Turns.{Turned, Answers, Ran, mostOutput};
+
+// What a call adds to the history: nothing, an enqueue's start or its end, a dequeue's start, its item or that it is empty.
+pub enum Noted {
+    Nothing,
+    Started(u32, u32, u32),
+    Ended(u32),
+    DequeueStarted,
+    Item(u32, u32),
+    Empty,
+}
+
+// Where a thread's last start is in the history.
+pub enum Found {
+    At(usize),
+    Missing,
+}
+
+// Where the next event and the next printed byte go.
+pub struct Place {
+    pub events: usize,
+    pub bytes: usize,
+}
+
+// What a line leaves: the run stops, and the output ends at a position; or it goes on.
+pub enum Next {
+    Stop(usize),
+    On(Place),
+}
+
+// What a start enqueue of thread t with value v adds.
+fn note_enqueue(t: u32, v: u32, reply: Reply) -> Noted
+    ensures { λ r. ⌜ ((h : History) → notedEvents r h ≡ events (startEnqueue t v) h (response reply)) ⌝ }
+{
+    match reply {
+        Reply::Refused(_) => Noted::Nothing,
+        Reply::Ok => Noted::Nothing,
+        Reply::Started(n) => Noted::Started(t, n, v),
+        Reply::Going => Noted::Nothing,
+        Reply::Ended => Noted::Nothing,
+        Reply::Empty => Noted::Nothing,
+        Reply::Item(_, _) => Noted::Nothing,
+    }
+}
+
+// What a start dequeue adds.
+fn note_dequeue(reply: Reply) -> Noted
+    ensures { λ r. ⌜ ((h : History) → notedEvents r h ≡ events startDequeue h (response reply)) ⌝ }
+{
+    match reply {
+        Reply::Refused(_) => Noted::Nothing,
+        Reply::Ok => Noted::DequeueStarted,
+        Reply::Started(_) => Noted::Nothing,
+        Reply::Going => Noted::Nothing,
+        Reply::Ended => Noted::Nothing,
+        Reply::Empty => Noted::Nothing,
+        Reply::Item(_, _) => Noted::Nothing,
+    }
+}
+
+// What a step of thread t adds.
+fn note_step(t: u32, reply: Reply) -> Noted
+    ensures { λ r. ⌜ ((h : History) → notedEvents r h ≡ events (step t) h (response reply)) ⌝ }
+{
+    match reply {
+        Reply::Refused(_) => Noted::Nothing,
+        Reply::Ok => Noted::Nothing,
+        Reply::Started(_) => Noted::Nothing,
+        Reply::Going => Noted::Nothing,
+        Reply::Ended => Noted::Ended(t),
+        Reply::Empty => Noted::Empty,
+        Reply::Item(n, v) => Noted::Item(n, v),
+    }
+}
+
+// The last start of thread t among the first k events.
+fn find_start(history: &[u32], k: usize, t: u32) -> Found
+    requires { ⌜ k * 4 ≤ length (now history) ⌝ }
+    ensures { λ r. ⌜ r ≡ startFound (now (history .entry)) t k ⌝ }
+{
+    let mut i = k;
+    while 0 < i {
+        i -= 1;
+        if (history[i * 4] == 1) & (history[i * 4 + 1] == t) {
+            return Found::At(i);
+        }
+    }
+    Found::Missing
+}
+
+// Adds an event of four words after k events, and answers how many there are then.
+fn add_event(
+    history: &mut [u32],
+    k: usize,
+    kind: u32,
+    thread: u32,
+    number: u32,
+    value: u32,
+) -> usize
+    requires { ⌜ k * 4 + 4 ≤ length (now history) ⌝ }
+    ensures { λ r. ⌜ (r ≡ k + 1) × (now (history .exit) ≡ sets (now (history .entry)) (k * 4) (kind ∷ thread ∷ number ∷ value ∷ [])) ⌝ }
+{
+    let at = k * 4;
+    history[at] = kind;
+    history[at + 1] = thread;
+    history[at + 2] = number;
+    history[at + 3] = value;
+    k + 1
+}
+
+// Adds the end of thread t's last enqueue, which repeats its start's words.
+fn add_end(history: &mut [u32], k: usize, t: u32) -> usize
+    requires { ⌜ k * 4 + 4 ≤ length (now history) ⌝ }
+    ensures { λ r. ⌜ Records (endOfEnqueue t) (now (history .entry)) k (now (history .exit)) r ⌝ }
+{
+    let found = find_start(history, k, t);
+    match found {
+        Found::Missing => {
+            return k;
+        }
+        Found::At(i) => {
+            let number = history[i * 4 + 2];
+            let value = history[i * 4 + 3];
+            return add_event(history, k, 2, t, number, value);
+        }
+    }
+}
+
+// Adds what a call adds.
+fn add_noted(history: &mut [u32], k: usize, noted: Noted) -> usize
+    requires { ⌜ k * 4 + 4 ≤ length (now history) ⌝ }
+    ensures { λ r. ⌜ Records (notedEvents noted) (now (history .entry)) k (now (history .exit)) r ⌝ }
+{
+    match noted {
+        Noted::Nothing => {
+            return k;
+        }
+        Noted::Started(t, n, v) => {
+            return add_event(history, k, 1, t, n, v);
+        }
+        Noted::Ended(t) => {
+            return add_end(history, k, t);
+        }
+        Noted::DequeueStarted => {
+            return add_event(history, k, 3, 0, 0, 0);
+        }
+        Noted::Item(n, v) => {
+            return add_event(history, k, 4, 0, n, v);
+        }
+        Noted::Empty => {
+            return add_event(history, k, 5, 0, 0, 0);
+        }
+    }
+}
+
+// Records what a call adds, and prints its reply.
+fn finish(history: &mut [u32], out: &mut [u8], at: Place, noted: Noted, reply: Reply) -> Place
+    requires { ⌜ at .events * 4 + 4 ≤ length (now history) ⌝ }
+    requires { ⌜ at .bytes + mostPrinted ≤ length (now out) ⌝ }
+    ensures { λ r. ⌜ Records (notedEvents noted) (now (history .entry)) (at .events) (now (history .exit)) (r .events) × Wrote (now (out .entry)) (at .bytes) (printed (response reply)) (now (out .exit)) (r .bytes) ⌝ }
+{
+    let events = add_noted(history, at.events, noted);
+    let bytes = protocol::print_reply(out, at.bytes, reply);
+    Place { events, bytes }
+}
+
+// How many events there are after an open: none, if it was accepted.
+fn reopen(k: usize, reply: Reply) -> usize
+    ensures { λ r. ⌜ ((b : List ℕ) (h : History) → Recorded b k h → Recorded b r (reopened (response reply) h)) × (r ≤ k) ⌝ }
+{
+    match reply {
+        Reply::Refused(_) => k,
+        Reply::Ok => 0,
+        Reply::Started(_) => 0,
+        Reply::Going => 0,
+        Reply::Ended => 0,
+        Reply::Empty => 0,
+        Reply::Item(_, _) => 0,
+    }
+}
+
+fn open_turn(store: &mut [u32], out: &mut [u8], at: Place, z: Shape) -> Place
+    requires { ⌜ at .bytes + mostPrinted ≤ length (now out) ⌝ }
+    ensures { λ r. ⌜ ((history : List ℕ) → Turned (opening (sizes z)) (now (store .entry)) history (now (out .entry)) at (now (store .exit)) history (now (out .exit)) r) ⌝ }
+{
+    let reply = engine::open_store(store, z);
+    let events = reopen(at.events, reply);
+    let bytes = protocol::print_reply(out, at.bytes, reply);
+    Place { events, bytes }
+}
+
+fn enqueue_turn(
+    store: &mut [u32],
+    history: &mut [u32],
+    out: &mut [u8],
+    at: Place,
+    t: u32,
+    v: u32,
+) -> Place
+    requires { ⌜ at .events * 4 + 4 ≤ length (now history) ⌝ }
+    requires { ⌜ at .bytes + mostPrinted ≤ length (now out) ⌝ }
+    ensures { λ r. ⌜ Turned (calling (startEnqueue t v)) (now (store .entry)) (now (history .entry)) (now (out .entry)) at (now (store .exit)) (now (history .exit)) (now (out .exit)) r ⌝ }
+{
+    let reply = engine::start_enqueue(store, t, v);
+    let noted = note_enqueue(t, v, reply);
+    finish(history, out, at, noted, reply)
+}
+
+fn dequeue_turn(store: &mut [u32], history: &mut [u32], out: &mut [u8], at: Place) -> Place
+    requires { ⌜ at .events * 4 + 4 ≤ length (now history) ⌝ }
+    requires { ⌜ at .bytes + mostPrinted ≤ length (now out) ⌝ }
+    ensures { λ r. ⌜ Turned (calling startDequeue) (now (store .entry)) (now (history .entry)) (now (out .entry)) at (now (store .exit)) (now (history .exit)) (now (out .exit)) r ⌝ }
+{
+    let reply = engine::start_dequeue(store);
+    let noted = note_dequeue(reply);
+    finish(history, out, at, noted, reply)
+}
+
+fn step_turn(store: &mut [u32], history: &mut [u32], out: &mut [u8], at: Place, t: u32) -> Place
+    requires { ⌜ at .events * 4 + 4 ≤ length (now history) ⌝ }
+    requires { ⌜ at .bytes + mostPrinted ≤ length (now out) ⌝ }
+    ensures { λ r. ⌜ Turned (calling (step t)) (now (store .entry)) (now (history .entry)) (now (out .entry)) at (now (store .exit)) (now (history .exit)) (now (out .exit)) r ⌝ }
+{
+    let reply = engine::step(store, t);
+    let noted = note_step(t, reply);
+    finish(history, out, at, noted, reply)
+}
+
+// Does what a line asks.
+fn take_turn(store: &mut [u32], history: &mut [u32], out: &mut [u8], at: Place, line: Line) -> Next
+    requires { ⌜ at .events * 4 + 4 ≤ length (now history) ⌝ }
+    requires { ⌜ at .bytes + mostPrinted ≤ length (now out) ⌝ }
+    ensures { λ r. ⌜ Answers line (now (store .entry)) (now (history .entry)) (now (out .entry)) at (now (store .exit)) (now (history .exit)) (now (out .exit)) r ⌝ }
+{
+    match line {
+        Line::Open(entries, records, producers, starts) => {
+            let z = Shape {
+                entries,
+                records,
+                producers,
+                starts,
+            };
+            return Next::On(open_turn(store, out, at, z));
+        }
+        Line::Enqueue(t, v) => {
+            return Next::On(enqueue_turn(store, history, out, at, t, v));
+        }
+        Line::Dequeue => {
+            return Next::On(dequeue_turn(store, history, out, at));
+        }
+        Line::Step(t) => {
+            return Next::On(step_turn(store, history, out, at, t));
+        }
+        Line::Bad => {
+            return Next::Stop(text::write_bytes(out, at.bytes, b"bad line\n"));
+        }
+    }
+}
+
+// Runs the lines in turn.
+fn run_lines(input: &[u8], store: &mut [u32], history: &mut [u32], out: &mut [u8]) -> Next
+    requires { ⌜ length (now input) ≤ mostInput ⌝ }
+    requires { ⌜ 16384 ≤ length (now history) ⌝ }
+    requires { ⌜ mostOutput ≤ length (now out) ⌝ }
+    ensures { λ r. ⌜ Ran (now (input .entry)) (now (store .entry)) (now (history .entry)) (now (history .exit)) (now (out .exit)) r ⌝ }
+{
+    let mut at = 0;
+    let mut events = 0;
+    let mut bytes = 0;
+    while at < input.len() {
+        let end = protocol::line_end(input, at);
+        let line = protocol::parse_line(&input[at..end]);
+        let next = take_turn(store, history, out, Place { events, bytes }, line);
+        match next {
+            Next::Stop(last) => {
+                return Next::Stop(last);
+            }
+            Next::On(place) => {
+                events = place.events;
+                bytes = place.bytes;
+            }
+        }
+        at = end + 1;
+    }
+    Next::On(Place { events, bytes })
+}
+
+// Prints the judge's word on a history. The judge refuses no history of a run (specs/Reaching.antt).
+fn print_verdict(words: &[u32], out: &mut [u8], at: usize) -> usize
+    requires { ⌜ at + 12 ≤ length (now out) ⌝ }
+    ensures { λ r. ⌜ ((h : History) → wellFormed h ≡ true → read 4096 (now (words .entry)) ≡ history h → Wrote (now (out .entry)) at (printedVerdict (explains h)) (now (out .exit)) r) ⌝ }
+{
+    let mut table = [0u32; 16384];
+    let verdict = judge::judge_words(words, &mut table);
+    match verdict {
+        Verdict::Refused(_) => {
+            return at;
+        }
+        Verdict::Explained => {
+            return text::write_bytes(out, at, b"explained\n");
+        }
+        Verdict::Unexplained => {
+            return text::write_bytes(out, at, b"unexplained\n");
+        }
+    }
+}
+
+// What the program prints, from the bytes that it reads; the answer is how many bytes.
+pub fn run(input: &[u8], out: &mut [u8]) -> usize
+    requires { ⌜ mostOutput ≤ length (now out) ⌝ }
+    ensures { λ r. ⌜ (take r (now (out .exit)) ≡ output (now (input .entry))) × (r ≤ mostOutput) ⌝ }
+{
+    if 8192 < input.len() {
+        return text::write_bytes(out, 0, b"too long\n");
+    }
+    let mut store = [0u32; 12696];
+    let mut history = [0u32; 16384];
+    let next = run_lines(input, &mut store, &mut history, out);
+    match next {
+        Next::Stop(last) => {
+            return last;
+        }
+        Next::On(place) => {
+            let words = place.events * 4;
+            return print_verdict(&history[..words], out, place.bytes);
+        }
+    }
+}

@@ -1,0 +1,4 @@
+pub mod Decimal
+pub mod Wrote
+pub mod Laws
+pub mod ReadBack
