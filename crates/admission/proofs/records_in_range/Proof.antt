@@ -1,56 +1,53 @@
 -- `admission::records_in_range` meets its contract.
-use mathlib.Core.Path.{_≡_, refl}
-use Prim.Native.Nat.{_-_, _≤_}
-use native.Mathlib.Numerals.{add-one}
+use mathlib.Core.Path.{_≡_, refl, ap, sym, subst, _∙_}
+use Prim.Native.Nat.{ℕ, _+_, _*_, _≤_}
 use native.Mathlib.Omega.{arith}
-use Rattle.rules.specs.Cell.{reader}
-use Rattle.rules.specs.Range.{every, recordInRange}
+use lib.ListN.{length, replicate, length-replicate, getD-replicate}
+use borrow.Author.Needs.{needs}
+use Rattle.rules.specs.Sizes.{Sizes}
+use Rattle.store.specs.Caps.{mostWord}
 use Rattle.store.specs.Shape.{sizes}
+use Rattle.admission.specs.Bounds.{bounds, Bounded, bounded, length-row}
 use Rattle.admission.proofs.records_in_range.Statement.{statement}
 use Rattle.admission.proofs.records_in_range.Tie as tie
 
-abbrev Inv-loop : tie.InvT-loop
-Inv-loop s z b ok₀ r₀ ok r = (r ≤ z .records) × (every r (recordInRange (sizes z) (reader (sizes z) s)) ≡ ok)
+-- a row that allows any word
+allows : (w : ℕ) (z : Sizes) → 3 * z .B + 4 ≤ w → Bounded z (bounds (replicate w mostWord) z (z .B))
+allows w z l = bounded (replicate w mostWord) z (omega (arith, length-replicate w mostWord)) (λ j k. getD-replicate w j mostWord 0 (omega arith))
 
-abbrev μ-loop : tie.MeasureT-loop
-μ-loop s z b ok₀ r₀ ok r = z .records - r
+each-in-range-requires : tie.Need-each-in-range-requires
+each-in-range-requires c κs = search needs
 
-record-bounds-requires : tie.Need-record-bounds-requires Inv-loop μ-loop
-record-bounds-requires c κs = omega arith
+returns : tie.Need-returns
+returns c = c .each-in-range .ensures
 
-loop-holds : tie.Need-loop-holds Inv-loop μ-loop
-loop-holds c = (omega arith, refl)
+slice-aggregate-fill-bounds : tie.Need-slice-aggregate-fill-bounds
+slice-aggregate-fill-bounds c = refl
 
-record-in-range-requires : tie.Need-record-in-range-requires Inv-loop μ-loop
-record-in-range-requires c κs =
-    (c .before .before .before .before .before .before .pre, (omega arith, c .before .before .before .before .record-bounds .ensures))
+fill-bounds-requires : tie.Need-fill-bounds-requires
+fill-bounds-requires c κs = (omega arith, omega arith)
 
-add-r : tie.Need-add-r Inv-loop μ-loop
-add-r c = omega arith
+slice-aggregate-pairs-in-range : tie.Need-slice-aggregate-pairs-in-range
+slice-aggregate-pairs-in-range c =
+    let b = c .before .before .before .before .before .before .before in
+    sym (ap length (c .before .before .fill-bounds .ensures) ∙ length-row (replicate 196 mostWord) (sizes (b .args .z)) (b .args .z .entries))
 
-loop-less : tie.Need-loop-less Inv-loop μ-loop
-loop-less c = omega arith
+pairs-in-range-requires : tie.Need-pairs-in-range-requires
+pairs-in-range-requires c κs =
+    let b = c .before .before .before .before .before .before .before in
+    (b .pre, subst (Bounded (sizes (b .args .z))) (sym (c .before .before .fill-bounds .ensures)) (allows 196 (sizes (b .args .z)) (omega arith)))
 
-loop-again : tie.Need-loop-again Inv-loop μ-loop
-loop-again c =
-    let l = c .before .before .before .before .loop in
-    (omega arith, rw (add-one (l .r), l .inv .1, c .record-in-range .ensures) refl)
-
-returns : tie.Need-returns Inv-loop μ-loop
-returns c =
-    let e : c .before .before .loop .r ≡ c .before .before .before .before .before .args .z .records = omega arith in
-    rw e at (c .before .before .loop .inv .1)
+returns-2 : tie.Need-returns-2
+returns-2 c = c .pairs-in-range .ensures
 
 pub records-in-range-spec : {M : Type 1} → statement M
 records-in-range-spec =
     tie.close
     (tie.spec
-    Inv-loop
-    μ-loop
-    record-bounds-requires
-    loop-holds
-    record-in-range-requires
-    add-r
-    loop-less
-    loop-again
-    returns)
+    each-in-range-requires
+    returns
+    slice-aggregate-fill-bounds
+    fill-bounds-requires
+    slice-aggregate-pairs-in-range
+    pairs-in-range-requires
+    returns-2)

@@ -1,0 +1,60 @@
+-- `admission::parts_in_range` meets its contract.
+use mathlib.Core.Bool.{and-true}
+use mathlib.Core.Path.{refl}
+use native.Mathlib.Numerals.{unary-clauses}
+use native.Mathlib.Omega.{arith}
+use Rattle.admission.proofs.parts_in_range.Statement.{statement}
+use Rattle.admission.proofs.parts_in_range.Tie as tie
+
+mul-result : tie.Need-mul-result
+mul-result c = omega arith
+
+shared-slice-read-result : tie.Need-shared-slice-read-result
+shared-slice-read-result c = omega arith
+
+add-result : tie.Need-add-result
+add-result c = omega arith
+
+mul-result-2 : tie.Need-mul-result-2
+mul-result-2 c = omega arith
+
+shared-slice-read-result-2 : tie.Need-shared-slice-read-result-2
+shared-slice-read-result-2 c = omega arith
+
+add-result-2 : tie.Need-add-result-2
+add-result-2 c = omega arith
+
+mul-result-3 : tie.Need-mul-result-3
+mul-result-3 c = omega arith
+
+shared-slice-read-result-3 : tie.Need-shared-slice-read-result-3
+shared-slice-read-result-3 c = omega arith
+
+add-result-3 : tie.Need-add-result-3
+add-result-3 c = omega arith
+
+mul-result-4 : tie.Need-mul-result-4
+mul-result-4 c = omega arith
+
+shared-slice-read-result-4 : tie.Need-shared-slice-read-result-4
+shared-slice-read-result-4 c = omega arith
+
+returns : tie.Need-returns
+returns c = simp (and-true, unary-clauses) refl
+
+pub parts-in-range-spec : {M : Type 1} → statement M
+parts-in-range-spec =
+    tie.close
+    (tie.spec
+    mul-result
+    shared-slice-read-result
+    add-result
+    mul-result-2
+    shared-slice-read-result-2
+    add-result-2
+    mul-result-3
+    shared-slice-read-result-3
+    add-result-3
+    mul-result-4
+    shared-slice-read-result-4
+    returns)
