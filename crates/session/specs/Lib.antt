@@ -8,5 +8,5 @@ pub mod Verdicts
 pub mod Reading
 pub mod Reaching
 pub mod RunLaws
-pub mod Few
+pub mod LastLine
 pub mod Runs

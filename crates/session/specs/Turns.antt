@@ -4,6 +4,7 @@ use mathlib.Core.List.{List, [], _∷_, _++_}
 use mathlib.Core.Option.{Option, none, some}
 use Prim.Native.Nat.{ℕ, _+_, _*_, _≤_}
 use lib.ListN.{length, take, drop}
+use Rattle.history.specs.Linearization.{Linearizable}
 use Rattle.criterion.specs.Pass.{explains}
 use Rattle.text.specs.Wrote.{Wrote}
 use Rattle.protocol.specs.declared.Line.{Line}
@@ -50,11 +51,12 @@ abbrev pub mostOutput : ℕ
 mostOutput = 110617
 
 -- What all lines leave, where p is what they print from x on with the judge's word: after a bad line all of it is printed; else
--- all but the judge's word.
+-- all but the judge's word, and the recorded history is linearizable.
 pub record Ended (p history out : List ℕ) (at : Place) : Type 0 where
   pub last : Session
   pub reached : Reached last
   pub recorded : Recorded history (at .events) (last .history)
+  pub linearizable : Linearizable (last .history)
   pub printed : take (at .bytes) out ++ printedVerdict (explains (last .history)) ≡ p
   pub few : at .events ≤ mostRecorded
   pub short : at .bytes ≤ mostReplies

@@ -7,6 +7,7 @@ use native.Mathlib.Omega.{arith}
 use lib.ListN.{length, drop}
 use Rattle.session.specs.Session.{Session, callOf}
 use Rattle.session.specs.Turns.{Stands, Reached, Going}
+use Rattle.session.specs.LastLine.{reached-linearizable}
 use Rattle.session.specs.LoopLaws.{line-within, some-line, going-on, going-stops, going-ends}
 use Rattle.session.proofs.run_lines.Statement.{statement}
 use Rattle.session.proofs.run_lines.Tie as tie
@@ -112,6 +113,7 @@ returns-2 c =
       last = g .last;
       reached = g .reached;
       recorded = g .stands .recorded;
+      linearizable = reached-linearizable (g .reached);
       printed = going-ends (c .loop-test .left) g;
       few = omega arith;
       short = omega arith;
