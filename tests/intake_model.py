@@ -189,7 +189,7 @@ def link(word):
 
 
 class Intake:
-    """The store during one step: a copy of the words, and one method a phase."""
+    """The store during one step: a copy of the words that its sizes need, and one method a phase."""
 
     PRODUCER = (
         None, 'take', 'load', 'look', 'claim', 'link', 'shift', 'back', 'write', 'set', 'claim_ahead', 'link_ahead',
@@ -197,8 +197,8 @@ class Intake:
     CONSUMER = (None, 'front', 'read_tail', 'scan_tail', 'scan_entry', 'rescan', 'read_item', 'mark')
 
     def __init__(self, words, pick):
-        self.w = list(words)
         self.B, self.N, self.P, self.M = words[:4]
+        self.w = words[: needed_words(self.B, self.N, self.P)]
         self.pick = pick
         self.own = CONTENTS
 
@@ -541,7 +541,7 @@ def step(words, t, pick=lowest, engine=Intake):
         reply = intake.run(t)
     except Refused as refusal:
         return refused(refusal.number)
-    words[:] = intake.w
+    words[: len(intake.w)] = intake.w
     return reply
 
 

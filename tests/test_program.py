@@ -1,19 +1,25 @@
-"""The program `intake` against the independent model and judge, on document 01's own run, on bad lines, on the limits
-of the input and on random inputs, damaged ones among them. Needs target/bin/intake, which `rt check intake` builds."""
+"""The program `intake` against run files, the limits of its input, and random inputs of every class of
+program_scripts.py, which the independent model and judge answer. Needs target/bin/intake, which `rt check intake`
+builds."""
 
+import collections
+import concurrent.futures
 import pathlib
 import random
 import re
 import subprocess
+import tempfile
 import unittest
 
 import intake_model as im
 import judge_model as jm
+from program_scripts import CLASSES, MOST_INPUT
 
-PROGRAM = pathlib.Path(__file__).resolve().parent.parent / 'target' / 'bin' / 'intake'
-MOST_INPUT, STORE_WORDS = 8192, 12696
+HERE = pathlib.Path(__file__).resolve().parent
+PROGRAM = HERE.parent / 'target' / 'bin' / 'intake'
+STORE_WORDS = 12_696
 
-NUMBER = rb'(0|[1-9][0-9]*)'
+NUMBER = rb'(0|[1-9][0-9]{0,9})'
 OPEN = re.compile(rb'open ' + rb' '.join([NUMBER] * 4))
 ENQUEUE = re.compile(rb'e ' + NUMBER + rb' ' + NUMBER)
 STEP = re.compile(rb's ' + NUMBER)
@@ -31,15 +37,18 @@ def parse(line):
     return None
 
 
+def lines_of(data):
+    """The lines, each ended by a newline, which the last may lack."""
+    lines = data.split(b'\n')
+    return lines[:-1] if lines[-1] == b'' else lines
+
+
 def expected(data):
     """What document 01 says the program prints."""
     if len(data) > MOST_INPUT:
         return b'too long\n'
-    lines = data.split(b'\n')
-    if lines[-1] == b'':
-        lines.pop()
     words, history, starts, out = [0] * STORE_WORDS, [], {}, []
-    for line in lines:
+    for line in lines_of(data):
         call = parse(line)
         if call is None:
             return b''.join(out) + b'bad line\n'
@@ -64,65 +73,92 @@ def printed(data):
     return subprocess.run([PROGRAM], input=data, capture_output=True, check=True).stdout
 
 
-def random_input(random_, lines):
-    """Lines that mostly go through: an open of small sizes, then starts and steps of its threads."""
-    producers = random_.randint(1, 4)
-    text = [f'open {random_.randint(2, 4)} {random_.randint(2, 5)} {producers} {random_.randint(1, 60)}']
-    for _ in range(lines):
-        kind = random_.random()
-        if kind < 0.15:
-            text.append(f'e {random_.randint(0, producers + 1)} {random_.choice([0, 7, im.U32])}')
-        elif kind < 0.25:
-            text.append('d')
-        elif kind < 0.26:
-            text.append(f'open {random_.randint(1, 3)} 2 1 9')
-        else:
-            text.append(f's {random_.randint(0, producers)}')
-    return '\n'.join(text).encode() + random_.choice([b'', b'\n'])
+def runs_of(folder):
+    """The run files of a folder by name: (input, output)."""
+    names = {kind: {path.stem for path in folder.glob('*.' + kind)} for kind in ('stdin', 'stdout')}
+    if not names['stdin']:
+        raise FileNotFoundError(f'no run files in {folder}')
+    if names['stdin'] != names['stdout']:
+        raise FileNotFoundError(f'half a run in {folder}: {names["stdin"] ^ names["stdout"]}')
+    return {name: tuple((folder / f'{name}.{kind}').read_bytes() for kind in names) for name in sorted(names['stdin'])}
 
 
-class Program(unittest.TestCase):
-    def agree(self, data):
-        self.assertEqual(printed(data), expected(data), data)
+# Every form of line that the program can print; tests/runs/README.md says why there are no others.
+FORMS = {'ok', 'ok CALL', 'going', 'end', 'empty', 'item', 'bad line', 'too long', 'explained'}
+FORMS |= {f'refused {number}' for number in (1, 3, 4, 5, 6, 7, 8)}
 
-    def test_printed_run(self):
-        data = b'open 2 2 1 9\nd\ns 0\ns 0\ne 1 7\n' + b's 1\n' * 4
-        want = b'ok\nok\ngoing\nempty\nok 1\ngoing\ngoing\ngoing\nend\nexplained\n'
-        self.assertEqual(printed(data), want)
-        self.assertEqual(expected(data), want)
 
-    def test_bad_lines(self):
-        for line in (b'', b' d', b'd ', b's  1', b's 01', b's', b's ', b'e 1', b'e 1 2 3', b'e 1 4294967296', b'd\r', b'd\0',
-                     b'D', b'\xc3\xa9', b'open 2 2 1', b'open 2 2 1 9 ', b'open 2 2 1 09', b's -1', b's +1', b's 1\x00',
-                     b's 42949672950', b'open\t2 2 1 9', b'opens 2 2 1 9'):
-            self.assertEqual(printed(b'open 2 2 1 9\n' + line + b'\nd\n'), b'ok\nbad line\n', line)
-            self.agree(b'd\n' + line + b'\n')
+def form(line):
+    word = line.split(' ')[0]
+    return {'ok': line if line == 'ok' else 'ok CALL', 'item': 'item'}.get(word, line)
 
-    def test_no_bad_lines(self):
-        for data in (b'', b'd', b'd\n', b's 0', b'e 0 0\n', b'e 4294967295 4294967295\n', b's 4294967295', b'open 0 0 0 0\n',
-                     b'open 64 64 16 1000000\nd\ns 0\ns 0', b'open 4294967295 2 1 9'):
-            self.agree(data)
+
+def shown(data, output):
+    """The forms of the printed lines, and whether more than one open was accepted."""
+    forms = {form(line) for line in output.decode().splitlines()}
+    replies = zip(lines_of(data), output.split(b'\n'))
+    opens = sum(line.startswith(b'open') and reply == b'ok' for line, reply in replies)
+    return forms | ({'second open'} if opens > 1 else set())
+
+
+class Runs(unittest.TestCase):
+    """Expected outputs written by hand from document 01; tests/runs/README.md."""
+
+    def test_run_files(self):
+        """A line form, a refusal, a phase or a kind of bad line that is not as document 01 has it."""
+        for name, (data, output) in runs_of(HERE / 'runs').items():
+            with self.subTest(run=name):
+                self.assertEqual(printed(data), output)
+                self.assertEqual(expected(data), output, 'the model')
+
+    def test_half_a_run(self):
+        """A test of run files that passes without them."""
+        with tempfile.TemporaryDirectory() as name:
+            folder = pathlib.Path(name)
+            self.assertRaises(FileNotFoundError, runs_of, folder)
+            (folder / 'a.stdin').write_bytes(b'd\n')
+            self.assertRaises(FileNotFoundError, runs_of, folder)
+            (folder / 'a.stdout').write_bytes(b'refused 3\nexplained\n')
+            self.assertEqual(runs_of(folder), {'a': (b'd\n', b'refused 3\nexplained\n')})
+            (folder / 'b.stdout').write_bytes(b'')
+            self.assertRaises(FileNotFoundError, runs_of, folder)
 
     def test_limits_of_the_input(self):
-        for count in (4095, 4096):
-            self.agree(b'd\n' * count)
-        self.assertEqual(printed(b'd\n' * 4096 + b'd'), b'too long\n')
-        self.assertEqual(printed(b'x' * 8192), b'bad line\n')
-        self.assertEqual(printed(b'x' * 8193), b'too long\n')
-        self.assertEqual(printed(b'x' * 100000), b'too long\n')
+        """A limit that is off by one, or a part of longer input that is run."""
+        most = [
+            (b'd\n' * 4096, b'refused 3\n' * 4096 + b'explained\n'),
+            (b'open 2 2 1 9\n' + b's 1\n' * 2044 + b's 1', b'ok\n' + b'refused 7\n' * 2045 + b'explained\n'),
+            (b'open 2 2 1 9\n' + b'd\n' * 4089 + b'd', b'ok\nok\n' + b'refused 5\n' * 4089 + b'explained\n'),
+            (b'd\n' * 4095 + b'dd', b'refused 3\n' * 4095 + b'bad line\n'),
+            (b'x' * 8192, b'bad line\n'),
+            (b's ' + b'9' * 8190, b'bad line\n'),
+        ]
+        for data, output in most:
+            self.assertEqual(len(data), MOST_INPUT)
+            self.assertEqual(printed(data), output)
+            self.assertEqual(expected(data), output)
+            for more in (b'\n', b'd', b'\0', b'd\n' * 100_000):
+                self.assertEqual(printed(data + more), b'too long\n')
+
+
+class Differential(unittest.TestCase):
+    """The program against the independent model."""
 
     def test_random_inputs(self):
-        random_ = random.Random(1)
-        for n in range(300):
-            self.agree(random_input(random_, random_.choice([5, 40, 300, 1500])))
-
-    def test_damaged_inputs(self):
-        random_ = random.Random(2)
-        for n in range(300):
-            data = bytearray(random_input(random_, 20))
-            at = random_.randrange(len(data))
-            data[at] = random_.choice(b'0123456789 \n\r\0esdop\xff')
-            self.agree(bytes(data))
+        """Anything that the program prints otherwise than the model, on thousands of inputs of every class."""
+        every = collections.Counter()
+        for make, (count, least) in CLASSES.items():
+            inputs = [make(random.Random(f'{make.__name__} {k}')) for k in range(count)]
+            seen = collections.Counter()
+            with self.subTest(inputs=make.__name__), concurrent.futures.ThreadPoolExecutor(2) as pool:
+                for data, output in zip(inputs, pool.map(printed, inputs)):
+                    self.assertEqual(output, expected(data), data)
+                    seen.update(shown(data, output))
+                self.assertGreaterEqual(seen, collections.Counter(least))
+            every += seen
+        self.assertGreaterEqual(sum(count for count, _ in CLASSES.values()), 5_000)
+        self.assertEqual(set(every) - {'second open'}, FORMS)
+        self.assertGreaterEqual(min(every.values()), 50, every)
 
 
 if __name__ == '__main__':
