@@ -165,8 +165,13 @@ class Program(unittest.TestCase):
         self.assertEqual(program('9 9 9 9\nx\n'), 'bad line\n')
 
     def test_too_long(self):
-        """A program that judges a part of its input."""
-        self.assertEqual(program('1 1 1 7\n' * 40_000), 'too long\n')
+        """A program that judges a part of its input: 8,192 events are read, short and long lines alike, and no more."""
+        for line in ('1 1 1 7\n', '4294967295 4294967295 4294967295 4294967295\n'):
+            self.assertEqual(program(line * 8_192), 'refused 10\n')
+            self.assertEqual(program(line * 8_191 + line[:-1]), 'refused 10\n')
+            self.assertEqual(program(line * 8_191 + 'x\n'), 'bad line\n')
+            for more in ('x', line, line * 40_000):
+                self.assertEqual(program(line * 8_192 + more), 'too long\n')
 
 
 class Differential(unittest.TestCase):

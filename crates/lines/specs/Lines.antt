@@ -1,62 +1,55 @@
--- What a text of lines means: each line is four decimal numbers with one space between, ended by a newline, which the last may
--- lack. Numbers have no leading zeros and are at most 4,294,967,295. Bytes: 48 to 57 are the digits, 32 is a space, 10 a newline.
-use mathlib.Core.Bool.{Bool, _&&_, cond}
+-- What a text of lines means: each line is four numbers, as `text` reads them, with one space between, ended by a newline, which
+-- the last may lack.
+use mathlib.Core.Path.{_≡_}
+use mathlib.Core.Bool.{Bool, _||_, cond}
 use mathlib.Core.List.{List, [], _∷_, _++_}
-use mathlib.Core.Option.{Option, none, some}
-use Prim.Native.Nat.{ℕ, zero, suc, _+_, _-_, _*_, _%_}
+use Prim.Native.Nat.{ℕ, zero, suc, _+_, _%_}
 use lib.Dec.{leb, eqb}
-use lib.ListN.{length}
+use lib.ListN.{length, getD}
+use lib.Seq.{sets}
+use Rattle.text.specs.declared.Number.{Number}
+use Rattle.text.specs.declared.Number.the-variants.{Bad, Read}
+use Rattle.text.specs.Decimal.{numberAt}
+use Rattle.lines.specs.declared.Parsed.{Parsed}
+use Rattle.lines.specs.declared.Parsed.the-variants.{TooLong, BadLine, Numbers}
 
--- what has been read: the numbers that are whole, and the one that is being read
-pub record State : Type 0 where
+-- The byte that parts a number from the next, after so many numbers: a newline after every fourth, else a space.
+abbrev pub separator : (count : ℕ) → ℕ
+separator count = cond (eqb (count % 4) 0) 10 32
+
+-- It stands at a position, or the text ends there.
+abbrev pub isParted : List ℕ → (at count : ℕ) → Bool
+isParted s at count = leb (length s) at || eqb (getD s at 0) (separator count)
+
+-- The answer where the text ends after so many numbers: they are whole lines, or the last line is bad.
+abbrev pub ending : (count : ℕ) → Parsed
+ending count = cond (eqb (count % 4) 0) (Numbers count) BadLine
+
+-- An answer, and the numbers that were read before it.
+pub record Reading : Type 0 where
+  pub reply : Parsed
   pub numbers : List ℕ
-  pub current : Option ℕ
 
-abbrev pub isDigit : ℕ → Bool
-isDigit b = leb 48 b && leb b 57
+abbrev pub stop : Parsed → List ℕ → Reading
+stop r ns = record { reply = r; numbers = ns }
 
--- A number and one more digit: none where it would lead with a zero or be too large.
-abbrev pub withDigit : Option ℕ → ℕ → Option ℕ
-withDigit none d = some d
-withDigit (some zero) d = none
-withDigit (some (suc n)) d = cond (leb (suc n * 10 + d) 4294967295) (some (suc n * 10 + d)) none
+-- One number after the numbers ns, and what follows it.
+abbrev pub withNumber : List ℕ → List ℕ → Number → (rest : ℕ → List ℕ → Reading) → Reading
+withNumber s ns Bad rest = stop BadLine ns
+withNumber s ns (Read n next) rest =
+    let more = ns ++ (n ∷ []) in
+    cond (isParted s next (length more)) (rest (next + 1) more) (stop BadLine more)
 
--- The fourth number of a line ends at a newline, the others at a space.
-abbrev pub isSeparator : (before b : ℕ) → Bool
-isSeparator before b = cond (eqb before 3) (eqb b 10) (eqb b 32)
+-- The numbers from a position on, after the numbers ns, with room for so many more.
+unfoldable pub numbersFrom : (room : ℕ) → List ℕ → (at : ℕ) → List ℕ → Reading
+numbersFrom zero s at ns = cond (leb (length s) at) (stop (ending (length ns)) ns) (stop TooLong ns)
+numbersFrom (suc room) s at ns =
+    cond (leb (length s) at) (stop (ending (length ns)) ns) (withNumber s ns (numberAt s at) (numbersFrom room s))
 
-abbrev pub reading : List ℕ → Option ℕ → Option State
-reading ns none = none
-reading ns (some n) = some (record { numbers = ns; current = some n })
+abbrev pub reading : List ℕ → (room : ℕ) → Reading
+reading s room = numbersFrom room s 0 []
 
-abbrev pub closing : List ℕ → Option ℕ → Option State
-closing ns none = none
-closing ns (some n) = some (record { numbers = ns ++ (n ∷ []); current = none })
-
--- one byte
-abbrev pub step : State → ℕ → Option State
-step s b =
-    cond (isDigit b) (reading (s .numbers) (withDigit (s .current) (b - 48)))
-    (cond (isSeparator (length (s .numbers) % 4) b) (closing (s .numbers) (s .current)) none)
-
--- At the end a line is whole, or lacks its newline only.
-abbrev pub ending : List ℕ → Option ℕ → Option (List ℕ)
-ending ns none = cond (eqb (length ns % 4) 0) (some ns) none
-ending ns (some n) = cond (eqb (length ns % 4) 3) (some (ns ++ (n ∷ []))) none
-
-abbrev pub end : Option State → Option (List ℕ)
-end none = none
-end (some s) = ending (s .numbers) (s .current)
-
-abbrev pub next : Option State → ℕ → Option State
-next none b = none
-next (some s) b = step s b
-
--- the bytes that are left
-abbrev pub after : List ℕ → Option State → Option (List ℕ)
-after [] s = end s
-after (b ∷ bs) s = after bs (next s b)
-
--- The numbers of a text, four for each line; none where a line is bad.
-unfoldable pub numbersOf : List ℕ → Option (List ℕ)
-numbersOf text = after text (some (record { numbers = []; current = none }))
+-- The parser's answer, and the buffer that it leaves: the numbers at the beginning, the rest as it was.
+pub record Parses (s before after : List ℕ) (r : Parsed) : Type 0 where
+  pub reply-is : r ≡ reading s (length before) .reply
+  pub after-is : after ≡ sets before 0 (reading s (length before) .numbers)

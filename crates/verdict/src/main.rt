@@ -23,10 +23,10 @@ fn print_verdict(words: &[u32]) {
     }
 }
 
-// A text of 262,144 bytes or more is too long; 4,097 lines are at most 180,268.
+// Room for 8,192 events. Their lines are at most 360,448 bytes, so a text that is cut off has a line too many or a bad one.
 fn main() {
-    let mut text = [0u8; 262_144];
-    let mut numbers = [0u32; 131_072];
+    let mut text = [0u8; 360_449];
+    let mut numbers = [0u32; 32_768];
     let n = io::read_full(STDIN_FILENO, &mut text);
     let parsed = lines::parse(&text[..n], &mut numbers);
     match parsed {

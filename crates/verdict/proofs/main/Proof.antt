@@ -2,6 +2,7 @@
 use mathlib.Core.Path.{sym}
 use lib.Seq.{length-take-le}
 use borrow.Author.Needs.{needs}
+use Rattle.lines.specs.Laws.{numbers-within}
 use Rattle.verdict.proofs.main.Statement.{statement}
 use Rattle.verdict.proofs.main.Tie as tie
 
@@ -45,11 +46,11 @@ enum-known-parsed : tie.Need-enum-known-parsed
 enum-known-parsed c = search needs
 
 array-share-prefix-numbers : tie.Need-array-share-prefix-numbers
-array-share-prefix-numbers c = c .before .before .before .before .parse .ensures .in-buffer _ (c .before .parsed .given .1)
+array-share-prefix-numbers c = numbers-within (c .before .before .before .before .parse .ensures) _ (c .before .parsed .given .1)
 
 slice-aggregate-print-verdict : tie.Need-slice-aggregate-print-verdict
 slice-aggregate-print-verdict c =
-    sym (length-take-le _ _ (c .before .before .before .before .before .parse .ensures .in-buffer _ (c .before .before .parsed .given .1)))
+    sym (length-take-le _ _ (numbers-within (c .before .before .before .before .before .parse .ensures) _ (c .before .before .parsed .given .1)))
 
 print-verdict-requires : tie.Need-print-verdict-requires
 print-verdict-requires c κs = search needs

@@ -1,2 +1,0 @@
-pub mod Scanning
-pub mod Texts

@@ -1,0 +1,130 @@
+-- Laws of reading: each step of the parser, and the count of what it reads.
+use mathlib.Core.Path.{_≡_, refl, ap, sym, _∙_}
+use mathlib.Core.Bool.{Bool, true, false, _||_, cond}
+use mathlib.Core.List.{List, [], _∷_, _++_}
+use Prim.Native.Nat.{ℕ, zero, suc, _+_, _-_, _%_, _≤_, _<_}
+use native.Mathlib.Omega.{arith}
+use native.Mathlib.Numerals.{sub-one}
+use lib.Dec.{leb, eqb}
+use lib.ListN.{length, set, getD, length-append}
+use lib.Seq.{sets, length-sets}
+use borrow.Author.Tests.{le-leb, lt-leb, eq-eqb, ne-eqb}
+use Rattle.text.specs.declared.Number.{Number}
+use Rattle.text.specs.declared.Number.the-variants.{Bad, Read}
+use Rattle.text.specs.Decimal.{numberAt}
+use Rattle.text.specs.Laws.{sets-append}
+use Rattle.lines.specs.declared.Parsed.{Parsed}
+use Rattle.lines.specs.declared.Parsed.the-variants.{TooLong, BadLine, Numbers}
+use Rattle.lines.specs.Lines.{separator, isParted, ending, Reading, stop, withNumber, numbersFrom, reading, Parses}
+
+-- A position: the text ends there, there is no room for another number, or a number is read.
+module _ (s : List ℕ) (at : ℕ) (ns : List ℕ) where
+  text-ends : (room : ℕ) → length s ≤ at → numbersFrom room s at ns ≡ stop (ending (length ns)) ns
+  unfolding numbersFrom
+  text-ends zero l = simp (le-leb (length s) at l)
+  text-ends (suc room) l = simp (le-leb (length s) at l)
+
+  no-room : (room : ℕ) → room ≡ 0 → at < length s → numbersFrom room s at ns ≡ stop TooLong ns
+  unfolding numbersFrom
+  no-room room e l = rw e (simp (lt-leb (length s) at l))
+
+  one-number : (room : ℕ) → 0 < room → at < length s → numbersFrom room s at ns ≡ withNumber s ns (numberAt s at) (numbersFrom (room - 1) s)
+  unfolding numbersFrom
+  one-number zero p l = absurd (omega arith)
+  one-number (suc room) p l = rw sub-one (simp (lt-leb (length s) at l))
+
+-- What holds before each number: those before it are stored, and reading on gives the answer.
+pub record Going (s before buffer : List ℕ) (at count : ℕ) : Type 0 where
+  pub numbers : List ℕ
+  pub room : ℕ
+  pub counted : length numbers ≡ count
+  pub fits : count + room ≡ length before
+  pub stored : buffer ≡ sets before 0 numbers
+  pub left : numbersFrom room s at numbers ≡ reading s (length before)
+
+pub going-begins : (s before : List ℕ) → Going s before before 0 0
+going-begins s before = record { numbers = []; room = length before; counted = refl; fits = omega arith; stored = refl; left = refl }
+
+answers : {s before buffer ns : List ℕ} {r : Parsed} → buffer ≡ sets before 0 ns → stop r ns ≡ reading s (length before) → Parses s before buffer r
+answers {s} {before} e d =
+    record { reply-is = ap (λ (x : Reading). x .reply) d; after-is = e ∙ ap (λ (x : Reading). sets before 0 (x .numbers)) d }
+
+module _ {s before buffer : List ℕ} {at count : ℕ} (g : Going s before buffer at count) where
+  pub going-ends : length s ≤ at → Parses s before buffer (ending count)
+  going-ends l = rw (← g .counted) (answers (g .stored) (sym (text-ends s at (g .numbers) (g .room) l) ∙ g .left))
+
+  pub too-long : at < length s → length before ≤ count → Parses s before buffer TooLong
+  too-long l h = answers (g .stored) (sym (no-room s at (g .numbers) (g .room) (omega arith) l) ∙ g .left)
+
+-- The number that is read next.
+module _ {s before buffer : List ℕ} {at count : ℕ} (g : Going s before buffer at count) (more : at < length s) (room : count < length before) where
+  next-number : withNumber s (g .numbers) (numberAt s at) (numbersFrom (g .room - 1) s) ≡ reading s (length before)
+  next-number = sym (one-number s at (g .numbers) (g .room) (omega arith) more) ∙ g .left
+
+  pub no-number : numberAt s at ≡ Bad → Parses s before buffer BadLine
+  no-number e = answers (g .stored) (rw e at next-number)
+
+  module _ {n next : ℕ} (e : numberAt s at ≡ Read n next) where
+    counted-more : length (g .numbers ++ (n ∷ [])) ≡ count + 1
+    counted-more = rw length-append (omega (arith, g .counted))
+
+    stored-more : set buffer count n ≡ sets before 0 (g .numbers ++ (n ∷ []))
+    stored-more =
+        let k : count ≡ 0 + length (g .numbers) = omega (arith, g .counted) in
+        ap (λ (b : List ℕ). set b count n) (g .stored)
+        ∙ ap (λ (i : ℕ). set (sets before 0 (g .numbers)) i n) k
+        ∙ sets-append before 0 (g .numbers) (n ∷ [])
+
+    going-on : isParted s next (count + 1) ≡ true → Going s before (set buffer count n) (next + 1) (count + 1)
+    going-on p =
+        record {
+          numbers = g .numbers ++ (n ∷ []);
+          room = g .room - 1;
+          counted = counted-more;
+          fits = omega (arith, g .fits);
+          stored = stored-more;
+          left = rw (e, counted-more, p) at next-number;
+        }
+
+    pub ends-after : length s ≤ next → Parses s before (set buffer count n) (ending (count + 1))
+    ends-after l = going-ends (going-on (simp (le-leb (length s) next l))) (omega arith)
+
+    pub goes-on : next < length s → getD s next 0 ≡ separator (count + 1) → Going s before (set buffer count n) (next + 1) (count + 1)
+    goes-on l p = going-on (simp (lt-leb (length s) next l, eq-eqb (getD s next 0) (separator (count + 1)) p))
+
+    pub bad-separator : next < length s → (getD s next 0 ≡ separator (count + 1) → ⊥) → Parses s before (set buffer count n) BadLine
+    bad-separator l p =
+        let f : isParted s next (count + 1) ≡ false = simp (lt-leb (length s) next l, ne-eqb (getD s next 0) (separator (count + 1)) p) in
+        answers stored-more (rw (e, counted-more, f) at next-number)
+
+-- No more numbers are read than there is room for.
+ending-is : (count : ℕ) {k : ℕ} → ending count ≡ Numbers k → k ≡ count
+ending-is count {k} = go (eqb (count % 4) 0)
+  where
+    go : (b : Bool) → cond b (Numbers count) BadLine ≡ Numbers k → k ≡ count
+    go true e = cc
+    go false e = let z : _≡_ {A = ℕ} 0 1 = cc in absurd (omega arith)
+
+room-for : (room : ℕ) (s : List ℕ) (at : ℕ) (ns : List ℕ) {k : ℕ} → numbersFrom room s at ns .reply ≡ Numbers k → k ≤ length ns + room
+unfolding numbersFrom
+room-for zero s at ns {k} = go (leb (length s) at)
+  where
+    go : (b : Bool) → cond b (stop (ending (length ns)) ns) (stop TooLong ns) .reply ≡ Numbers k → k ≤ length ns + 0
+    go true e = omega (arith, ending-is (length ns) e)
+    go false e = let z : _≡_ {A = ℕ} 0 1 = cc in absurd (omega arith)
+room-for (suc room) s at ns {k} = go (leb (length s) at) (numberAt s at) (λ next ms e. room-for room s next ms e)
+  where
+    go : (b : Bool) (x : Number) → ((next : ℕ) (ms : List ℕ) → numbersFrom room s next ms .reply ≡ Numbers k → k ≤ length ms + room)
+        → cond b (stop (ending (length ns)) ns) (withNumber s ns x (numbersFrom room s)) .reply ≡ Numbers k → k ≤ length ns + suc room
+    go true x f e = omega (arith, ending-is (length ns) e)
+    go false Bad f e = let z : _≡_ {A = ℕ} 0 1 = cc in absurd (omega arith)
+    go false (Read n next) f e = parted (isParted s next (length (ns ++ (n ∷ [])))) e
+      where
+        parted : (b : Bool) → cond b (numbersFrom room s (next + 1) (ns ++ (n ∷ []))) (stop BadLine (ns ++ (n ∷ []))) .reply ≡ Numbers k
+            → k ≤ length ns + suc room
+        parted true e = omega (arith, f (next + 1) (ns ++ (n ∷ [])) e, length-append ns (n ∷ []))
+        parted false e = let z : _≡_ {A = ℕ} 0 1 = cc in absurd (omega arith)
+
+pub numbers-within : {s before after : List ℕ} {r : Parsed} → Parses s before after r → (k : ℕ) → r ≡ Numbers k → k ≤ length after
+numbers-within {s} {before} p k e =
+    omega (arith, room-for (length before) s 0 [] (sym (p .reply-is) ∙ e), simp length-sets at (ap length (p .after-is)))
