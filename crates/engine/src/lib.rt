@@ -1,24 +1,20 @@
-// The calls *open*, *start enqueue*, *start dequeue* and *step* on the lent words (document 01, "Calls"), and their C interface.
+// The calls *start enqueue*, *start dequeue* and *step* on the lent words (document 01, "Calls"), and the C interface of all four.
 ghost use mathlib.Core.Path.{_≡_};
 ghost use mathlib.Core.Bool.{cond};
-ghost use mathlib.Core.List.{[], _∷_};
 ghost use Prim.Native.Nat.{_≤_};
 ghost use lib.Dec.{eqb};
-ghost use Rattle.rules.specs.Sizes.{firstRecord};
-ghost use Rattle.rules.specs.Cell.{writes, _:=_, content, tailRecord, headRecord, place, used, phase, consumerPhase};
+ghost use Rattle.rules.specs.Cell.{phase, consumerPhase};
 ghost use Rattle.rules.specs.Free.{lowestFree};
 ghost use Rattle.rules.specs.Rule.{refuse};
 ghost use Rattle.rules.specs.Producer.{producerStep};
 ghost use Rattle.rules.specs.Consumer.{consumerStep};
-ghost use Rattle.rules.specs.Request.{startEnqueue, startDequeue, step, startingEnqueue, startingDequeue, stepping, result, open-store};
+ghost use Rattle.rules.specs.Request.{startEnqueue, startDequeue, step, stepping, result, open-store};
 ghost use Rattle.store.specs.Shape.{sizes};
 ghost use Rattle.store.specs.Outcome.{response, left, does};
-ghost use Rattle.store.specs.Store.{Room, Admitted};
+ghost use Rattle.store.specs.Store.{Admitted};
 ghost use Rattle.engine.specs.Export.{code, replyWords, returned, replied};
 use admission::admit;
 use admission::shape_of;
-use admission::sizes_in_range;
-use admission::store_words;
 use claim::claim_ahead;
 use claim::claim_record;
 use dequeue::read_entry;
@@ -34,98 +30,17 @@ use enqueue::take_position;
 use enqueue::write_entry;
 use linking::link_ahead;
 use linking::link_claimed;
+use opening::open_store;
 use rescan::mark_handled;
 use rescan::read_item;
 use rescan::rescan_on;
+use starting::begin_dequeue;
+use starting::begin_enqueue;
 use store::Reply;
 use store::Shape;
-use store::clear;
 use store::consumer;
-use store::content;
 use store::producer;
-use store::put_consumer;
-use store::put_content;
-use store::put_part;
-use store::put_producer;
 use store::word;
-
-// The sizes and first words of a store.
-fn write_contents(s: &mut [u32], z: Shape)
-    requires { ⌜ Room (sizes z) (now s) ⌝ }
-    ensures { λ _. ⌜ now (s .exit) ≡ writes (sizes z) (now (s .entry)) (content 0 := z .entries ∷ content 1 := z .records ∷ content 2 := z .producers ∷ content 3 := z .starts ∷ content 4 := 16 ∷ content 5 := firstRecord (sizes z) ∷ []) ⌝ }
-{
-    put_content(s, z, 0, z.entries);
-    put_content(s, z, 1, z.records);
-    put_content(s, z, 2, z.producers);
-    put_content(s, z, 3, z.starts);
-    put_content(s, z, 4, 16);
-    put_content(s, z, 5, 16 + 8 * (z.producers + 1));
-}
-
-// Record 0 linked with place 1 as head and tail record.
-fn link_first(s: &mut [u32], z: Shape)
-    requires { ⌜ Room (sizes z) (now s) ⌝ }
-    ensures { λ _. ⌜ now (s .exit) ≡ writes (sizes z) (now (s .entry)) (tailRecord := 1 ∷ headRecord := 1 ∷ place 0 := 1 ∷ used 0 := 2 ∷ []) ⌝ }
-{
-    put_content(s, z, word::TAIL_RECORD, 1);
-    put_content(s, z, word::HEAD_RECORD, 1);
-    put_part(s, z, 0, word::PLACE, 1);
-    put_part(s, z, 0, word::USE, 2);
-}
-
-// *Open* zeroes the store, writes the contents, and links record 0.
-pub fn open_store(s: &mut [u32], z: Shape) -> Reply
-    ensures { λ r. ⌜ left r (now (s .exit)) ≡ open-store (sizes z) (now (s .entry)) ⌝ }
-{
-    if !sizes_in_range(z) {
-        return Reply::Refused(1);
-    }
-    let words = store_words(z);
-    if s.len() < words {
-        return Reply::Refused(2);
-    }
-    clear(s, 0, words as u32);
-    write_contents(s, z);
-    link_first(s, z);
-    Reply::Ok
-}
-
-// *Start enqueue* on admitted words: call number starts + 1, phase 1.
-fn begin_enqueue(s: &mut [u32], z: Shape, t: u32, v: u32) -> Reply
-    requires { ⌜ Admitted (sizes z) (now s) ⌝ }
-    ensures { λ r. ⌜ left r (now (s .exit)) ≡ does (startingEnqueue t v) z (now (s .entry)) ⌝ }
-{
-    if t == 0 {
-        return Reply::Refused(4);
-    }
-    if z.producers < t {
-        return Reply::Refused(4);
-    }
-    if producer(s, z, t, word::PHASE) != 0 {
-        return Reply::Refused(5);
-    }
-    let starts = content(s, z, word::STARTS);
-    if starts == z.starts {
-        return Reply::Refused(6);
-    }
-    put_content(s, z, word::STARTS, starts + 1);
-    put_producer(s, z, t, word::PHASE, 1);
-    put_producer(s, z, t, word::CALL, starts + 1);
-    put_producer(s, z, t, word::VALUE, v);
-    Reply::Started(starts + 1)
-}
-
-// *Start dequeue* on admitted words puts the consumer in phase 1.
-fn begin_dequeue(s: &mut [u32], z: Shape) -> Reply
-    requires { ⌜ Admitted (sizes z) (now s) ⌝ }
-    ensures { λ r. ⌜ left r (now (s .exit)) ≡ does startingDequeue z (now (s .entry)) ⌝ }
-{
-    if consumer(s, z, word::PHASE) != 0 {
-        return Reply::Refused(5);
-    }
-    put_consumer(s, z, word::PHASE, 1);
-    Reply::Ok
-}
 
 // One phase of producer t.
 fn step_producer(s: &mut [u32], z: Shape, t: u32) -> Reply

@@ -205,7 +205,7 @@ fn open_turn(store: &mut [u32], out: &mut [u8], at: Place, z: Shape) -> Place
     requires { ⌜ at .bytes + mostPrinted ≤ length (now out) ⌝ }
     ensures { λ r. ⌜ ((history : List ℕ) → Turned (opening (sizes z)) (now (store .entry)) history (now (out .entry)) at (now (store .exit)) history (now (out .exit)) r) ⌝ }
 {
-    let reply = engine::open_store(store, z);
+    let reply = opening::open_store(store, z);
     let events = reopen(at.events, reply);
     let bytes = protocol::print_reply(out, at.bytes, reply);
     Place { events, bytes }

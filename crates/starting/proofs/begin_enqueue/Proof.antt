@@ -1,12 +1,12 @@
--- `engine::begin_enqueue` meets its contract.
+-- `starting::begin_enqueue` meets its contract.
 use mathlib.Core.Path.{refl}
 use native.Mathlib.Numerals.{add-one}
 use borrow.Author.Needs.{needs}
 use borrow.Author.Tests.{lt-ltb, le-ltb, eq-eqb, ne-eqb}
 use Rattle.rules.specs.Cell.{writes}
 use Rattle.rules.specs.Request.{applied, startingEnqueue}
-use Rattle.engine.proofs.begin_enqueue.Statement.{statement}
-use Rattle.engine.proofs.begin_enqueue.Tie as tie
+use Rattle.starting.proofs.begin_enqueue.Statement.{statement}
+use Rattle.starting.proofs.begin_enqueue.Tie as tie
 
 returns : tie.Need-returns
 unfolding startingEnqueue applied

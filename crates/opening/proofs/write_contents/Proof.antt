@@ -1,10 +1,10 @@
--- `engine::write_contents` meets its contract.
+-- `opening::write_contents` meets its contract.
 use mathlib.Core.Path.{refl}
 use native.Mathlib.Numerals.{add-one}
 use borrow.Author.Needs.{needs}
 use Rattle.rules.specs.Cell.{writes}
-use Rattle.engine.proofs.write_contents.Statement.{statement}
-use Rattle.engine.proofs.write_contents.Tie as tie
+use Rattle.opening.proofs.write_contents.Statement.{statement}
+use Rattle.opening.proofs.write_contents.Tie as tie
 
 put-content-requires : tie.Need-put-content-requires
 put-content-requires c κs = search needs

@@ -1,11 +1,11 @@
--- `engine::begin_dequeue` meets its contract.
+-- `starting::begin_dequeue` meets its contract.
 use mathlib.Core.Path.{refl}
 use borrow.Author.Needs.{needs}
 use borrow.Author.Tests.{ne-eqb}
 use Rattle.rules.specs.Cell.{writes}
 use Rattle.rules.specs.Request.{applied, startingDequeue}
-use Rattle.engine.proofs.begin_dequeue.Statement.{statement}
-use Rattle.engine.proofs.begin_dequeue.Tie as tie
+use Rattle.starting.proofs.begin_dequeue.Statement.{statement}
+use Rattle.starting.proofs.begin_dequeue.Tie as tie
 
 consumer-requires : tie.Need-consumer-requires
 consumer-requires c κs = search needs

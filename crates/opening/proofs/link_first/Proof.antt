@@ -1,9 +1,9 @@
--- `engine::link_first` meets its contract.
+-- `opening::link_first` meets its contract.
 use mathlib.Core.Path.{refl}
 use borrow.Author.Needs.{needs}
 use Rattle.rules.specs.Cell.{writes}
-use Rattle.engine.proofs.link_first.Statement.{statement}
-use Rattle.engine.proofs.link_first.Tie as tie
+use Rattle.opening.proofs.link_first.Statement.{statement}
+use Rattle.opening.proofs.link_first.Tie as tie
 
 put-content-requires : tie.Need-put-content-requires
 put-content-requires c κs = search needs

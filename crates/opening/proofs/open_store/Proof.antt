@@ -1,4 +1,4 @@
--- `engine::open_store` meets its contract.
+-- `opening::open_store` meets its contract.
 use mathlib.Core.List.{_++_}
 use mathlib.Core.Path.{sym, ap, _∙_}
 use Prim.Native.Nat.{ℕ}
@@ -11,9 +11,9 @@ use Rattle.rules.specs.Cell.{writes}
 use Rattle.rules.specs.Request.{opened}
 use Rattle.store.specs.Shape.{sizes}
 use Rattle.admission.specs.Admit.{room-of, sizes-most}
-use Rattle.engine.specs.Calls.{open-out, open-short, open-made, cleared}
-use Rattle.engine.proofs.open_store.Statement.{statement}
-use Rattle.engine.proofs.open_store.Tie as tie
+use Rattle.opening.specs.Open.{open-out, open-short, open-made, cleared}
+use Rattle.opening.proofs.open_store.Statement.{statement}
+use Rattle.opening.proofs.open_store.Tie as tie
 
 sizes-in-range-requires : tie.Need-sizes-in-range-requires
 sizes-in-range-requires c κs = search needs
