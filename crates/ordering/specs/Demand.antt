@@ -18,7 +18,7 @@ use Rattle.rules.specs.Play.{Played, play, itemsLeft}
 
 -- What is owed of the calls made so far on a store of sizes z.
 pub record Ordered (z : Sizes) (p : Played) : Type 0 where
-  -- The history is linearizable (and well-formed: the judge refuses no event of it).
+  -- The history is linearizable (and well-formed: no event of it would be refused with 13).
   pub formed : wellFormed (p .history) ≡ true
   pub linearizable : Linearizable (p .history)
   -- If no call is under way, it has a linearization that leaves exactly the items left, in order.

@@ -1,3 +1,4 @@
+pub mod MarkedRuns
 pub mod View
 pub mod Good
 pub mod Rows

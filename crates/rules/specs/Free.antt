@@ -25,7 +25,8 @@ Choice z σ (suc r) = (r < z .N) × (free z σ r ≡ true)
 abbrev pub Picker : Type 0
 Picker = Sizes → Reader → ℕ
 
--- One that is right on every store.
+-- One that is right on every store. This leaves out no choice: a record that is right on one store is taken there by the picker that
+-- takes it where it is free and the lowest elsewhere.
 abbrev pub Picks : Picker → Type 0
 Picks pick = (z : Sizes) (σ : Reader) → Choice z σ (pick z σ)
 

@@ -21,26 +21,11 @@ sizesInRange z = between 2 64 (z .B) && between 2 64 (z .N) && between 1 16 (z .
 abbrev pub mostPlace : ℕ
 mostPlace = 500002
 
--- words of the contents, of a thread, and of a record before its entries; words of an entry
-abbrev pub contentWords : ℕ
-contentWords = 16
-
-abbrev pub threadWords : ℕ
-threadWords = 8
-
-abbrev pub partWords : ℕ
-partWords = 4
-
-abbrev pub entryWords : ℕ
-entryWords = 3
-
+-- the words of a record: place, next, prev and use, and three for each entry
 abbrev pub recordWords : Sizes → ℕ
 recordWords z = 3 * z .B + 4
 
--- the first word of the threads and the first word of the records
-abbrev pub firstThread : ℕ
-firstThread = 16
-
+-- the first word of the records, after the contents and eight words for each thread
 abbrev pub firstRecord : Sizes → ℕ
 firstRecord z = 16 + 8 * suc (z .P)
 

@@ -82,6 +82,104 @@ witnesses =
           ++ (started 3 ∷ goings 6 ++ (ended ∷ []))
           ++ (ok ∷ goings 10 ++ (item 3 12 ∷ [])));
     }
+    -- Phase 7. Producers 3 and 2 take 0 and 1 and stop; producer 1 takes 2, links a record and moves the tail record. Producer 3 then
+    -- loads the second record, goes back to the first, writes and ends.
+    ∷ record {
+      words = 88;
+      sizes = sized 2 4 3 9;
+      requests =
+          startEnqueue 3 30
+          ∷ step 3
+          ∷ startEnqueue 2 20
+          ∷ step 2
+          ∷ startEnqueue 1 10
+          ∷ times 6 (step 1)
+          ++ times 4 (step 3);
+      replies =
+          all
+          (ok ∷ (started 1 ∷ going ∷ [])
+          ++ (started 2 ∷ going ∷ [])
+          ++ (started 3 ∷ goings 6)
+          ++ goings 3
+          ++ (ended ∷ []));
+    }
+    -- Phase 5 gives back. Producer 3, at position 2, claims the third record after producer 1 has linked the second, and gives it back;
+    -- so producer 1 finds it free in phase 10.
+    ∷ record {
+      words = 78;
+      sizes = sized 2 3 3 9;
+      requests =
+          startEnqueue 3 30
+          ∷ times 4 (step 3)
+          ++ (startEnqueue 2 20 ∷ step 2 ∷ startEnqueue 3 31 ∷ times 3 (step 3))
+          ++ (startEnqueue 1 10 ∷ times 8 (step 1))
+          ++ times 2 (step 3)
+          ++ times 2 (step 1);
+      replies =
+          all
+          (ok ∷ (started 1 ∷ goings 3 ++ (ended ∷ []))
+          ++ (started 2 ∷ going ∷ started 3 ∷ goings 3)
+          ++ (started 4 ∷ goings 8)
+          ++ goings 2
+          ++ goings 2);
+    }
+    -- Phase 11 gives back. Producer 3 has set position 1 and stands before phase 10 while producer 1 links a record for position 2. What
+    -- producer 3 then claims it gives back, and finds free in phase 10 of its next enqueue.
+    ∷ record {
+      words = 78;
+      sizes = sized 2 3 3 9;
+      requests =
+          startEnqueue 1 10
+          ∷ times 4 (step 1)
+          ++ (startEnqueue 3 30 ∷ times 4 (step 3))
+          ++ (startEnqueue 1 11 ∷ times 6 (step 1))
+          ++ times 2 (step 3)
+          ++ (startEnqueue 3 31 ∷ times 5 (step 3));
+      replies =
+          all
+          (ok ∷ (started 1 ∷ goings 3 ++ (ended ∷ []))
+          ++ (started 2 ∷ goings 4)
+          ++ (started 3 ∷ goings 6)
+          ++ (going ∷ ended ∷ [])
+          ++ (started 4 ∷ goings 5));
+    }
+    -- Handled advances the head. The item at 1 is taken while 0 is empty, then the one at 0; the next dequeue passes 1 and answers empty
+    -- at the record's end.
+    ∷ record {
+      words = 70;
+      sizes = sized 2 3 2 9;
+      requests =
+          startEnqueue 2 20
+          ∷ times 2 (step 2)
+          ++ (startEnqueue 1 10 ∷ times 4 (step 1))
+          ++ (startDequeue ∷ times 5 (step 0))
+          ++ times 2 (step 2)
+          ++ times 2 (step 0)
+          ++ (startDequeue ∷ times 3 (step 0))
+          ++ (startDequeue ∷ times 2 (step 0));
+      replies =
+          all
+          (ok ∷ (started 1 ∷ goings 2)
+          ++ (started 2 ∷ goings 4)
+          ++ (ok ∷ goings 5)
+          ++ (going ∷ ended ∷ [])
+          ++ (going ∷ item 2 10 ∷ [])
+          ++ (ok ∷ goings 2 ++ (item 1 20 ∷ []))
+          ++ (ok ∷ going ∷ empty ∷ []));
+    }
+    -- The scan answers empty at the tail, and at the end of the tail record.
+    ∷ record {
+      words = 52;
+      sizes = sized 2 2 1 9;
+      requests = startEnqueue 1 10 ∷ step 1 ∷ startDequeue ∷ times 3 (step 0);
+      replies = all (ok ∷ started 1 ∷ going ∷ ok ∷ goings 2 ++ (empty ∷ []));
+    }
+    ∷ record {
+      words = 78;
+      sizes = sized 2 3 3 9;
+      requests = startEnqueue 3 30 ∷ startEnqueue 1 10 ∷ step 1 ∷ step 3 ∷ startDequeue ∷ times 5 (step 0);
+      replies = all (ok ∷ started 1 ∷ started 2 ∷ going ∷ going ∷ ok ∷ goings 4 ++ (empty ∷ []));
+    }
     ∷ []
 
 pub witnesses-as-written : map replay witnesses ≡ map (λ t. t .replies) witnesses
