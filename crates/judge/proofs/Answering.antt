@@ -1,6 +1,5 @@
 -- The judge's reply on what the words are read as.
-use mathlib.Core.Path.{_≡_, refl, ap, sym, subst, _∙_}
-use mathlib.Core.Logic.{_≢_}
+use mathlib.Core.Path.{_≡_, refl, ap, sym, _∙_}
 use mathlib.Core.Bool.{Bool, true, false, _||_, not, cond}
 use mathlib.Core.List.{List, [], _++_, map}
 use Prim.Native.Nat.{ℕ, _/_, _%_, _≤_}
@@ -11,20 +10,18 @@ use lib.ListN.{length, drop, length-map}
 use borrow.Author.Tests.{ltb-false}
 use Rattle.history.specs.Event.{History}
 use Rattle.history.specs.Calls.{Call, calls, row, rows}
-use Rattle.history.specs.Form.{Reading, refused, history, wellFormed, read}
-use Rattle.history.specs.Linearization.{Linearizable}
+use Rattle.history.specs.Form.{Reading, refused, history, read}
 use Rattle.criterion.specs.Pass.{passes, explains}
 use Rattle.criterion.specs.Criterion.{verdict}
 use Rattle.judge.specs.declared.Entered.{Entered}
 use Rattle.judge.specs.declared.Entered.the-variants as entered
 use Rattle.judge.specs.declared.Entered.the-variants.{Calls}
 use Rattle.judge.specs.declared.Call as table
-use Rattle.judge.specs.declared.Outcome.{Outcome}
 use Rattle.judge.specs.declared.Outcome.the-variants.{Refused, Explained, Unexplained}
 use Rattle.judge.specs.Build.{build}
 use Rattle.judge.specs.Table.{callAt, callsIn}
 use Rattle.judge.specs.Steps.{Holds, Read}
-use Rattle.judge.specs.Answer.{entry, written, Replied}
+use Rattle.judge.specs.Answer.{entry, written}
 use Rattle.judge.specs.Examine.{entryIn, filled, Examined}
 use Rattle.judge.proofs.Builds.{map-build, length-build}
 use Rattle.judge.proofs.Logic.{true-not-false, neither}

@@ -12,7 +12,7 @@ use prog.Routine.{Routine}
 use prog.Wp.{Heap}
 use ghost.Atoms.{Atoms}
 use contract.Monad.{Fun, fact}
-use types.Kit.{Given, Item, ‵, raw, some, later, _⊛_, ⋆, _$_, _∵_, !, qed, move, join, fjoin, frame, done}
+use types.Kit.{Given, Item, ‵, raw, some, later, _⊛_, ⋆, _$_, _∵_, !, qed, move, join, fjoin, done}
 use denote.Builtin.{u32}
 use denote.Ref.{RefT, name, now}
 use denote.Slice.{MutSlice, ShrSlice, finally, slice-vals}
