@@ -34,7 +34,7 @@ const NUMBER: usize = 20_480;
 const VALUE: usize = 24_576;
 
 // What the words read so far give: a refusal's number, or how many calls have been started.
-pub enum Entered {
+enum Entered {
     Refused(u32),
     Calls(usize),
 }
@@ -64,13 +64,13 @@ pub struct Call {
 
 // What one call does to the verdict's pass: the pass is stuck, or goes on with another mark, and with the place where the
 // next item is looked for first.
-pub enum Moved {
+enum Moved {
     Stuck,
     To { mark: u32, hint: usize },
 }
 
 // Where the verdict's pass ends: it fails, or leaves a mark.
-pub enum Marked {
+enum Marked {
     Fails,
     Mark(u32),
 }
@@ -481,6 +481,7 @@ fn examine(history: &[u32], entries: usize, m: &mut [u32; MEMORY]) -> Outcome
     }
 }
 
+// How many entries of the working table are filled; none where the history is refused.
 fn calls_of(outcome: Outcome) -> usize
     ensures { λ r. ⌜ r ≡ callsOf outcome ⌝ }
 {
@@ -491,6 +492,7 @@ fn calls_of(outcome: Outcome) -> usize
     }
 }
 
+// The reply alone.
 fn verdict_of(outcome: Outcome) -> Verdict
     ensures { λ r. ⌜ r ≡ verdictOf outcome ⌝ }
 {
@@ -525,6 +527,7 @@ fn answer_of(m: &[u32; MEMORY], j: usize) -> u32
     m[ANSWER + j]
 }
 
+// The record of call j.
 fn entry_of(m: &[u32; MEMORY], j: usize) -> Call
     requires { ⌜ j < 4096 ⌝ }
     ensures { λ r. ⌜ r ≡ entryIn (now (m .entry)) j ⌝ }
@@ -550,7 +553,8 @@ fn fill_calls(table: &mut [Call], m: &[u32; MEMORY], n: usize)
     }
 }
 
-// The judge: its reply on a history, and the working table.
+// The judge (document 01, "Judge"): its reply on a history, and one record for each started call in the working table. A refusal,
+// 10 to 13, leaves the table as it was.
 pub fn judge(history: &[u32], table: &mut [Call]) -> Verdict
     ensures { λ r. ⌜ Judges (now (history .entry)) (now (table .entry)) (now (table .exit)) r ⌝ }
 {
@@ -560,7 +564,7 @@ pub fn judge(history: &[u32], table: &mut [Call]) -> Verdict
     verdict_of(outcome)
 }
 
-// The judge with a working table of its own, which has an entry for every event.
+// The judge with a working table of its own, which has an entry for each of 4,096 events.
 pub fn judge_alone(history: &[u32]) -> Verdict
     ensures { λ r. ⌜ Replied (read 4096 (now (history .entry))) r ⌝ }
 {
