@@ -18,7 +18,7 @@ use prog.Wp.{Heap, WpFn, Tables}
 use ghost.Atoms.{Atoms}
 use contract.Monad.{Fun, fact, factI}
 use contract.Running.{givenOf, tables, tablesOf}
-use types.Kit.{Given, split3, ‵, raw, some, later, _⊛_, ⋆, _$_, _∵_, !, qed, by, move, keep, drop, use1, use2, use3, split, join, pick, rewrite, fsplit, fjoin, feqL, frame, await, done}
+use types.Kit.{Given, Item, split3, ‵, raw, some, later, _⊛_, ⋆, _$_, _∵_, !, qed, by, move, keep, drop, use1, use2, use3, split, join, pick, rewrite, fsplit, fjoin, feqL, frame, await, done}
 use types.Run.{look, init, store, forget, stop, hop, fld, from, load, lit, of-opd, addr, and-then, no-more, assigns, land, returns, enter, alloc1, alloc0, params1, pass1, pass0, free1, free0}
 use types.Part.{whole, sub, agg, rep, look-in}
 use types.Tokens.{lft-new, lft-end, lent-back}
@@ -127,6 +127,12 @@ module _ {M : Type 1} (𝓤 : URA M) (H : Heap 𝓤) (A : Atoms 𝓤) (W : Given
         nothing ! $ move ! (2 ∷ 0 ∷ []) $ join ! $ move ! (1 ∷ 0 ∷ []) $ join ! $ frame ! $
         nothing ! $ move ! (2 ∷ 0 ∷ []) $ fjoin ! $ owned ! usize (Is usize) (uint-makes 𝓤 H A W w64) (length ys) _ (refl, room .0) $ fjoin ! $ move ! (1 ∷ 0 ∷ []) $ fjoin ! $ done !
 
+    -- it gives back the tokens, what was found, and the memory's last value
+    abbrev examine-gave : (α : ℕ) (γ′ : GName) (u : Val) → Item 𝓤
+    examine-gave α γ′ u =
+        later (some (λ (r : Outcome). ((‵ (flft κ q) ⊛ ‵ (flft (α ∷ []) fullShare) ⊛ ‵ ftrue) ⊛ ‵ (outcome.the-row .own r (u ∷ []))) ⊛ some (λ (ws : Unit {0} × (Unit {0} × (List ℕ × Unit {0}))).
+        ‵ (fsep ftrue (fsep ftrue (fsep (fres γ′ (Working .coded .code (ws .1 .1 .0))) ftrue))) ⊛ raw (fact 𝓤 (Examined (read (length ys) hs) (length ys) (ws .1 .1 .0) r)))))
+
     -- `fill_calls` is passed the table, for good, the memory, lent for β, and how many there are
     abbrev to-fill : (β l : ℕ) (γ′ : GName) (ws : List ℕ) (c : ℕ) → FillCalls 𝓤 H A mem′ run .Ghost
     to-fill β l γ′ ws c = (((κ′, (β ∷ [], tt)), (q′, (fullShare, tt)), tt, (x, (at l γ′ ws, (c, tt))), (slice-vals x, (vptr l 0 ∷ [], (vint w64 c ∷ [], tt)))), tt)
@@ -137,6 +143,12 @@ module _ {M : Type 1} (𝓤 : URA M) (H : Heap 𝓤) (A : Atoms 𝓤) (W : Given
         qed W (‵ (flft κ′ q′) ∷ ‵ (flft (β ∷ []) fullShare) ∷ ‵ Lent-table ∷ ‵ (ShrRef (named 1) (β ∷ []) Working .own (at l γ′ ws) (vptr l 0 ∷ [])) ∷ []) ∵ says ! few $
         nothing ! $ move ! (2 ∷ 0 ∷ []) $ join ! $ move ! (1 ∷ 0 ∷ []) $ join ! $ frame ! $
         nothing ! $ owned ! usize (Is usize) (uint-makes 𝓤 H A W w64) c _ (refl, fits) $ fjoin ! $ move ! (2 ∷ 0 ∷ []) $ fjoin ! $ move ! (1 ∷ 0 ∷ []) $ fjoin ! $ done !
+
+    -- it gives back the tokens, and the table's last entries
+    abbrev fill-gave : (β : ℕ) (m : List ℕ) (c : ℕ) (u : Val) → Item 𝓤
+    fill-gave β m c u =
+        later (some (λ (n : Unit {0}). ((‵ (flft κ′ q′) ⊛ ‵ (flft (β ∷ []) fullShare) ⊛ ‵ ftrue) ⊛ ‵ (Nothing .own n (u ∷ []))) ⊛ some (λ (zs : List Call × (Unit {0} × (Unit {0} × Unit {0}))).
+        ‵ (fsep (fsep (finally Entry (name x) (zs .0)) (feq ℕ (length (zs .0)) (length ys))) (fsep ftrue (fsep ftrue ftrue))) ⊛ raw (fact 𝓤 (zs .0 ≡ filled m c ys)))))
 
     walk : ent 𝓤 (⋆ 𝓤 H A (Given-both κ κ′ q q′ h x)) (WpFn 𝓤 H (𝓣 .C) (𝓣 .Λ) code.function (sliceVal (ptr h) (length hs) ∷ s ∷ []) Post)
     walk =
@@ -159,36 +171,36 @@ module _ {M : Type 1} (𝓤 : URA M) (H : Heap 𝓤) (A : Atoms 𝓤) (W : Given
         -- [what the reference owns; the lender's part; α; what the history owns; what the table owns; the tokens; …]
         move ! (5 ∷ 2 ∷ 3 ∷ 0 ∷ []) $ use4 W (raw (Examine 𝓤 H A mem′ run .pre (to-examine α l₃ γ′))) (asked-examine α l₃ γ′) $
         calls-at ! fm (Examine 𝓤 H A mem′ run) (known .examine) (to-examine α l₃ γ′) (and-then ! (load ! (from ! (stop !)) (look ! 5 refl)) (and-then ! (load ! (from ! (stop !)) (look ! 8 refl)) (and-then ! (load ! (from ! (stop !)) (look ! 9 refl)) (no-more !)))) (λ u.
-        use1 W (later (some (λ (r : Outcome). ((‵ (flft κ q) ⊛ ‵ (flft (α ∷ []) fullShare) ⊛ ‵ ftrue) ⊛ ‵ (outcome.the-row .own r (u ∷ []))) ⊛ some (λ (ws : Unit {0} × (Unit {0} × (List ℕ × Unit {0}))). ‵ (fsep ftrue (fsep ftrue (fsep (fres γ′ (Working .coded .code (ws .1 .1 .0))) ftrue))) ⊛ raw (fact 𝓤 (Examined (read (length ys) hs) (length ys) (ws .1 .1 .0) r)))))) (id⊢ 𝓤 _) $ await ! tt $ pick ! (λ r.
-        split ! $ move ! (1 ∷ []) $ pick ! (λ ws. split ! $ move ! (1 ∷ []) $ heard ! (Examined (read (length ys) hs) (length ys) (ws .1 .1 .0) r) (λ judged.
+        use1 W (examine-gave α γ′ u) (id⊢ 𝓤 _) $ await ! tt $ pick ! (λ r.
+        split ! $ move ! (1 ∷ []) $ pick ! (λ lasts. let m : List ℕ = lasts .1 .1 .0 in split ! $ move ! (1 ∷ []) $ heard ! (Examined (read (length ys) hs) (length ys) m r) (λ judged.
         fsplit ! $ drop ! $ fsplit ! $ drop ! $ fsplit ! $ move ! (2 ∷ []) $ split ! $ split3 ! $ move ! (3 ∷ []) $
         -- [what was found; κ; α; true; the memory's last value; true; the lender's part; what the table owns; κ′; …]
         peeks ! outcome.the-row (Is outcome.the-row) (shows 𝓤 H A outcome.the-row) r (u ∷ []) (λ is.
         land ! (from ! (stop !)) (init ! 12 refl (EL.lawful outcome.the-type outcome-laws.the-laws 𝓤 H A W tt .typed r _ is .0)) $
         -- α is over, and the array is back
         drop ! $ move ! (1 ∷ []) $ lft-end ! tt $ move ! (0 ∷ 5 ∷ 3 ∷ []) $
-        use3 W (later (‵ (partAt Working fullShare (ws .1 .1 .0) l₃ 0))) (ref-back 𝓤 H A W Working (α ∷ []) γ′ (ws .1 .1 .0) l₃ 0) $ await ! tt $ move ! (2 ∷ 3 ∷ []) $ drop ! $ drop ! $
+        use3 W (later (‵ (partAt Working fullShare m l₃ 0))) (ref-back 𝓤 H A W Working (α ∷ []) γ′ m l₃ 0) $ await ! tt $ move ! (2 ∷ 3 ∷ []) $ drop ! $ drop ! $
         -- [the array; κ; what the table owns; κ′; …]
         assigns ! (addr ! (from ! (fld ! refl (hop ! (look-in ! 6 (sub ! 0 refl (whole !))) (stop !))))) (from ! (stop !)) (init ! 11 refl (tt, tt)) $
         assigns ! (agg ! (and-then ! (load ! (from ! (stop !)) (look ! 11 refl)) (and-then ! (load ! (from ! (fld ! refl (stop !))) (look-in ! 6 (sub ! 1 refl (whole !)))) (no-more !)))) (from ! (stop !)) (init ! 12 refl (tt, (tt, (record { fits = room .0 }, tt)))) $
         assigns ! (addr ! (from ! (stop !))) (from ! (stop !)) (init ! 13 refl (tt, tt)) $
         -- the array is lent for β
         lft-new ! tt (λ β. move ! (1 ∷ []) $
-        use1 W (later (some (λ (γ″ : GName). ‵ (ShrRef (named 1) (β ∷ []) Working .own (at l₃ γ″ (ws .1 .1 .0)) (vptr l₃ 0 ∷ [])) ⊛ ‵ (flent (β ∷ []) (partAt Working fullShare (ws .1 .1 .0) l₃ 0))))) (lends-shr 𝓤 H A W Working (named 1) (β ∷ []) fullShare (ws .1 .1 .0) l₃ 0) $ await ! tt $ pick ! (λ γ″. split ! $
+        use1 W (later (some (λ (γ″ : GName). ‵ (ShrRef (named 1) (β ∷ []) Working .own (at l₃ γ″ m) (vptr l₃ 0 ∷ [])) ⊛ ‵ (flent (β ∷ []) (partAt Working fullShare m l₃ 0))))) (lends-shr 𝓤 H A W Working (named 1) (β ∷ []) fullShare m l₃ 0) $ await ! tt $ pick ! (λ γ″. split ! $
         -- [what the reference owns; the lender's part; β; κ; what the table owns; κ′; …]
         owned ! outcome.the-row (Is outcome.the-row) (EL.makes outcome.the-type outcome-laws.the-plain 𝓤 H A) r _ is $
         computes outcome.the-row usize ! fm callsOf (known .calls-of) r u (and-then ! (load ! (from ! (stop !)) (look ! 10 refl)) (no-more !)) (λ u′. facts ! usize (Is usize) (shows 𝓤 H A usize) (callsOf r) (u′ ∷ []) (λ is′.
         land ! (from ! (stop !)) (store ! 10 refl (uint-lawful 𝓤 H A W w64 .typed (callsOf r) _ is′ .0)) $ rewrite ! 10 (λ (v : Val). ‵ (fat fullShare (tyInt w64) l₅ 0 v)) (ap only (is′ .0)) refl $
-        move ! (5 ∷ 2 ∷ 4 ∷ 0 ∷ []) $ use4 W (raw (FillCalls 𝓤 H A mem′ run .pre (to-fill β l₃ γ″ (ws .1 .1 .0) (callsOf r)))) (asked-fill β l₃ γ″ (ws .1 .1 .0) (callsOf r) (is′ .1) (judged .few)) $
-        calls-at ! fm (FillCalls 𝓤 H A mem′ run) (known .fill-calls) (to-fill β l₃ γ″ (ws .1 .1 .0) (callsOf r)) (and-then ! (load ! (from ! (stop !)) (look ! 11 refl)) (and-then ! (load ! (from ! (stop !)) (look ! 12 refl)) (and-then ! (load ! (from ! (stop !)) (look ! 7 refl)) (no-more !)))) (λ u″.
-        use1 W (later (some (λ (n : Unit {0}). ((‵ (flft κ′ q′) ⊛ ‵ (flft (β ∷ []) fullShare) ⊛ ‵ ftrue) ⊛ ‵ (Nothing .own n (u″ ∷ []))) ⊛ some (λ (zs : List Call × (Unit {0} × (Unit {0} × Unit {0}))). ‵ (fsep (fsep (finally Entry (name x) (zs .0)) (feq ℕ (length (zs .0)) (length ys))) (fsep ftrue (fsep ftrue ftrue))) ⊛ raw (fact 𝓤 (zs .0 ≡ filled (ws .1 .1 .0) (callsOf r) ys)))))) (id⊢ 𝓤 _) $ await ! tt $ pick ! (λ n.
-        split ! $ move ! (1 ∷ []) $ pick ! (λ zs. split ! $ move ! (1 ∷ []) $ heard ! (zs .0 ≡ filled (ws .1 .1 .0) (callsOf r) ys) (λ entered-in. fsplit ! $ fsplit ! $ move ! (1 ∷ []) $ feqL ! (λ long.
+        move ! (5 ∷ 2 ∷ 4 ∷ 0 ∷ []) $ use4 W (raw (FillCalls 𝓤 H A mem′ run .pre (to-fill β l₃ γ″ m (callsOf r)))) (asked-fill β l₃ γ″ m (callsOf r) (is′ .1) (judged .few)) $
+        calls-at ! fm (FillCalls 𝓤 H A mem′ run) (known .fill-calls) (to-fill β l₃ γ″ m (callsOf r)) (and-then ! (load ! (from ! (stop !)) (look ! 11 refl)) (and-then ! (load ! (from ! (stop !)) (look ! 12 refl)) (and-then ! (load ! (from ! (stop !)) (look ! 7 refl)) (no-more !)))) (λ u″.
+        use1 W (fill-gave β m (callsOf r) u″) (id⊢ 𝓤 _) $ await ! tt $ pick ! (λ n.
+        split ! $ move ! (1 ∷ []) $ pick ! (λ lasts. let zs : List Call = lasts .0 in split ! $ move ! (1 ∷ []) $ heard ! (zs ≡ filled m (callsOf r) ys) (λ entered-in. fsplit ! $ fsplit ! $ move ! (1 ∷ []) $ feqL ! (λ long.
         move ! (2 ∷ []) $ split ! $ split3 ! $ move ! (3 ∷ []) $ facts ! Nothing (Is Nothing) (shows 𝓤 H A Nothing) n (u″ ∷ []) (λ is″.
         -- [κ′; β; true; the table's last entries; true; the lender's part; κ; …]
         land ! (from ! (stop !)) (init ! 13 refl (nothing-lawful 𝓤 H A W .typed n _ is″ .0)) $
         -- β is over, and the array is there to be freed
         move ! (1 ∷ []) $ lft-end ! tt $ move ! (0 ∷ 5 ∷ []) $ lent-back ! tt $
-        use1 W (some (λ (v : Val). ‵ (fat fullShare _ l₃ 0 v) ⊛ ‵ (Working .own (ws .1 .1 .0) (v ∷ [])))) (part-out 𝓤 H A W Working refl fullShare (ws .1 .1 .0) l₃ 0) $ pick ! (λ v₃. split ! $ move ! (1 ∷ []) $ drop ! $ move ! (2 ∷ 4 ∷ []) $ drop ! $ drop ! $
+        use1 W (some (λ (v : Val). ‵ (fat fullShare _ l₃ 0 v) ⊛ ‵ (Working .own m (v ∷ [])))) (part-out 𝓤 H A W Working refl fullShare m l₃ 0) $ pick ! (λ v₃. split ! $ move ! (1 ∷ []) $ drop ! $ move ! (2 ∷ 4 ∷ []) $ drop ! $ drop ! $
         -- [_3; κ′; the table's last entries; κ; …]
         owned ! outcome.the-row (Is outcome.the-row) (EL.makes outcome.the-type outcome-laws.the-plain 𝓤 H A) r _ is $
         computes outcome.the-row verdict.the-row ! fm verdictOf (known .verdict-of) r u (and-then ! (load ! (from ! (stop !)) (look ! 8 refl)) (no-more !)) (λ v.
@@ -198,7 +210,7 @@ module _ {M : Type 1} (𝓤 : URA M) (H : Heap 𝓤) (A : Atoms 𝓤) (W : Given
         returns ! (look ! 5 refl) $ forget ! 1 refl $ forget ! 5 refl $ forget ! 6 refl $ forget ! 7 refl $ forget ! 8 refl $ forget ! 9 refl $ forget ! 10 refl $ forget ! 11 refl $ forget ! 12 refl $ forget ! 13 refl $ forget ! 14 refl $
         move ! (5 ∷ 15 ∷ []) $ free1 ! $ move ! (5 ∷ 14 ∷ []) $ free1 ! $ move ! (5 ∷ 13 ∷ []) $ free1 ! $ move ! (1 ∷ 12 ∷ []) $ free1 ! $ move ! (4 ∷ 11 ∷ []) $ free1 ! $ move ! (4 ∷ 10 ∷ []) $ free1 ! $
         move ! (4 ∷ 9 ∷ []) $ free1 ! $ move ! (4 ∷ 8 ∷ []) $ free1 ! $ move ! (4 ∷ 7 ∷ []) $ free1 ! $ move ! (4 ∷ 6 ∷ []) $ free1 ! $ move ! (4 ∷ 5 ∷ []) $ free1 ! $ free0 ! $
-        keep ! (0 ∷ 2 ∷ 3 ∷ 1 ∷ []) $ by ! (exits 𝓤 H A W verdict.the-row (judge.clauses 𝓤 H A mem′ run) κ κ′ q q′ h x tt (verdictOf r) v (zs .0) long (factI 𝓤 _ _ (record { replies = judged .replies; fills = entered-in ∙ judged .fills ys })))))))))))))))))))))))))))))))))))
+        keep ! (0 ∷ 2 ∷ 3 ∷ 1 ∷ []) $ by ! (exits 𝓤 H A W verdict.the-row (judge.clauses 𝓤 H A mem′ run) κ κ′ q q′ h x tt (verdictOf r) v zs long (factI 𝓤 _ _ (record { replies = judged .replies; fills = entered-in ∙ judged .fills ys })))))))))))))))))))))))))))))))))))
 
   judge-meets : Meets 𝓤 H A judge.signature (WpFn 𝓤 H (𝓣 .C) (𝓣 .Λ) code.function) (judge.spec 𝓤 H A mem′ run)
   judge-meets = meets 𝓤 H A W verdict.the-row (judge.clauses 𝓤 H A mem′ run) (WpFn 𝓤 H (𝓣 .C) (𝓣 .Λ) code.function) (WpFn-mono 𝓤 H (W .laws) 𝓣 code.function) (λ κ κ′ q q′ h x g. walk κ κ′ q q′ h x)

@@ -128,17 +128,17 @@ module _ {M : Type 1} (𝓤 : URA M) (H : Heap 𝓤) (A : Atoms 𝓤) (W : Given
         -- [what the table owns; the lender's part; α; what the history owns; κ; …]
         move ! (4 ∷ 2 ∷ 3 ∷ 0 ∷ []) $ use4 W (raw (Judge 𝓤 H A mem′ run .pre (to-judge 𝓤 H A mem′ run κ (α ∷ []) q fullShare h (x l₂ γ)))) (asked-judge 𝓤 H A mem′ run κ (α ∷ []) q fullShare h (x l₂ γ) W) $
         calls-at ! fm (Judge 𝓤 H A mem′ run) known (to-judge 𝓤 H A mem′ run κ (α ∷ []) q fullShare h (x l₂ γ)) (and-then ! (load ! (from ! (stop !)) (look ! 3 refl)) (and-then ! (load ! (from ! (stop !)) (look ! 6 refl)) (no-more !))) (λ v.
-        use1 W (Came 𝓤 H A mem′ run κ (α ∷ []) q fullShare h (x l₂ γ) v) (id⊢ 𝓤 _) $ await ! tt $ pick ! (λ r. split ! $ move ! (1 ∷ []) $ pick ! (λ zs. split ! $ move ! (1 ∷ []) $ heard ! (Judges hs ys (zs .1 .0) r) (λ judged.
+        use1 W (Came 𝓤 H A mem′ run κ (α ∷ []) q fullShare h (x l₂ γ) v) (id⊢ 𝓤 _) $ await ! tt $ pick ! (λ r. split ! $ move ! (1 ∷ []) $ pick ! (λ lasts. let zs : List Call = lasts .1 .0 in split ! $ move ! (1 ∷ []) $ heard ! (Judges hs ys zs r) (λ judged.
         fsplit ! $ drop ! $ fsplit ! $ fsplit ! $ move ! (3 ∷ []) $ split ! $ split3 ! $ move ! (3 ∷ []) $
         -- [the verdict; κ; α; true; the table's last entries; their length; true; the lender's part; …]
         peeks ! verdict.the-row (Is verdict.the-row) (shows 𝓤 H A verdict.the-row) r (v ∷ []) (λ is.
         land ! (from ! (stop !)) (init ! 8 refl (EL.lawful verdict.the-type verdict-laws.the-laws 𝓤 H A W tt .typed r _ is .0)) $
         -- α is over, and the array is there to be freed
         move ! (2 ∷ []) $ lft-end ! tt $ move ! (0 ∷ 7 ∷ 4 ∷ []) $
-        use3 W (later (‵ (Arr (mem Entry) (length ys) .lies (zs .1 .0) l₂ 0))) (slice-back 𝓤 H A W Entry (α ∷ []) γ (zs .1 .0) (length ys) l₂ 0) $ await ! tt $ fsplit ! $ feqL ! (λ e′.
-        use1 W (‵ (row Entry fullShare (zs .1 .0) l₂ 0)) (whole-out 𝓤 H A W Entry (zs .1 .0) l₂ 0) $ feqI ! ℕ (length (zs .1 .0)) 4096 (e′ ∙ e) $ fjoin ! $
-        use1 W (‵ (partAt Entries fullShare (zs .1 .0) l₂ 0)) (array-whole 𝓤 H A W Entry fullShare 4096 (zs .1 .0) l₂ 0) $
-        use1 W (some (λ (u : Val). ‵ (fat fullShare _ l₂ 0 u) ⊛ ‵ (Entries .own (zs .1 .0) (u ∷ [])))) (part-out 𝓤 H A W Entries refl fullShare (zs .1 .0) l₂ 0) $ pick ! (λ u. split ! $ move ! (1 ∷ []) $ drop ! $
+        use3 W (later (‵ (Arr (mem Entry) (length ys) .lies zs l₂ 0))) (slice-back 𝓤 H A W Entry (α ∷ []) γ zs (length ys) l₂ 0) $ await ! tt $ fsplit ! $ feqL ! (λ e′.
+        use1 W (‵ (row Entry fullShare zs l₂ 0)) (whole-out 𝓤 H A W Entry zs l₂ 0) $ feqI ! ℕ (length zs) 4096 (e′ ∙ e) $ fjoin ! $
+        use1 W (‵ (partAt Entries fullShare zs l₂ 0)) (array-whole 𝓤 H A W Entry fullShare 4096 zs l₂ 0) $
+        use1 W (some (λ (u : Val). ‵ (fat fullShare _ l₂ 0 u) ⊛ ‵ (Entries .own zs (u ∷ [])))) (part-out 𝓤 H A W Entries refl fullShare zs l₂ 0) $ pick ! (λ u. split ! $ move ! (1 ∷ []) $ drop ! $
         -- [_2; the verdict; κ; true; the length; true; _0; _1; _3 to _5; that each dies]
         returns ! (look ! 6 refl) $ forget ! 0 refl $ forget ! 6 refl $ forget ! 7 refl $ forget ! 8 refl $ forget ! 9 refl $ forget ! 10 refl $
         move ! (6 ∷ 11 ∷ []) $ free1 ! $ move ! (6 ∷ 10 ∷ []) $ free1 ! $ move ! (0 ∷ 9 ∷ []) $ free1 ! $ move ! (5 ∷ 8 ∷ []) $ free1 ! $ move ! (5 ∷ 7 ∷ []) $ free1 ! $ move ! (5 ∷ 6 ∷ []) $ free1 ! $ free0 ! $

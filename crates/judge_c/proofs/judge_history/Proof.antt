@@ -76,7 +76,7 @@ module _ {M : Type 1} (𝓤 : URA M) (H : Heap 𝓤) (A : Atoms 𝓤) (W : Given
         assigns ! (agg ! (and-then ! (load ! (from ! (stop !)) (look ! 8 refl)) (and-then ! (load ! (from ! (fld ! refl (stop !))) (look-in ! 6 (sub ! 1 refl (whole !)))) (no-more !)))) (from ! (stop !)) (init ! 9 refl (tt, (tt, (record { fits = room .0 }, tt)))) $
         use4 W (raw (Judge 𝓤 H A mem′ run .pre (to-judge 𝓤 H A mem′ run κ κ′ q q′ h x))) (asked-judge 𝓤 H A mem′ run κ κ′ q q′ h x W) $
         calls-at ! fm (Judge 𝓤 H A mem′ run) (known .judge) (to-judge 𝓤 H A mem′ run κ κ′ q q′ h x) (and-then ! (load ! (from ! (stop !)) (look ! 2 refl)) (and-then ! (load ! (from ! (stop !)) (look ! 6 refl)) (no-more !))) (λ u.
-        use1 W (Came 𝓤 H A mem′ run κ κ′ q q′ h x u) (id⊢ 𝓤 _) $ await ! tt $ pick ! (λ r. split ! $ move ! (1 ∷ []) $ pick ! (λ zs. split ! $ move ! (1 ∷ []) $ heard ! (Judges (now h) (now x) (zs .1 .0) r) (λ judged.
+        use1 W (Came 𝓤 H A mem′ run κ κ′ q q′ h x u) (id⊢ 𝓤 _) $ await ! tt $ pick ! (λ r. split ! $ move ! (1 ∷ []) $ pick ! (λ lasts. let zs : List Call = lasts .1 .0 in split ! $ move ! (1 ∷ []) $ heard ! (Judges (now h) (now x) zs r) (λ judged.
         fsplit ! $ drop ! $ fsplit ! $ fsplit ! $ move ! (1 ∷ []) $ feqL ! (λ long. move ! (2 ∷ []) $ split ! $ split3 ! $ move ! (3 ∷ []) $
         -- [the verdict; the tokens; true; the table's last entries; true; _0 to _5; that each dies]
         peeks ! verdict.the-row (Is verdict.the-row) (shows 𝓤 H A verdict.the-row) r (u ∷ []) (λ is.
@@ -86,7 +86,7 @@ module _ {M : Type 1} (𝓤 : URA M) (H : Heap 𝓤) (A : Atoms 𝓤) (W : Given
         land ! (from ! (stop !)) (init ! 6 refl (uint-lawful 𝓤 H A W w32 .typed (numberOf r) _ is′ .0)) $
         returns ! (look ! 6 refl) $ forget ! 6 refl $ forget ! 7 refl $ forget ! 8 refl $ forget ! 9 refl $ forget ! 10 refl $ forget ! 11 refl $
         move ! (6 ∷ 12 ∷ []) $ free1 ! $ move ! (6 ∷ 11 ∷ []) $ free1 ! $ move ! (6 ∷ 10 ∷ []) $ free1 ! $ move ! (6 ∷ 9 ∷ []) $ free1 ! $ move ! (6 ∷ 8 ∷ []) $ free1 ! $ move ! (6 ∷ 7 ∷ []) $ free1 ! $ free0 ! $
-        keep ! (0 ∷ 4 ∷ 1 ∷ 2 ∷ []) $ by ! (exits 𝓤 H A W u32 (reply.clauses 𝓤 H A mem′ run) κ κ′ q q′ h x tt (numberOf r) v (zs .1 .0) long (factI 𝓤 _ _ (record { verdict = r; is-number = refl; judges = judged })))))))))))))))))
+        keep ! (0 ∷ 4 ∷ 1 ∷ 2 ∷ []) $ by ! (exits 𝓤 H A W u32 (reply.clauses 𝓤 H A mem′ run) κ κ′ q q′ h x tt (numberOf r) v zs long (factI 𝓤 _ _ (record { verdict = r; is-number = refl; judges = judged })))))))))))))))))
 
   reply-meets : Meets 𝓤 H A reply.signature (WpFn 𝓤 H (𝓣 .C) (𝓣 .Λ) code.function) (reply.spec 𝓤 H A mem′ run)
   reply-meets = meets 𝓤 H A W u32 (reply.clauses 𝓤 H A mem′ run) (WpFn 𝓤 H (𝓣 .C) (𝓣 .Λ) code.function) (WpFn-mono 𝓤 H (W .laws) 𝓣 code.function) (λ κ κ′ q q′ h x g. walk κ κ′ q q′ h x)
