@@ -3,7 +3,11 @@
 #include <stdint.h>
 #include <time.h>
 
-uint32_t judge_history(const uint32_t *history, size_t words, uint32_t *table, size_t entries);
+struct call {
+    uint32_t kind, start, end, answer;
+};
+
+uint32_t judge_history(const uint32_t *history, size_t words, struct call *table, size_t entries);
 
 static double now(void)
 {
@@ -20,7 +24,7 @@ uint32_t plain_pass(const uint32_t *history, size_t words)
     return sum;
 }
 
-double time_judge(const uint32_t *history, size_t words, uint32_t *table, size_t entries, int turns, uint32_t *reply)
+double time_judge(const uint32_t *history, size_t words, struct call *table, size_t entries, int turns, uint32_t *reply)
 {
     double start = now();
     for (int i = 0; i < turns; i++)

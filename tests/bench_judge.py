@@ -70,10 +70,10 @@ def main():
     print(f'{"history":30}{"reply":>14}{"judge":>12}{"ns/event":>10}{"C pass":>12}{"ratio":>8}')
     for name, history in cases:
         words = jl.array(flatten(history))
-        table, reply, total = jl.array([0] * 16384), ctypes.c_uint32(), ctypes.c_uint32()
+        table, reply, total = (jl.Call * 4096)(), ctypes.c_uint32(), ctypes.c_uint32()
         turns = 200
         judged = min(
-            library.time_judge(words, ctypes.c_size_t(len(words)), table, ctypes.c_size_t(16384), turns, ctypes.byref(reply))
+            library.time_judge(words, ctypes.c_size_t(len(words)), table, ctypes.c_size_t(4096), turns, ctypes.byref(reply))
             for _ in range(5)
         )
         passed = min(library.time_pass(words, ctypes.c_size_t(len(words)), turns * 5, ctypes.byref(total)) for _ in range(5))

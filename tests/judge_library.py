@@ -7,14 +7,13 @@ import tempfile
 
 ROOT = pathlib.Path(__file__).resolve().parent.parent
 ARCHIVE = ROOT / 'target' / 'staticlib' / 'libjudge_c.a'
-CALL_TABLE = ROOT / 'target' / 'staticlib' / 'libcall_table.a'
 PROGRAM = ROOT / 'target' / 'bin' / 'verdict'
 WORDS = {0: 'explained', 1: 'unexplained'}
 Words = ctypes.POINTER(ctypes.c_uint32)
 
 
 class Call(ctypes.Structure):
-    """An entry of the lent table."""
+    """An entry of the working table."""
 
     _fields_ = [(name, ctypes.c_uint32) for name in ('kind', 'start', 'end', 'answer')]
 
@@ -40,16 +39,9 @@ def built(archive, crate):
     return archive
 
 
-def load_call_table():
-    library = shared([built(CALL_TABLE, 'call_table')], 'call_table')
-    library.fill_calls.argtypes = [ctypes.POINTER(Call), ctypes.c_size_t, Words, ctypes.c_size_t, ctypes.c_size_t]
-    library.fill_calls.restype = None
-    return library
-
-
 def load():
     library = shared([built(ARCHIVE, 'judge_c')], 'judge')
-    library.judge_history.argtypes = [Words, ctypes.c_size_t, Words, ctypes.c_size_t]
+    library.judge_history.argtypes = [Words, ctypes.c_size_t, ctypes.POINTER(Call), ctypes.c_size_t]
     library.judge_history.restype = ctypes.c_uint32
     return library
 
@@ -58,8 +50,8 @@ def array(words):
     return (ctypes.c_uint32 * len(words))(*words)
 
 
-def judge(library, words, table):
-    """The reply in the model's form, and the words of the table afterwards."""
-    lent = array(table)
-    reply = library.judge_history(array(words), len(words), lent, len(table))
-    return WORDS.get(reply, ('refused', reply)), list(lent)
+def judge(library, words, table, entries):
+    """The reply in the model's form, and the table's rows afterwards; its first entries are lent."""
+    lent = (Call * len(table))(*table)
+    reply = library.judge_history(array(words), len(words), lent, entries)
+    return WORDS.get(reply, ('refused', reply)), [call.row() for call in lent]

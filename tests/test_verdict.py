@@ -36,11 +36,9 @@ def program(text):
 
 
 def expected(words, entries, decide):
-    """The model's reply in the library's form, and its rows flat."""
+    """The model's reply in the library's form, and the rows that it writes."""
     reply = jm.judge(words, entries, decide)
-    if reply[0] == 'refused':
-        return reply, None
-    return reply[0], [word for row in reply[1] for word in row]
+    return (reply, []) if reply[0] == 'refused' else (reply[0], list(reply[1]))
 
 
 def printed(reply):
@@ -175,19 +173,20 @@ class Program(unittest.TestCase):
 
 
 class Differential(unittest.TestCase):
-    """The library against the independent judge, its table word by word."""
+    """The library against the independent judge, its table entry by entry."""
 
     @classmethod
     def setUpClass(cls):
         cls.library = jl.load()
 
     def hold(self, words, entries, decide):
-        """The reply and every word of the table, on a table of so many entries and a bit more."""
-        table = [MARK] * (4 * entries + 3)
-        reply, after = jl.judge(self.library, words, table)
+        """The reply and every field of the table: a field in the wrong place, an entry too few or too many, one after
+        them touched, or one past the end."""
+        table = [(MARK, k, MARK, k) for k in range(entries + 2)]
+        reply, after = jl.judge(self.library, words, table, entries)
         word, rows = expected(words, entries, decide)
         self.assertEqual(reply, word, words)
-        self.assertEqual(after, table if rows is None else rows + table[len(rows) :], words)
+        self.assertEqual(after, rows + table[len(rows) :], words)
         return word
 
     def test_short_histories(self):
@@ -246,22 +245,6 @@ class Differential(unittest.TestCase):
                 history[at] = tuple(rng.choice([0, 1, 2, 3, 17, 2**32 - 1]) for _ in range(4))
             word, _ = expected(flatten(history), 4096, jm.explained_by_mark)
             self.assertEqual(program(text_of(history)), printed(word), history)
-
-
-class LentTable(unittest.TestCase):
-    """The lent slice of call structs, filled from the judge's words."""
-
-    def test_rows(self):
-        """A field in the wrong place, an entry too few or too many, or one after them touched."""
-        library, table, rng = jl.load(), jl.load_call_table(), random.Random(4)
-        for _ in range(500):
-            history = run_of_calls(rng, rng.randrange(120), wrong=0.05)
-            rows = [call.row() for call in jm.calls_of(history)]
-            _, words = jl.judge(library, flatten(history), [MARK] * (4 * len(history)))
-            lent = (jl.Call * (len(history) + 2))(*[(MARK, k, MARK, k) for k in range(len(history) + 2)])
-            table.fill_calls(lent, len(lent), jl.array(words), len(words), len(rows))
-            after = [(MARK, k, MARK, k) for k in range(len(rows), len(lent))]
-            self.assertEqual([call.row() for call in lent], rows + after)
 
 
 if __name__ == '__main__':

@@ -1,27 +1,29 @@
 -- The judge's reply on what the words are read as.
-use mathlib.Core.Path.{_≡_, refl, ap, sym, subst, _∙_}
-use mathlib.Core.Logic.{_≢_}
+use mathlib.Core.Path.{_≡_, refl, ap, sym, _∙_}
 use mathlib.Core.Bool.{Bool, true, false, _||_, not, cond}
-use mathlib.Core.List.{List, [], map}
+use mathlib.Core.List.{List, [], _++_, map}
 use Prim.Native.Nat.{ℕ, _/_, _%_, _≤_}
+use native.Mathlib.Nat.{le-trans}
 use native.Mathlib.Omega.{arith}
 use lib.Dec.{eqb, ltb}
-use lib.ListN.{length}
+use lib.ListN.{length, drop, length-map}
 use borrow.Author.Tests.{ltb-false}
 use Rattle.history.specs.Event.{History}
 use Rattle.history.specs.Calls.{Call, calls, row, rows}
-use Rattle.history.specs.Form.{Reading, refused, history, wellFormed, read}
-use Rattle.history.specs.Linearization.{Linearizable}
+use Rattle.history.specs.Form.{Reading, refused, history, read}
 use Rattle.criterion.specs.Pass.{passes, explains}
 use Rattle.criterion.specs.Criterion.{verdict}
 use Rattle.judge.specs.declared.Entered.{Entered}
 use Rattle.judge.specs.declared.Entered.the-variants as entered
 use Rattle.judge.specs.declared.Entered.the-variants.{Calls}
-use Rattle.judge.specs.declared.Verdict.{Verdict}
-use Rattle.judge.specs.declared.Verdict.the-variants.{Refused, Explained, Unexplained}
-use Rattle.judge.specs.Table.{callsIn}
+use Rattle.judge.specs.declared.Call as table
+use Rattle.judge.specs.declared.Outcome.the-variants.{Refused, Explained, Unexplained}
+use Rattle.judge.specs.Build.{build}
+use Rattle.judge.specs.Table.{callAt, callsIn}
 use Rattle.judge.specs.Steps.{Holds, Read}
-use Rattle.judge.specs.Answer.{flat, over, Judged}
+use Rattle.judge.specs.Answer.{entry, written}
+use Rattle.judge.specs.Examine.{entryIn, filled, Examined}
+use Rattle.judge.proofs.Builds.{map-build, length-build}
 use Rattle.judge.proofs.Logic.{true-not-false, neither}
 
 refused-not-read : (n : ℕ) (h : History) → refused n ≡ history h → ⊥
@@ -48,27 +50,41 @@ pub read-held : (x : Reading) (limit : ℕ) (m : List ℕ) (r : Entered) (c : �
 unfolding Read
 read-held x limit m r c p e = rw e at p
 
-pub is-refused : (x : Reading) (n : ℕ) (table : List ℕ) → x ≡ refused n → Judged x table table (Refused n)
-unfolding Judged
-is-refused x n table e = rw e (refl, refl)
+pub is-refused : (x : Reading) (entries n : ℕ) (m : List ℕ) → x ≡ refused n → Examined x entries m (Refused n)
+is-refused x entries n m e = record { replies = rw e; fills = λ t. rw e; few = (omega arith, omega arith) }
 
-module _ (x : Reading) (limit : ℕ) (m : List ℕ) (c : ℕ) (table table′ : List ℕ) (holds : Holds x limit m c)
-    (is : table′ ≡ over (flat (map row (callsIn m c))) table) where
+module _ (entries : ℕ) (words m : List ℕ) (c : ℕ) (holds : Holds (read entries words) (length words / 4) m c) where
   abbrev h : History
   h = holds .read-as
 
-  table-is : table′ ≡ over (flat (rows h)) table
-  table-is = is ∙ ap (λ cs. over (flat (map row cs)) table) (holds .are-calls)
+  -- the calls in the memory are the history's
+  length-rows : length (rows h) ≡ c
+  length-rows = length-map (calls h) row ∙ ap length (sym (holds .are-calls)) ∙ length-build (callAt m) c
+
+  entries-are : build (entryIn m) c ≡ map entry (rows h)
+  entries-are =
+      sym (map-build entry (λ j. row (callAt m j)) c)
+      ∙ ap (map entry) (sym (map-build row (callAt m) c))
+      ∙ ap (λ cs. map entry (map row cs)) (holds .are-calls)
+
+  holds-them : (t : List table.Call) → filled m c t ≡ written (read entries words) t
+  holds-them t = rw (holds .is-read) (ap (λ l. l ++ drop c t) entries-are ∙ ap (λ n. map entry (rows h) ++ drop n t) (sym length-rows))
+
+  pub at-most : (c ≤ entries) × (c ≤ 4096)
+  at-most =
+      let a = admitted entries words h (holds .is-read) in
+      (le-trans (holds .few) (a .1), le-trans (holds .few) (a .0))
 
   pass-is : (b : Bool) → b ≡ passes (callsIn m c) (callsIn m c) 0 [] → explains h ≡ b
   unfolding explains
   pass-is b e = ap (λ cs. passes cs cs 0 []) (sym (holds .are-calls)) ∙ sym e
 
-  pub is-explained : (b : Bool) → b ≡ passes (callsIn m c) (callsIn m c) 0 [] → b ≡ true → Judged x table table′ Explained
-  unfolding Judged
-  is-explained b e y = rw (holds .is-read) (verdict h (holds .is-formed) .0 (pass-is b e ∙ y), table-is)
+  pub is-explained : (b : Bool) → b ≡ passes (callsIn m c) (callsIn m c) 0 [] → b ≡ true → Examined (read entries words) entries m (Explained c)
+  is-explained b e y = record { replies = rw (holds .is-read) (verdict h (holds .is-formed) .0 (pass-is b e ∙ y)); fills = holds-them; few = at-most }
 
-  pub is-unexplained : (b : Bool) → b ≡ passes (callsIn m c) (callsIn m c) 0 [] → b ≡ false → Judged x table table′ Unexplained
-  unfolding Judged
-  is-unexplained b e y =
-      rw (holds .is-read) (λ l. true-not-false (sym (verdict h (holds .is-formed) .1 l) ∙ pass-is b e ∙ y), table-is)
+  pub is-unexplained : (b : Bool) → b ≡ passes (callsIn m c) (callsIn m c) 0 [] → b ≡ false → Examined (read entries words) entries m (Unexplained c)
+  is-unexplained b e y = record {
+    replies = rw (holds .is-read) (λ l. true-not-false (sym (verdict h (holds .is-formed) .1 l) ∙ pass-is b e ∙ y));
+    fills = holds-them;
+    few = at-most;
+  }

@@ -11,3 +11,6 @@ pub mod Passing
 pub mod Zeros
 pub mod Filling
 pub mod Answering
+pub mod Walking
+pub mod Calling
+pub mod Taken

@@ -1,12 +1,13 @@
 -- What the judge replies, and what it writes to the working table (document 01, "Judge").
 use mathlib.Core.Path.{_≡_}
-use mathlib.Core.List.{List, [], _∷_, _++_}
-use Prim.Native.Nat.{ℕ, _/_}
+use mathlib.Core.List.{List, _++_, map}
+use Prim.Native.Nat.{ℕ}
 use lib.ListN.{length, drop}
 use Rattle.history.specs.Event.{History}
 use Rattle.history.specs.Calls.{Row, rows}
 use Rattle.history.specs.Form.{Reading, refused, history, read}
 use Rattle.history.specs.Linearization.{Linearizable}
+use Rattle.judge.specs.declared.Call.{Call}
 use Rattle.judge.specs.declared.Verdict.{Verdict}
 use Rattle.judge.specs.declared.Verdict.the-variants.{Refused, Explained, Unexplained}
 
@@ -16,21 +17,21 @@ Decides (Refused n) h = ⊥
 Decides Explained h = Linearizable h
 Decides Unexplained h = Linearizable h → ⊥
 
--- The records of the working table as words, four for each: kind, start event, end event, answer.
-abbrev pub flat : List Row → List ℕ
-flat [] = []
-flat (r ∷ rs) = r .kind ∷ r .start ∷ r .end ∷ r .answer ∷ flat rs
+-- The reply on what the words are read as: a refusal's number, or the reply on a history.
+abbrev pub Replied : Reading → Verdict → Type 0
+Replied (refused n) r = r ≡ Refused n
+Replied (history h) r = Decides r h
 
-module _ {A : Type 0} where
-  -- some entries over the beginning of a table; those after them are untouched
-  abbrev pub over : List A → List A → List A
-  over xs table = xs ++ drop (length xs) table
+-- A record of the working table as an entry.
+abbrev pub entry : Row → Call
+entry r = record { kind = r .kind; start = r .start; end = r .end; answer = r .answer }
 
--- The judge's reply r, and the table before and after, on what the words are read as.
-unfoldable pub Judged : Reading → (before after : List ℕ) → Verdict → Type 0
-Judged (refused n) before after r = (r ≡ Refused n) × (after ≡ before)
-Judged (history h) before after r = Decides r h × (after ≡ over (flat (rows h)) before)
+-- The table afterwards: as it was, or one record for each started call, in starting order, and the entries after those untouched.
+abbrev pub written : Reading → List Call → List Call
+written (refused n) table = table
+written (history h) table = map entry (rows h) ++ drop (length (rows h)) table
 
--- The judge over a working table of four words an entry.
-abbrev pub JudgesWords : (words before after : List ℕ) → Verdict → Type 0
-JudgesWords words before after r = Judged (read (length before / 4) words) before after r
+-- The judge on a history's words, with the table before and after.
+pub record Judges (words : List ℕ) (before after : List Call) (r : Verdict) : Type 0 where
+  pub replies : Replied (read (length before) words) r
+  pub fills : after ≡ written (read (length before) words) before

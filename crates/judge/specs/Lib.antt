@@ -3,3 +3,4 @@ pub mod Table
 pub mod Steps
 pub mod Marks
 pub mod Answer
+pub mod Examine

@@ -2,16 +2,17 @@
 ghost use mathlib.Core.Path.{_≡_};
 ghost use mathlib.Core.Logic.{_≢_};
 ghost use mathlib.Core.Bool.{_&&_, _||_};
-ghost use mathlib.Core.List.{List, [], map};
+ghost use mathlib.Core.List.{List, []};
 ghost use Prim.Native.Nat.{ℕ, _+_, _*_, _/_, _≤_, _<_, max};
 ghost use lib.Dec.{leb, eqb};
-ghost use lib.ListN.{length, set};
+ghost use lib.ListN.{length};
 ghost use Rattle.history.specs.Event.{decode, isProducer};
 ghost use Rattle.history.specs.Calls.{row};
 ghost use Rattle.history.specs.Form.{readEvents, read};
 ghost use Rattle.criterion.specs.Pass.{leaves, passes};
 ghost use Rattle.judge.specs.Table.{Table, callAt, callsIn, threadAt, endAt, answerAt, numberAt};
-ghost use Rattle.judge.specs.Answer.{flat, over, JudgesWords};
+ghost use Rattle.judge.specs.Answer.{Replied, Judges};
+ghost use Rattle.judge.specs.Examine.{callsOf, verdictOf, entryIn, filled, Examined};
 ghost use Rattle.judge.specs.Marks.{Found, Given, fairAt, staysAt, Moves, Marks};
 ghost use Rattle.judge.specs.Steps.{isEvent, startEvent, endEvent, Starts, begun, ended, repeatsAt, Fresh, Enters, Stepped, Read};
 
@@ -33,7 +34,7 @@ const NUMBER: usize = 20_480;
 const VALUE: usize = 24_576;
 
 // What the words read so far give: a refusal's number, or how many calls have been started.
-pub enum Entered {
+enum Entered {
     Refused(u32),
     Calls(usize),
 }
@@ -45,15 +46,31 @@ pub enum Verdict {
     Unexplained,
 }
 
+// What reading a history and judging it gives: a refusal's number, or the reply and how many calls were started.
+enum Outcome {
+    Refused(u32),
+    Explained(usize),
+    Unexplained(usize),
+}
+
+// An entry of the working table, a started call: kind 1 or 3, start event, end event or 0, the item's call number or 0.
+#[repr(C)]
+pub struct Call {
+    pub kind: u32,
+    pub start: u32,
+    pub end: u32,
+    pub answer: u32,
+}
+
 // What one call does to the verdict's pass: the pass is stuck, or goes on with another mark, and with the place where the
 // next item is looked for first.
-pub enum Moved {
+enum Moved {
     Stuck,
     To { mark: u32, hint: usize },
 }
 
 // Where the verdict's pass ends: it fails, or leaves a mark.
-pub enum Marked {
+enum Marked {
     Fails,
     Mark(u32),
 }
@@ -445,6 +462,47 @@ fn read(history: &[u32], entries: usize, m: &mut [u32; MEMORY]) -> Entered
     read_events(history, m)
 }
 
+// Reads a history and judges it.
+fn examine(history: &[u32], entries: usize, m: &mut [u32; MEMORY]) -> Outcome
+    requires { ⌜ Table (now m) 0 ⌝ }
+    ensures { λ r. ⌜ Examined (read entries (now (history .entry))) entries (now (m .exit)) r ⌝ }
+{
+    let entered = read(history, entries, m);
+    match entered {
+        Entered::Refused(n) => {
+            return Outcome::Refused(n);
+        }
+        Entered::Calls(c) => {
+            if explains(m, c) {
+                return Outcome::Explained(c);
+            }
+            return Outcome::Unexplained(c);
+        }
+    }
+}
+
+// How many entries of the working table are filled; none where the history is refused.
+fn calls_of(outcome: Outcome) -> usize
+    ensures { λ r. ⌜ r ≡ callsOf outcome ⌝ }
+{
+    match outcome {
+        Outcome::Refused(_) => 0,
+        Outcome::Explained(c) => c,
+        Outcome::Unexplained(c) => c,
+    }
+}
+
+// The reply alone.
+fn verdict_of(outcome: Outcome) -> Verdict
+    ensures { λ r. ⌜ r ≡ verdictOf outcome ⌝ }
+{
+    match outcome {
+        Outcome::Refused(n) => Verdict::Refused(n),
+        Outcome::Explained(_) => Verdict::Explained,
+        Outcome::Unexplained(_) => Verdict::Unexplained,
+    }
+}
+
 // The fields of call j in the working table.
 fn kind_of(m: &[u32; MEMORY], j: usize) -> u32
     requires { ⌜ j < 4096 ⌝ }
@@ -469,53 +527,52 @@ fn answer_of(m: &[u32; MEMORY], j: usize) -> u32
     m[ANSWER + j]
 }
 
-// Entry j of a table of four words an entry.
-fn put_row(table: &mut [u32], j: usize, kind: u32, start: u32, end: u32, answer: u32)
-    requires { ⌜ (j < 4096) × (4 * j + 3 < length (now table)) ⌝ }
-    ensures { λ r. ⌜ now (table .exit) ≡ set (set (set (set (now (table .entry)) (4 * j) kind) (4 * j + 1) start) (4 * j + 2) end) (4 * j + 3) answer ⌝ }
+// The record of call j.
+fn entry_of(m: &[u32; MEMORY], j: usize) -> Call
+    requires { ⌜ j < 4096 ⌝ }
+    ensures { λ r. ⌜ r ≡ entryIn (now (m .entry)) j ⌝ }
 {
-    let at = 4 * j;
-    table[at] = kind;
-    table[at + 1] = start;
-    table[at + 2] = end;
-    table[at + 3] = answer;
+    Call {
+        kind: kind_of(m, j),
+        start: m[START + j],
+        end: m[END + j],
+        answer: answer_of(m, j),
+    }
 }
 
-// The calls go into the table, in starting order.
-fn fill(table: &mut [u32], m: &[u32; MEMORY], c: usize)
-    requires { ⌜ (c ≤ 4096) × (c ≤ length (now table) / 4) ⌝ }
-    ensures { λ r. ⌜ now (table .exit) ≡ over (flat (map row (callsIn (now (m .entry)) c))) (now (table .entry)) ⌝ }
+// The first n calls go into the table, in starting order. The functions from here on are proved by walks of their MIR, by hand,
+// since each has a reference to a slice of structs.
+fn fill_calls(table: &mut [Call], m: &[u32; MEMORY], n: usize)
+    requires { ⌜ (n ≤ length (now table)) × (n ≤ 4096) ⌝ }
+    ensures { λ _. ⌜ now (table .exit) ≡ filled (now (m .entry)) n (now (table .entry)) ⌝ }
 {
     let mut j = 0;
-    while j < c {
-        put_row(
-            table,
-            j,
-            kind_of(m, j),
-            m[START + j],
-            m[END + j],
-            answer_of(m, j),
-        );
+    while j < n {
+        table[j] = entry_of(m, j);
         j += 1;
     }
 }
 
-// The judge over a working table of four words an entry: what document 01 says of its entries holds of each four words.
-pub fn judge_words(history: &[u32], table: &mut [u32]) -> Verdict
-    ensures { λ r. ⌜ JudgesWords (now (history .entry)) (now (table .entry)) (now (table .exit)) r ⌝ }
+// The judge (document 01, "Judge"): its reply on a history, and one record for each started call in the working table. A refusal,
+// 10 to 13, leaves the table as it was.
+pub fn judge(history: &[u32], table: &mut [Call]) -> Verdict
+    ensures { λ r. ⌜ Judges (now (history .entry)) (now (table .entry)) (now (table .exit)) r ⌝ }
 {
     let mut m = [0u32; MEMORY];
-    let entered = read(history, table.len() / 4, &mut m);
-    match entered {
-        Entered::Refused(n) => {
-            return Verdict::Refused(n);
-        }
-        Entered::Calls(c) => {
-            fill(table, &m, c);
-            if explains(&m, c) {
-                return Verdict::Explained;
-            }
-            return Verdict::Unexplained;
-        }
-    }
+    let outcome = examine(history, table.len(), &mut m);
+    fill_calls(table, &m, calls_of(outcome));
+    verdict_of(outcome)
+}
+
+// The judge with a working table of its own, which has an entry for each of 4,096 events.
+pub fn judge_alone(history: &[u32]) -> Verdict
+    ensures { λ r. ⌜ Replied (read 4096 (now (history .entry))) r ⌝ }
+{
+    let mut table = [Call {
+        kind: 0,
+        start: 0,
+        end: 0,
+        answer: 0,
+    }; 4_096];
+    judge(history, &mut table)
 }

@@ -1,8 +1,8 @@
 -- From the judge's reply to the word that is printed.
-use mathlib.Core.Path.{_≡_, refl, ap, _∙_, subst}
+use mathlib.Core.Path.{_≡_, refl, subst}
 use mathlib.Core.Bool.{Bool, true, false}
 use mathlib.Core.List.{List}
-use Prim.Native.Nat.{ℕ, _/_, _≤_}
+use Prim.Native.Nat.{ℕ, _≤_}
 use native.Mathlib.Omega.{arith}
 use lib.ListN.{length}
 use Rattle.history.specs.Event.{History}
@@ -12,17 +12,11 @@ use Rattle.criterion.specs.Pass.{explains}
 use Rattle.criterion.specs.Criterion.{verdict}
 use Rattle.protocol.specs.Printed.{printedVerdict}
 use Rattle.judge.specs.declared.Verdict.{Verdict}
-use Rattle.judge.specs.declared.Verdict.the-variants.{Refused, Explained, Unexplained}
-use Rattle.judge.specs.Answer.{Decides, Judged, JudgesWords}
+use Rattle.judge.specs.Answer.{Decides, Replied}
 
--- a table of 4,096 entries
-pub decides : (words before after : List ℕ) (r : Verdict) {v : Verdict} → JudgesWords words before after r → length before ≡ 16384 → r ≡ v → (h : History) → read 4096 words ≡ history h → Decides v h
-unfolding Judged
-decides words before after r {v} j l t h e =
-    let q : length before / 4 ≡ 4096 = omega arith in
-    let p : read (length before / 4) words ≡ history h = ap (λ (n : ℕ). read n words) q ∙ e in
-    let d = subst (λ (x : Reading). Judged x before after r) p j in
-    subst (λ (x : Verdict). Decides x h) t (d .0)
+-- the judge's reply on words that are read as a history
+pub decides : (words : List ℕ) (r : Verdict) {v : Verdict} → Replied (read 4096 words) r → r ≡ v → (h : History) → read 4096 words ≡ history h → Decides v h
+decides words r {v} j t h e = subst (λ (x : Verdict). Decides x h) t (subst (λ (x : Reading). Replied x r) e j)
 
 pub explained-true : (h : History) → wellFormed h ≡ true → Linearizable h → explains h ≡ true
 explained-true h w l = verdict h w .1 l

@@ -312,8 +312,7 @@ fn print_verdict(words: &[u32], out: &mut [u8], at: usize) -> usize
     requires { ⌜ at + 12 ≤ length (now out) ⌝ }
     ensures { λ r. ⌜ ((h : History) → wellFormed h ≡ true → read 4096 (now (words .entry)) ≡ history h → Wrote (now (out .entry)) at (printedVerdict (explains h)) (now (out .exit)) r) ⌝ }
 {
-    let mut table = [0u32; 16384];
-    let verdict = judge::judge_words(words, &mut table);
+    let verdict = judge::judge_alone(words);
     match verdict {
         Verdict::Refused(_) => {
             return at;

@@ -6,8 +6,7 @@ use lines::Parsed;
 
 // The judge's word on a history.
 fn print_verdict(words: &[u32]) {
-    let mut table = [0u32; 16_384];
-    let verdict = judge::judge_words(words, &mut table);
+    let verdict = judge::judge_alone(words);
     match verdict {
         Verdict::Refused(number) => {
             io::write_all(STDOUT_FILENO, b"refused ");

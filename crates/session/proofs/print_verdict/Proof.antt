@@ -1,23 +1,18 @@
 -- `session::print_verdict` meets its contract: the judge decides the history that the words are read as.
-use Prim.Native.Nat.{ℕ}
-use lib.ListN.{replicate, length-replicate}
 use Rattle.session.specs.Verdicts.{decides, explained-true, explained-false}
 use borrow.Author.Needs.{needs}
 use Rattle.session.proofs.print_verdict.Statement.{statement}
 use Rattle.session.proofs.print_verdict.Tie as tie
 
-slice-aggregate-judge-words : tie.Need-slice-aggregate-judge-words
-slice-aggregate-judge-words c = search needs
-
-judge-words-requires : tie.Need-judge-words-requires
-judge-words-requires c κs = search needs
+judge-alone-requires : tie.Need-judge-alone-requires
+judge-alone-requires c κs = search needs
 
 enum-told : tie.Need-enum-told
 enum-told c = search needs
 
 returns : tie.Need-returns
 returns c =
-    λ h w e. absurd (decides (c .before .before .before .before .before .before .before .args .words .now) (replicate 16384 0) (c .before .before .before .judge-words .last .1 .0) (c .before .before .before .judge-words .result) (c .before .before .before .judge-words .ensures) (length-replicate {A = ℕ} 16384 0) (c .enum-told .given .1) h e)
+    λ h w e. absurd (decides (c .before .before .before .before .before .args .words .now) (c .before .before .judge-alone .result) (c .before .before .judge-alone .ensures) (c .enum-told .given .1) h e)
 
 enum-told-2 : tie.Need-enum-told-2
 enum-told-2 c = search needs
@@ -33,7 +28,7 @@ same-length c = search needs
 
 returns-2 : tie.Need-returns-2
 returns-2 c =
-    λ h w e. let l = decides (c .before .before .before .before .before .before .before .before .before .before .before .before .args .words .now) (replicate 16384 0) (c .before .before .before .before .before .before .before .before .judge-words .last .1 .0) (c .before .before .before .before .before .before .before .before .judge-words .result) (c .before .before .before .before .before .before .before .before .judge-words .ensures) (length-replicate {A = ℕ} 16384 0) (c .before .before .before .before .before .enum-told2 .given .1) h e in
+    λ h w e. let l = decides (c .before .before .before .before .before .before .before .before .before .before .args .words .now) (c .before .before .before .before .before .before .before .judge-alone .result) (c .before .before .before .before .before .before .before .judge-alone .ensures) (c .before .before .before .before .before .enum-told2 .given .1) h e in
     rw (explained-true h w l) (c .before .before .write-bytes .ensures)
 
 enum-told-3 : tie.Need-enum-told-3
@@ -50,15 +45,14 @@ same-length-2 c = search needs
 
 returns-3 : tie.Need-returns-3
 returns-3 c =
-    λ h w e. let l = decides (c .before .before .before .before .before .before .before .before .before .before .before .before .args .words .now) (replicate 16384 0) (c .before .before .before .before .before .before .before .before .judge-words .last .1 .0) (c .before .before .before .before .before .before .before .before .judge-words .result) (c .before .before .before .before .before .before .before .before .judge-words .ensures) (length-replicate {A = ℕ} 16384 0) (c .before .before .before .before .before .enum-told3 .given .1) h e in
+    λ h w e. let l = decides (c .before .before .before .before .before .before .before .before .before .before .args .words .now) (c .before .before .before .before .before .before .before .judge-alone .result) (c .before .before .before .before .before .before .before .judge-alone .ensures) (c .before .before .before .before .before .enum-told3 .given .1) h e in
     rw (explained-false h w l) (c .before .before .write-bytes2 .ensures)
 
 pub print-verdict-spec : {M : Type 1} → statement M
 print-verdict-spec =
     tie.close
     (tie.spec
-    slice-aggregate-judge-words
-    judge-words-requires
+    judge-alone-requires
     enum-told
     returns
     enum-told-2
