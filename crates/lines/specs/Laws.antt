@@ -1,13 +1,13 @@
 -- Laws of reading: each step of the parser, and the count of what it reads.
 use mathlib.Core.Path.{_≡_, refl, ap, sym, _∙_}
-use mathlib.Core.Bool.{Bool, true, false, _||_, cond}
+use mathlib.Core.Bool.{Bool, true, false, cond}
 use mathlib.Core.List.{List, [], _∷_, _++_}
 use Prim.Native.Nat.{ℕ, zero, suc, _+_, _-_, _%_, _≤_, _<_}
 use native.Mathlib.Omega.{arith}
 use native.Mathlib.Numerals.{sub-one}
 use lib.Dec.{leb, eqb}
-use lib.ListN.{length, set, getD, length-append}
-use lib.Seq.{sets, length-sets}
+use lib.ListN.{length, set, take, drop, getD, length-append}
+use lib.Seq.{sets, length-sets, sets-eq, take-at}
 use borrow.Author.Tests.{le-leb, lt-leb, eq-eqb, ne-eqb}
 use Rattle.text.specs.declared.Number.{Number}
 use Rattle.text.specs.declared.Number.the-variants.{Bad, Read}
@@ -97,34 +97,46 @@ module _ {s before buffer : List ℕ} {at count : ℕ} (g : Going s before buffe
         let f : isParted s next (count + 1) ≡ false = simp (lt-leb (length s) next l, ne-eqb (getD s next 0) (separator (count + 1)) p) in
         answers stored-more (rw (e, counted-more, f) at next-number)
 
--- No more numbers are read than there is room for.
-ending-is : (count : ℕ) {k : ℕ} → ending count ≡ Numbers k → k ≡ count
-ending-is count {k} = go (eqb (count % 4) 0)
+-- Where the answer is a count, so many numbers were read, and no more than there is room for.
+abbrev Counts : Reading → (limit : ℕ) → (k : ℕ) → Type 0
+Counts x limit k = x .reply ≡ Numbers k → (length (x .numbers) ≡ k) × (k ≤ limit)
+
+all-counted : (ns : List ℕ) (room k : ℕ) → Counts (stop (ending (length ns)) ns) (length ns + room) k
+all-counted ns room k = go (eqb (length ns % 4) 0)
   where
-    go : (b : Bool) → cond b (Numbers count) BadLine ≡ Numbers k → k ≡ count
-    go true e = cc
+    go : (b : Bool) → cond b (Numbers (length ns)) BadLine ≡ Numbers k → (length ns ≡ k) × (k ≤ length ns + room)
+    go true e = let h : length ns ≡ k = cc in (h, omega arith)
     go false e = let z : _≡_ {A = ℕ} 0 1 = cc in absurd (omega arith)
 
-room-for : (room : ℕ) (s : List ℕ) (at : ℕ) (ns : List ℕ) {k : ℕ} → numbersFrom room s at ns .reply ≡ Numbers k → k ≤ length ns + room
+counts : (room : ℕ) (s : List ℕ) (at : ℕ) (ns : List ℕ) {k : ℕ} → Counts (numbersFrom room s at ns) (length ns + room) k
 unfolding numbersFrom
-room-for zero s at ns {k} = go (leb (length s) at)
+counts zero s at ns {k} = go (leb (length s) at)
   where
-    go : (b : Bool) → cond b (stop (ending (length ns)) ns) (stop TooLong ns) .reply ≡ Numbers k → k ≤ length ns + 0
-    go true e = omega (arith, ending-is (length ns) e)
+    go : (b : Bool) → Counts (cond b (stop (ending (length ns)) ns) (stop TooLong ns)) (length ns + 0) k
+    go true e = all-counted ns 0 k e
     go false e = let z : _≡_ {A = ℕ} 0 1 = cc in absurd (omega arith)
-room-for (suc room) s at ns {k} = go (leb (length s) at) (numberAt s at) (λ next ms e. room-for room s next ms e)
+counts (suc room) s at ns {k} = go (leb (length s) at) (numberAt s at) (λ next ms. counts room s next ms)
   where
-    go : (b : Bool) (x : Number) → ((next : ℕ) (ms : List ℕ) → numbersFrom room s next ms .reply ≡ Numbers k → k ≤ length ms + room)
-        → cond b (stop (ending (length ns)) ns) (withNumber s ns x (numbersFrom room s)) .reply ≡ Numbers k → k ≤ length ns + suc room
-    go true x f e = omega (arith, ending-is (length ns) e)
+    go : (b : Bool) (x : Number) → ((next : ℕ) (ms : List ℕ) → Counts (numbersFrom room s next ms) (length ms + room) k)
+        → Counts (cond b (stop (ending (length ns)) ns) (withNumber s ns x (numbersFrom room s))) (length ns + suc room) k
+    go true x f e = all-counted ns (suc room) k e
     go false Bad f e = let z : _≡_ {A = ℕ} 0 1 = cc in absurd (omega arith)
     go false (Read n next) f e = parted (isParted s next (length (ns ++ (n ∷ [])))) e
       where
-        parted : (b : Bool) → cond b (numbersFrom room s (next + 1) (ns ++ (n ∷ []))) (stop BadLine (ns ++ (n ∷ []))) .reply ≡ Numbers k
-            → k ≤ length ns + suc room
-        parted true e = omega (arith, f (next + 1) (ns ++ (n ∷ [])) e, length-append ns (n ∷ []))
+        parted : (b : Bool) → Counts (cond b (numbersFrom room s (next + 1) (ns ++ (n ∷ []))) (stop BadLine (ns ++ (n ∷ [])))) (length ns + suc room) k
+        parted true e = let h = f (next + 1) (ns ++ (n ∷ [])) e in (h .0, omega (arith, h .1, length-append ns (n ∷ [])))
         parted false e = let z : _≡_ {A = ℕ} 0 1 = cc in absurd (omega arith)
 
-pub numbers-within : {s before after : List ℕ} {r : Parsed} → Parses s before after r → (k : ℕ) → r ≡ Numbers k → k ≤ length after
-numbers-within {s} {before} p k e =
-    omega (arith, room-for (length before) s 0 [] (sym (p .reply-is) ∙ e), simp length-sets at (ap length (p .after-is)))
+-- The numbers that were read stand at the beginning of the buffer.
+module _ {s before after : List ℕ} {r : Parsed} (p : Parses s before after r) {k : ℕ} (e : r ≡ Numbers k) where
+  counted : (length (reading s (length before) .numbers) ≡ k) × (k ≤ 0 + length before)
+  counted = counts (length before) s 0 [] (sym (p .reply-is) ∙ e)
+
+  pub numbers-within : k ≤ length after
+  numbers-within = omega (arith, counted .1, simp length-sets at (ap length (p .after-is)))
+
+  pub numbers-stored : take k after ≡ reading s (length before) .numbers
+  numbers-stored =
+      let ns = reading s (length before) .numbers in
+      ap (take k) (p .after-is ∙ sets-eq ns before 0 (omega (arith, counted)))
+      ∙ take-at ns (drop (0 + length ns) before) k (counted .0)

@@ -1,8 +1,8 @@
 -- Laws of lines and of what is printed.
-use mathlib.Core.Path.{_≡_, refl, ap, sym, _∙_}
+use mathlib.Core.Path.{_≡_, refl, ap, _∙_}
 use mathlib.Core.Bool.{Bool, true, false, _&&_, cond}
 use mathlib.Core.List.{List, [], _∷_, _++_}
-use Prim.Native.Nat.{ℕ, zero, suc, _+_, _-_, _≤_, _<_}
+use Prim.Native.Nat.{ℕ, suc, _+_, _-_, _≤_, _<_}
 use native.Mathlib.Omega.{arith}
 use native.Mathlib.Numerals.{add-one}
 use lib.Dec.{eqb}
@@ -11,7 +11,7 @@ use lib.Seq.{drop-cons}
 use borrow.Author.Tests.{eq-eqb, ne-eqb}
 use Rattle.text.specs.Decimal.{decimal}
 use Rattle.text.specs.Laws.{length-digits}
-use Rattle.rules.specs.Rule.{Reply, Response, refused, accepted, ok, started, going, ended, empty, item}
+use Rattle.rules.specs.Rule.{Response, refused, accepted, ok, started, going, ended, empty, item}
 use Rattle.protocol.specs.Words.{space, newline, okWord, itemWord, refusedWord}
 use Rattle.protocol.specs.Line.{lineLength, push, linesOf, startsWith}
 use Rattle.protocol.specs.Printed.{numberAnd, numbered, numberPair, printed, mostPrinted}
@@ -63,7 +63,7 @@ length-decimal n = length-digits 10 n
 pub length-number : (n end : ℕ) → length (numberAnd n end) ≤ 11
 length-number n end = simp length-append (omega (arith, length-decimal n))
 
-length-numbered : (word : List ℕ) (n : ℕ) → length (numbered word n) ≤ length word + 11
+pub length-numbered : (word : List ℕ) (n : ℕ) → length (numbered word n) ≤ length word + 11
 length-numbered word n = rw (length-append word) (omega (arith, length-number n newline))
 
 length-item : (n v : ℕ) → length (itemWord ++ numberPair n v) ≤ 27

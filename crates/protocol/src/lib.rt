@@ -170,7 +170,7 @@ fn print_number(out: &mut [u8], at: usize, n: u32, end: u8) -> usize
 }
 
 // Writes a word, a number and a newline.
-fn print_numbered(out: &mut [u8], at: usize, word: &[u8], n: u32) -> usize
+pub fn print_numbered(out: &mut [u8], at: usize, word: &[u8], n: u32) -> usize
     requires { ⌜ at + length (now word) + 11 ≤ length (now out) ⌝ }
     ensures { λ r. ⌜ Wrote (now (out .entry)) at (numbered (now (word .entry)) n) (now (out .exit)) r ⌝ }
 {

@@ -8,7 +8,6 @@ use Prim.Native.Nat.{ℕ}
 use lib.Dec.{ltb}
 use lib.ListN.{length}
 use Rattle.history.specs.Linearization.{Linearizable}
-use Rattle.criterion.specs.Pass.{explains}
 use Rattle.criterion.specs.Criterion.{criterion, verdict}
 use Rattle.rules.specs.Rule.{Response}
 use Rattle.protocol.specs.Words.{badLine, tooLongLine, explainedLine}

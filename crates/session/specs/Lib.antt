@@ -4,9 +4,9 @@ pub mod EventLaws
 pub mod Turns
 pub mod TurnLaws
 pub mod LoopLaws
-pub mod Verdicts
 pub mod Reading
 pub mod Reaching
 pub mod RunLaws
 pub mod LastLine
+pub mod Length
 pub mod Runs

@@ -1,29 +1,23 @@
 -- Laws of the run: one line more, a bad line, and the end.
-use mathlib.Core.Path.{_≡_, refl, ap, sym, _∙_, subst}
+use mathlib.Core.Path.{_≡_, ap, sym, _∙_, subst}
 use mathlib.Core.Bool.{Bool, true, false, cond}
 use mathlib.Core.List.{List, [], _∷_, _++_, append-assoc}
-use mathlib.Core.Option.{Option, none, some}
-use Prim.Native.Nat.{ℕ, zero, suc, _+_, _-_, _*_, _≤_, _<_}
+use mathlib.Core.Option.{none, some}
+use Prim.Native.Nat.{ℕ, suc, _+_, _-_, _≤_, _<_}
 use native.Mathlib.Omega.{arith}
 use lib.Dec.{eqb}
-use lib.ListN.{length, take, drop, length-append, length-drop, drop-of-length-le}
-use lib.Seq.{sets, sets-eq, take-at, drop-drop, length-take-le}
+use lib.ListN.{length, take, drop, length-drop, drop-of-length-le}
+use lib.Seq.{drop-drop}
 use Rattle.criterion.specs.Pass.{explains}
 use Rattle.text.specs.Wrote.{Wrote}
-use Rattle.protocol.specs.declared.Line.{Line}
+use Rattle.text.specs.Laws.{wrote-append}
 use Rattle.protocol.specs.Words.{newline, badLine}
 use Rattle.protocol.specs.Line.{lineLength, linesOf, startsWith, parseLine}
-use Rattle.protocol.specs.Laws.{first-line, length-printed}
-use Rattle.protocol.specs.Printed.{printed, mostPrinted, printedVerdict}
+use Rattle.protocol.specs.Laws.{first-line}
+use Rattle.protocol.specs.Printed.{printed, printedVerdict}
 use Rattle.session.specs.declared.Place.{Place}
 use Rattle.session.specs.Session.{Session, Turn, callOf, runLine, runLines}
-use Rattle.session.specs.Turns.{Stands, Turned, Reached, turned, Going, Ended}
-
--- bytes that were written after others
-pub wrote-take : {o o′ bs : List ℕ} {at n : ℕ} → at + length bs ≤ length o → Wrote o at bs o′ n → take n o′ ≡ take at o ++ bs
-wrote-take {o} {o′} {bs} {at} {n} room w =
-    let l : length (take at o ++ bs) ≡ n = rw length-append (omega (arith, length-take-le at o (omega arith), w .next-is)) in
-    ap (take n) (w .after-is ∙ sets-eq bs o at room) ∙ take-at (take at o ++ bs) (drop (at + length bs) o) n l
+use Rattle.session.specs.Turns.{Turned, turned, Going}
 
 -- The first of the lines that are left, up to its end, and those after it.
 first-of : (l : List ℕ) → 0 < length l → linesOf l ≡ take (lineLength l) l ∷ linesOf (drop (lineLength l + 1) l)
@@ -57,39 +51,37 @@ module _ (input : List ℕ) (at end : ℕ) (more : at < length input) (ends : en
       ∙ ap (λ (m : ℕ). take m (drop at input) ∷ linesOf (drop (lineLength (drop at input) + 1) (drop at input))) n
       ∙ ap (λ (l : List ℕ). line ∷ linesOf l) (drop-drop (lineLength (drop at input) + 1) at input ∙ ap (λ (m : ℕ). drop m input) k)
 
-  module _ {x : Session} {store history out : List ℕ} {events bytes : ℕ} (g : Going x input store history out at events bytes) where
+  module _ {x : Session} {store history before out : List ℕ} {events bytes : ℕ} (g : Going x input store history before out at events bytes) where
     -- what is yet to be printed, by the line
-    left-is : take bytes out ++ runLine (callOf (parseLine line)) (g .last) (runLines (linesOf (drop (end + 1) input))) ≡ runLines (linesOf input) x
+    left-is : g .replies ++ runLine (callOf (parseLine line)) (g .last) (runLines (linesOf (drop (end + 1) input))) ≡ runLines (linesOf input) x
     unfolding runLines
-    left-is = ap (λ (ls : List (List ℕ)). take bytes out ++ runLines ls (g .last)) (sym lines-left) ∙ g .printed
+    left-is = ap (λ (ls : List (List ℕ)). g .replies ++ runLines ls (g .last)) (sym lines-left) ∙ g .printed
 
-    pub going-on : {store′ history′ out′ : List ℕ} {next : Place} (call : Session → Turn) → callOf (parseLine line) ≡ some call → bytes + mostPrinted ≤ length out
+    pub going-on : {store′ history′ out′ : List ℕ} {next : Place} (call : Session → Turn) → callOf (parseLine line) ≡ some call
         → Turned call store history out (record { events = events; bytes = bytes }) store′ history′ out′ next
-        → Going x input store′ history′ out′ (end + 1) (next .events) (next .bytes)
-    going-on {store′} {history′} {out′} {next} call c room t =
-        let w = t .prints (g .last) (g .stands) in
-        let p = wrote-take (omega (arith, length-printed (call (g .last) .reply))) w in
+        → Going x input store′ history′ before out′ (end + 1) (next .events) (next .bytes)
+    going-on call c t =
+        let y = call (g .last) in
         record {
-          last = call (g .last) .session;
+          last = y .session;
           reached = turned (g .reached) (parseLine line) call c;
           stands = t .stands (g .last) (g .stands);
-          printed =
-              ap (λ (b : List ℕ). b ++ runLines (linesOf (drop (end + 1) input)) (call (g .last) .session)) p
-              ∙ append-assoc (take bytes out) (printed (call (g .last) .reply)) (runLines (linesOf (drop (end + 1) input)) (call (g .last) .session))
-              ∙ rw c at left-is;
+          replies = g .replies ++ printed (y .reply);
+          wrote = wrote-append (g .wrote) (t .prints (g .last) (g .stands));
+          printed = append-assoc (g .replies) (printed (y .reply)) (runLines (linesOf (drop (end + 1) input)) (y .session)) ∙ rw c at left-is;
         }
 
-    pub going-stops : {out′ : List ℕ} {last : ℕ} → callOf (parseLine line) ≡ none → bytes + mostPrinted ≤ length out → Wrote out bytes badLine out′ last → take last out′ ≡ runLines (linesOf input) x
-    going-stops c room w = wrote-take (omega arith) w ∙ rw c at left-is
+    pub going-stops : {out′ : List ℕ} {last : ℕ} → callOf (parseLine line) ≡ none → Wrote out bytes badLine out′ last → Wrote before 0 (runLines (linesOf input) x) out′ last
+    going-stops {out′} {last} c w = subst (λ (p : List ℕ). Wrote before 0 p out′ last) (rw c at left-is) (wrote-append (g .wrote) w)
 
 -- a line that asks for a call is not empty
-pub some-line : (n : ℕ) (l : List ℕ) (call : Session → Turn) → callOf (parseLine (take n l)) ≡ some call → 0 < n
+pub some-line : (l : List ℕ) (call : Session → Turn) → callOf (parseLine l) ≡ some call → 0 < length l
 unfolding parseLine startsWith
-some-line zero l call c = let z : _≡_ {A = ℕ} 0 1 = cc in absurd (omega arith)
-some-line (suc n) l call c = omega arith
+some-line [] call c = let z : _≡_ {A = ℕ} 0 1 = cc in absurd (omega arith)
+some-line (b ∷ bs) call c = omega arith
 
 -- No line is left.
-pub going-ends : {x : Session} {input store history out : List ℕ} {at events bytes : ℕ} → length input ≤ at → (g : Going x input store history out at events bytes)
-    → take bytes out ++ printedVerdict (explains (g .last .history)) ≡ runLines (linesOf input) x
+pub going-ends : {x : Session} {input store history before out : List ℕ} {at events bytes : ℕ} → length input ≤ at → (g : Going x input store history before out at events bytes)
+    → g .replies ++ printedVerdict (explains (g .last .history)) ≡ runLines (linesOf input) x
 unfolding runLines linesOf
-going-ends {x} {input} {store} {history} {out} {at} {events} {bytes} l g = rw (drop-of-length-le input l) at (g .printed)
+going-ends {x} {input} l g = rw (drop-of-length-le input l) at (g .printed)

@@ -3,15 +3,14 @@
 use mathlib.Core.Path.{_≡_, refl, ap, sym, _∙_, subst}
 use mathlib.Core.Bool.{Bool, true, false, _&&_, _||_, not, cond, true≢false}
 use mathlib.Core.List.{List, [], _∷_, _++_}
-use mathlib.Core.Option.{Option, none, some}
+use mathlib.Core.Option.{some}
 use Prim.Native.Nat.{ℕ, zero, suc, _+_, _≤_}
 use native.Mathlib.Omega.{arith}
 use lib.Dec.{leb, ltb, eqb}
-use lib.ListN.{length, getD, replicate, length-replicate}
+use lib.ListN.{length, getD, length-replicate}
 use borrow.Author.Tests.{le-ltb, le-leb, ltb-false, leb-true, eqb-false, not-false}
-use Rattle.history.specs.Event.{Event, History, isProducer, enqueueStarted, enqueueEnded, dequeueStarted, gaveItem, gaveEmpty}
+use Rattle.history.specs.Event.{History, isProducer, enqueueStarted, enqueueEnded, dequeueStarted, gaveItem, gaveEmpty}
 use Rattle.history.specs.Form.{wellFormed}
-use Rattle.history.specs.Linearization.{Linearizable}
 use Rattle.criterion.specs.Explained.{Explained}
 use Rattle.criterion.specs.Criterion.{criterion}
 use Rattle.rules.specs.Sizes.{Sizes, between, sizesInRange, storeWords}
@@ -20,12 +19,11 @@ use Rattle.rules.specs.Address.{both}
 use Rattle.rules.specs.Range.{inRange}
 use Rattle.rules.specs.Free.{Picker, lowestFree}
 use Rattle.rules.specs.Pick.{lowest-free-picks}
-use Rattle.rules.specs.Rule.{Answer, refuse, reply, Reply, Response, refused, accepted, ok, started, going, ended, empty, item}
+use Rattle.rules.specs.Rule.{Answer, refuse, reply, Response, refused, accepted, ok, started, going, ended, empty, item}
 use Rattle.rules.specs.Refusal.{accepted-not-refused}
 use Rattle.rules.specs.Request.{Result, Request, startEnqueue, startDequeue, step, applied, open-store, opened, startingEnqueue, answer, sizesOf, admitted, result}
 use Rattle.rules.specs.Play.{Played, events, endOfEnqueue, playOne, play}
 use Rattle.ordering.specs.Good.{by-cond}
-use Rattle.ordering.specs.Demand.{Ordered}
 use Rattle.ordering.specs.Theorem.{demand-3}
 use Rattle.protocol.specs.declared.Line.{Line}
 use Rattle.protocol.specs.declared.Line.the-variants.{Open, Enqueue, Dequeue, Step, Bad}

@@ -2,17 +2,17 @@
 -- producer's thread and a call number is refused.
 use mathlib.Core.Path.{_≡_, refl, ap, sym, _∙_}
 use mathlib.Core.Logic.{_⊎_, ⊎-elim}
-use mathlib.Core.Bool.{Bool, true, false, _&&_, _||_, not, cond, and-eq-true-iff}
+use mathlib.Core.Bool.{Bool, true, false, and-eq-true-iff}
 use mathlib.Core.List.{List, [], _∷_, _++_, append-assoc, append-nil}
-use mathlib.Core.Option.{Option, none, some}
-use Prim.Native.Nat.{ℕ, zero, suc, _+_, _*_, _/_, _%_, _≤_}
+use mathlib.Core.Option.{Option, some}
+use Prim.Native.Nat.{ℕ, _+_, _/_, _%_, _≤_}
 use native.Mathlib.Omega.{arith}
-use lib.Dec.{leb, ltb, eqb}
+use lib.Dec.{leb}
 use lib.ListN.{length}
-use borrow.Author.Tests.{le-ltb, eq-eqb}
+use borrow.Author.Tests.{le-ltb}
 use Rattle.history.specs.Event.{Event, History, isProducer, decode, enqueueStarted, enqueueEnded, dequeueStarted, gaveItem, gaveEmpty}
 use Rattle.history.specs.Calls.{calls}
-use Rattle.history.specs.Form.{follows, wellFormed, Reading, refused, history, readEvent, readEvents, read}
+use Rattle.history.specs.Form.{follows, wellFormed, refused, history, readEvent, readEvents, read}
 use Rattle.criterion.specs.Explained.{Started, Explained}
 use Rattle.session.specs.Events.{encode, wordsOf}
 use Rattle.session.specs.EventLaws.{length-words}

@@ -1,13 +1,11 @@
 -- Laws of turns: a call of the engine, recorded and printed, is a turn.
 use mathlib.Core.Path.{_≡_, refl, ap, sym, _∙_, subst}
-use mathlib.Core.List.{List, [], _∷_, _++_}
-use Prim.Native.Nat.{ℕ, _+_, _*_, _≤_}
+use mathlib.Core.List.{List, _++_}
+use Prim.Native.Nat.{ℕ, _+_, _≤_}
 use native.Mathlib.Omega.{arith}
-use lib.ListN.{length, take}
 use Rattle.history.specs.Event.{History}
 use Rattle.rules.specs.Sizes.{Sizes}
 use Rattle.rules.specs.Free.{lowestFree}
-use Rattle.rules.specs.Rule.{Response, refused, accepted}
 use Rattle.rules.specs.Request.{Result, Request, open-store, result}
 use Rattle.rules.specs.Play.{events}
 use Rattle.store.specs.declared.Reply.{Reply}

@@ -1,9 +1,9 @@
 -- What a line leaves in the program's buffers: the words of the store, the words of the history and the printed bytes.
 use mathlib.Core.Path.{_≡_}
-use mathlib.Core.List.{List, [], _∷_, _++_}
-use mathlib.Core.Option.{Option, none, some}
-use Prim.Native.Nat.{ℕ, _+_, _*_, _≤_}
-use lib.ListN.{length, take, drop}
+use mathlib.Core.List.{List, _++_}
+use mathlib.Core.Option.{none, some}
+use Prim.Native.Nat.{ℕ, _+_, _≤_}
+use lib.ListN.{drop}
 use Rattle.history.specs.Linearization.{Linearizable}
 use Rattle.criterion.specs.Pass.{explains}
 use Rattle.text.specs.Wrote.{Wrote}
@@ -39,39 +39,44 @@ pub data Reached : Session → Type 0 where
   begun : Reached start
   turned : {x : Session} → Reached x → (line : Line) (call : Session → Turn) → callOf line ≡ some call → Reached (call x .session)
 
--- the most events, and the most bytes printed before the judge's word
+-- the most events, and a bound on the bytes of the replies: at most 4,096 lines, each answered with at most 27 bytes
 abbrev pub mostRecorded : ℕ
 mostRecorded = 4096
 
 abbrev pub mostReplies : ℕ
-mostReplies = 110605
+mostReplies = 110592
 
--- the most bytes that are printed
+-- A bound on the bytes that are printed, not the most that can be printed (`length-output`, Length.antt): a line has two bytes with
+-- its newline, which the last may lack, and is answered with at most 27; the judge's word has at most 12.
 abbrev pub mostOutput : ℕ
 mostOutput = 110617
 
--- What all lines leave, where p is what they print from x on with the judge's word: after a bad line all of it is printed; else
--- all but the judge's word, and the recorded history is linearizable.
-pub record Ended (p history out : List ℕ) (at : Place) : Type 0 where
+-- What all lines leave, where p is what they print with the judge's word: after a bad line all of it is printed; else all but the
+-- judge's word, and the recorded history is linearizable.
+pub record Ended (p history before out : List ℕ) (at : Place) : Type 0 where
   pub last : Session
   pub reached : Reached last
   pub recorded : Recorded history (at .events) (last .history)
   pub linearizable : Linearizable (last .history)
-  pub printed : take (at .bytes) out ++ printedVerdict (explains (last .history)) ≡ p
+  pub replies : List ℕ
+  pub wrote : Wrote before 0 replies out (at .bytes)
+  pub printed : replies ++ printedVerdict (explains (last .history)) ≡ p
   pub few : at .events ≤ mostRecorded
   pub short : at .bytes ≤ mostReplies
 
-abbrev pub Finishes : (p history out : List ℕ) → Next → Type 0
-Finishes p h o (Stop end) = (take end o ≡ p) × (end ≤ mostOutput)
-Finishes p h o (On at) = Ended p h o at
+abbrev pub Finishes : (p history before out : List ℕ) → Next → Type 0
+Finishes p h b o (Stop end) = Wrote b 0 p o end
+Finishes p h b o (On at) = Ended p h b o at
 
--- Between two lines: what stands, and what was printed with what is yet to be printed.
-pub record Going (x : Session) (input store history out : List ℕ) (at events bytes : ℕ) : Type 0 where
+-- Between two lines: what stands, the replies that were printed, and that with what is yet to be printed they are the output.
+pub record Going (x : Session) (input store history before out : List ℕ) (at events bytes : ℕ) : Type 0 where
   pub last : Session
   pub reached : Reached last
   pub stands : Stands last store history events
-  pub printed : take bytes out ++ runLines (linesOf (drop at input)) last ≡ runLines (linesOf input) x
+  pub replies : List ℕ
+  pub wrote : Wrote before 0 replies out bytes
+  pub printed : replies ++ runLines (linesOf (drop at input)) last ≡ runLines (linesOf input) x
 
 -- The lines of the input from any session that was reached and has no events yet.
-abbrev pub Ran : (input store history history′ out′ : List ℕ) → Next → Type 0
-Ran input store history history′ out′ r = (x : Session) → Reached x → Stands x store history 0 → Finishes (runLines (linesOf input) x) history′ out′ r
+pub record Ran (input store history out history′ out′ : List ℕ) (r : Next) : Type 0 where
+  pub finishes : (x : Session) → Reached x → Stands x store history 0 → Finishes (runLines (linesOf input) x) history′ out out′ r

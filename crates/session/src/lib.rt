@@ -1,23 +1,19 @@
 // What the program prints, from the bytes that it reads.
-use judge::Verdict;
 use protocol::Line;
 use store::Reply;
 use store::Shape;
 ghost use mathlib.Core.Path.{_≡_};
 ghost use mathlib.Core.List.{List, [], _∷_};
 ghost use Prim.Native.Nat.{ℕ, _+_, _*_, _≤_};
-ghost use mathlib.Core.Bool.{true};
-ghost use lib.ListN.{length, take};
+ghost use lib.ListN.{length};
 ghost use lib.Seq.{sets};
 ghost use Rattle.history.specs.Event.{History};
-ghost use Rattle.history.specs.Form.{wellFormed, history, read};
-ghost use Rattle.criterion.specs.Pass.{explains};
 ghost use Rattle.rules.specs.Request.{startEnqueue, startDequeue, step};
 ghost use Rattle.rules.specs.Play.{events, endOfEnqueue};
 ghost use Rattle.store.specs.Outcome.{response};
 ghost use Rattle.store.specs.Shape.{sizes};
 ghost use Rattle.text.specs.Wrote.{Wrote};
-ghost use Rattle.protocol.specs.Printed.{printed, mostPrinted, printedVerdict};
+ghost use Rattle.protocol.specs.Printed.{printed, mostPrinted};
 ghost use Rattle.session.specs.Session.{mostInput, reopened, opening, calling, output};
 ghost use Rattle.session.specs.Events.{Recorded, startFound, notedEvents, Records};
 ghost use Rattle.session.specs.Turns.{Turned, Answers, Ran, mostOutput};
@@ -284,7 +280,7 @@ fn run_lines(input: &[u8], store: &mut [u32], history: &mut [u32], out: &mut [u8
     requires { ⌜ length (now input) ≤ mostInput ⌝ }
     requires { ⌜ 16384 ≤ length (now history) ⌝ }
     requires { ⌜ mostOutput ≤ length (now out) ⌝ }
-    ensures { λ r. ⌜ Ran (now (input .entry)) (now (store .entry)) (now (history .entry)) (now (history .exit)) (now (out .exit)) r ⌝ }
+    ensures { λ r. ⌜ Ran (now (input .entry)) (now (store .entry)) (now (history .entry)) (now (out .entry)) (now (history .exit)) (now (out .exit)) r ⌝ }
 {
     let mut at = 0;
     let mut events = 0;
@@ -307,29 +303,10 @@ fn run_lines(input: &[u8], store: &mut [u32], history: &mut [u32], out: &mut [u8
     Next::On(Place { events, bytes })
 }
 
-// Prints the judge's word on a history. The judge refuses no history of a run (specs/Reaching.antt).
-fn print_verdict(words: &[u32], out: &mut [u8], at: usize) -> usize
-    requires { ⌜ at + 12 ≤ length (now out) ⌝ }
-    ensures { λ r. ⌜ ((h : History) → wellFormed h ≡ true → read 4096 (now (words .entry)) ≡ history h → Wrote (now (out .entry)) at (printedVerdict (explains h)) (now (out .exit)) r) ⌝ }
-{
-    let verdict = judge::judge_alone(words);
-    match verdict {
-        Verdict::Refused(_) => {
-            return at;
-        }
-        Verdict::Explained => {
-            return text::write_bytes(out, at, b"explained\n");
-        }
-        Verdict::Unexplained => {
-            return text::write_bytes(out, at, b"unexplained\n");
-        }
-    }
-}
-
-// What the program prints, from the bytes that it reads; the answer is how many bytes.
-pub fn run(input: &[u8], out: &mut [u8]) -> usize
-    requires { ⌜ mostOutput ≤ length (now out) ⌝ }
-    ensures { λ r. ⌜ (take r (now (out .exit)) ≡ output (now (input .entry))) × (r ≤ mostOutput) ⌝ }
+// What the program prints, from the bytes that it reads; the answer is how many bytes. The judge refuses no history of a run
+// (specs/Reaching.antt).
+pub fn run(input: &[u8], out: &mut [u8; 110_617]) -> usize
+    ensures { λ r. ⌜ Wrote (now (out .entry)) 0 (output (now (input .entry))) (now (out .exit)) r ⌝ }
 {
     if 8192 < input.len() {
         return text::write_bytes(out, 0, b"too long\n");
@@ -343,7 +320,7 @@ pub fn run(input: &[u8], out: &mut [u8]) -> usize
         }
         Next::On(place) => {
             let words = place.events * 4;
-            return print_verdict(&history[..words], out, place.bytes);
+            return recording::print_verdict(&history[..words], out, place.bytes);
         }
     }
 }

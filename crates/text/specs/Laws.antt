@@ -8,7 +8,7 @@ use native.Mathlib.Numerals.{add-one, sub-one}
 use native.Mathlib.Nat.{add-zero}
 use lib.Dec.{leb, ltb}
 use lib.ListN.{length, set, take, drop, getD, length-append}
-use lib.Seq.{sets, take-suc, drop-cons, length-take-le}
+use lib.Seq.{sets, take-suc, drop-cons, length-take-le, length-sets}
 use borrow.Author.Tests.{lt-ltb, le-ltb, le-leb, lt-leb}
 use Rattle.text.specs.declared.Number.{Number}
 use Rattle.text.specs.declared.Number.the-variants.{Bad, Read}
@@ -32,6 +32,10 @@ wrote-append {o} {o′} {o″} {xs} {ys} {at} {p} {q} a b =
           ∙ ap (λ (k : ℕ). sets (sets o at xs) k ys) (a .next-is)
           ∙ sets-append o at xs ys;
     }
+
+-- Bytes that fit in the buffer were written within it.
+pub wrote-within : {o o′ bs : List ℕ} {n r : ℕ} → Wrote o 0 bs o′ r → length o ≡ n → length bs ≤ n → r ≤ length o′
+wrote-within w room fits = omega (arith, w .next-is, simp length-sets at (ap length (w .after-is)))
 
 -- one byte
 pub wrote-byte : (o : List ℕ) (at b : ℕ) → Wrote o at (b ∷ []) (set o at b) (at + 1)

@@ -1,6 +1,10 @@
 -- `intake::main` meets its contract: what was printed lies within the buffer.
 use mathlib.Core.Path.{sym}
+use Prim.Native.Nat.{ℕ}
+use lib.ListN.{length-replicate}
 use lib.Seq.{length-take-le}
+use Rattle.text.specs.Laws.{wrote-within}
+use Rattle.session.specs.Length.{length-output}
 use borrow.Author.Needs.{needs}
 use Rattle.intake.proofs.main.Statement.{statement}
 use Rattle.intake.proofs.main.Tie as tie
@@ -17,14 +21,11 @@ array-share-prefix-input c = search needs
 slice-aggregate-run : tie.Need-slice-aggregate-run
 slice-aggregate-run c = search needs
 
-slice-aggregate-run-2 : tie.Need-slice-aggregate-run-2
-slice-aggregate-run-2 c = search needs
-
 run-requires : tie.Need-run-requires
 run-requires c κs = search needs
 
 array-share-prefix-out : tie.Need-array-share-prefix-out
-array-share-prefix-out c = search needs
+array-share-prefix-out c = wrote-within (c .run .ensures) (length-replicate {A = ℕ} 110617 0) (length-output _)
 
 slice-aggregate-write-all : tie.Need-slice-aggregate-write-all
 slice-aggregate-write-all c = sym (length-take-le _ _ (array-share-prefix-out (c .before)))
@@ -43,7 +44,6 @@ main-spec =
     read-full-requires
     array-share-prefix-input
     slice-aggregate-run
-    slice-aggregate-run-2
     run-requires
     array-share-prefix-out
     slice-aggregate-write-all

@@ -1,5 +1,5 @@
 -- `session::dequeue_turn` meets its contract: a call that is recorded and printed is a turn.
-use Rattle.rules.specs.Request.{startEnqueue, startDequeue, step}
+use Rattle.rules.specs.Request.{startDequeue}
 use Rattle.session.specs.TurnLaws.{call-turned}
 use borrow.Author.Needs.{needs}
 use Rattle.session.proofs.dequeue_turn.Statement.{statement}

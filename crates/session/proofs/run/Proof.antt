@@ -4,7 +4,7 @@ use Prim.Native.Nat.{ℕ}
 use native.Mathlib.Omega.{arith}
 use lib.ListN.{length-replicate}
 use lib.Seq.{length-take-le}
-use Rattle.session.specs.RunLaws.{too-long, stopped, ended, last-formed, last-read, last-printed, last-short}
+use Rattle.session.specs.RunLaws.{too-long, finishes, last-printed}
 use borrow.Author.Needs.{needs}
 use Rattle.session.proofs.run.Statement.{statement}
 use Rattle.session.proofs.run.Tie as tie
@@ -15,13 +15,8 @@ slice-aggregate-write-bytes c = search needs
 write-bytes-requires : tie.Need-write-bytes-requires
 write-bytes-requires c κs = search needs
 
-same-length : tie.Need-same-length
-same-length c = search needs
-
 returns : tie.Need-returns
-returns c =
-    let x = c .before .before .write-bytes .ensures in
-    (too-long (c .before .before .before .before .before .before .before .before .args .input .now) (omega arith) (omega arith) x, omega (arith, x .next-is))
+returns c = too-long (c .before .before .before .before .before .args .input .now) (c .before .before .before .if1 .taken) (c .write-bytes .ensures)
 
 slice-aggregate-run-lines : tie.Need-slice-aggregate-run-lines
 slice-aggregate-run-lines c = search needs
@@ -35,43 +30,32 @@ run-lines-requires c κs = search needs
 enum-known-next : tie.Need-enum-known-next
 enum-known-next c = search needs
 
-same-length-2 : tie.Need-same-length-2
-same-length-2 c = search needs
-
 returns-2 : tie.Need-returns-2
-returns-2 c = stopped (c .before .before .before .before .before .before .before .before .before .before .before .before .before .before .args .input .now) _ (c .before .before .before .before .before .before .before .run-lines .last .1 .1 .0) (c .before .before .before .before .before .before .before .run-lines .last .1 .1 .1 .0) (c .before .before .before .before .before .before .before .run-lines .result) (omega arith) (c .before .before .before .before .before .before .before .run-lines .ensures) (c .before .next .given .1)
+returns-2 c = finishes (c .before .before .before .before .before .run-lines .ensures) (c .before .next .given .1) (c .before .before .before .before .before .before .before .before .before .if1 .left)
 
 enum-known-next-2 : tie.Need-enum-known-next-2
 enum-known-next-2 c = search needs
 
 mul-words : tie.Need-mul-words
 mul-words c =
-    let e = ended (c .before .before .before .before .before .before .before .before .before .before .before .before .before .before .before .args .input .now) _ (c .before .before .before .before .before .before .before .before .run-lines .last .1 .1 .0) (c .before .before .before .before .before .before .before .before .run-lines .last .1 .1 .1 .0) (c .before .before .before .before .before .before .before .before .run-lines .result) (omega arith) (c .before .before .before .before .before .before .before .before .run-lines .ensures) (c .before .before .next2 .given .1) in
+    let e = finishes (c .before .before .before .before .before .before .run-lines .ensures) (c .before .before .next2 .given .1) (c .before .before .before .before .before .before .before .before .before .before .if1 .left) in
     omega (arith, e .few)
 
 array-share-prefix-history : tie.Need-array-share-prefix-history
 array-share-prefix-history c =
-    let e = ended (c .before .before .before .before .before .before .before .before .before .before .before .before .before .before .before .args .input .now) _ (c .before .before .before .before .before .before .before .before .run-lines .last .1 .1 .0) (c .before .before .before .before .before .before .before .before .run-lines .last .1 .1 .1 .0) (c .before .before .before .before .before .before .before .before .run-lines .result) (omega arith) (c .before .before .before .before .before .before .before .before .run-lines .ensures) (c .before .before .next2 .given .1) in
-    omega (arith, e .few, c .before .before .before .before .before .before .before .before .run-lines .kept .1 .1 .0, length-replicate {A = ℕ} 16384 0)
+    let e = finishes (c .before .before .before .before .before .before .run-lines .ensures) (c .before .before .next2 .given .1) (c .before .before .before .before .before .before .before .before .before .before .if1 .left) in
+    omega (arith, e .few, c .before .before .before .before .before .before .run-lines .kept .1 .1 .0, length-replicate {A = ℕ} 16384 0)
 
 slice-aggregate-print-verdict : tie.Need-slice-aggregate-print-verdict
-slice-aggregate-print-verdict c =
-    let e = ended (c .before .before .before .before .before .before .before .before .before .before .before .before .before .before .before .before .args .input .now) _ (c .before .before .before .before .before .before .before .before .before .run-lines .last .1 .1 .0) (c .before .before .before .before .before .before .before .before .before .run-lines .last .1 .1 .1 .0) (c .before .before .before .before .before .before .before .before .before .run-lines .result) (omega arith) (c .before .before .before .before .before .before .before .before .before .run-lines .ensures) (c .before .before .before .next2 .given .1) in
-    sym (length-take-le _ _ (omega (arith, e .few, c .before .before .before .before .before .before .before .before .before .run-lines .kept .1 .1 .0, length-replicate {A = ℕ} 16384 0)))
+slice-aggregate-print-verdict c = sym (length-take-le _ _ (array-share-prefix-history (c .before)))
 
 print-verdict-requires : tie.Need-print-verdict-requires
 print-verdict-requires c κs =
-    let e = ended (c .before .before .before .before .before .before .before .before .before .before .before .before .before .before .before .before .before .args .input .now) _ (c .before .before .before .before .before .before .before .before .before .before .run-lines .last .1 .1 .0) (c .before .before .before .before .before .before .before .before .before .before .run-lines .last .1 .1 .1 .0) (c .before .before .before .before .before .before .before .before .before .before .run-lines .result) (omega arith) (c .before .before .before .before .before .before .before .before .before .before .run-lines .ensures) (c .before .before .before .before .next2 .given .1) in
-    omega (arith, e .short, c .before .before .before .before .before .before .before .before .before .before .run-lines .kept .1 .1 .1 .0)
-
-same-length-3 : tie.Need-same-length-3
-same-length-3 c = search needs
+    let e = finishes (c .before .before .before .before .before .before .before .before .run-lines .ensures) (c .before .before .before .before .next2 .given .1) (c .before .before .before .before .before .before .before .before .before .before .before .before .if1 .left) in
+    omega (arith, e .short)
 
 returns-3 : tie.Need-returns-3
-returns-3 c =
-    let e = ended (c .before .before .before .before .before .before .before .before .before .before .before .before .before .before .before .before .before .before .before .before .args .input .now) _ (c .before .before .before .before .before .before .before .before .before .before .before .before .before .run-lines .last .1 .1 .0) (c .before .before .before .before .before .before .before .before .before .before .before .before .before .run-lines .last .1 .1 .1 .0) (c .before .before .before .before .before .before .before .before .before .before .before .before .before .run-lines .result) (omega arith) (c .before .before .before .before .before .before .before .before .before .before .before .before .before .run-lines .ensures) (c .before .before .before .before .before .before .before .next2 .given .1) in
-    let w = c .before .before .print-verdict .ensures (e .last .history) (last-formed e) (last-read e) in
-    (last-printed e (omega (arith, c .before .before .before .before .before .before .before .before .before .before .before .before .before .run-lines .kept .1 .1 .1 .0)) w, last-short e w)
+returns-3 c = last-printed (finishes (c .before .before .before .before .before .before .before .before .before .run-lines .ensures) (c .before .before .before .before .before .next2 .given .1) (c .before .before .before .before .before .before .before .before .before .before .before .before .before .if1 .left)) (c .print-verdict .ensures)
 
 pub run-spec : {M : Type 1} → statement M
 run-spec =
@@ -79,18 +63,15 @@ run-spec =
     (tie.spec
     slice-aggregate-write-bytes
     write-bytes-requires
-    same-length
     returns
     slice-aggregate-run-lines
     slice-aggregate-run-lines-2
     run-lines-requires
     enum-known-next
-    same-length-2
     returns-2
     enum-known-next-2
     mul-words
     array-share-prefix-history
     slice-aggregate-print-verdict
     print-verdict-requires
-    same-length-3
     returns-3)

@@ -1,5 +1,5 @@
 -- `session::step_turn` meets its contract: a call that is recorded and printed is a turn.
-use Rattle.rules.specs.Request.{startEnqueue, startDequeue, step}
+use Rattle.rules.specs.Request.{step}
 use Rattle.session.specs.TurnLaws.{call-turned}
 use borrow.Author.Needs.{needs}
 use Rattle.session.proofs.step_turn.Statement.{statement}

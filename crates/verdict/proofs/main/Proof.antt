@@ -1,8 +1,11 @@
--- `verdict::main` meets its contract. Assumes nothing.
+-- `verdict::main` meets its contract: what was printed lies within the buffer.
 use mathlib.Core.Path.{sym}
+use Prim.Native.Nat.{ℕ}
+use lib.ListN.{length-replicate}
 use lib.Seq.{length-take-le}
+use Rattle.text.specs.Laws.{wrote-within}
+use Rattle.recording.specs.Laws.{length-reported}
 use borrow.Author.Needs.{needs}
-use Rattle.lines.specs.Laws.{numbers-within}
 use Rattle.verdict.proofs.main.Statement.{statement}
 use Rattle.verdict.proofs.main.Tie as tie
 
@@ -15,54 +18,23 @@ read-full-requires c κs = search needs
 array-share-prefix-text : tie.Need-array-share-prefix-text
 array-share-prefix-text c = search needs
 
-slice-aggregate-parse : tie.Need-slice-aggregate-parse
-slice-aggregate-parse c = search needs
+slice-aggregate-report : tie.Need-slice-aggregate-report
+slice-aggregate-report c = search needs
 
-slice-aggregate-parse-2 : tie.Need-slice-aggregate-parse-2
-slice-aggregate-parse-2 c = search needs
+report-requires : tie.Need-report-requires
+report-requires c κs = search needs
 
-parse-requires : tie.Need-parse-requires
-parse-requires c κs = search needs
-
-enum-told : tie.Need-enum-told
-enum-told c = search needs
+array-share-prefix-out : tie.Need-array-share-prefix-out
+array-share-prefix-out c = wrote-within (c .report .ensures) (length-replicate {A = ℕ} 19 0) (length-reported _)
 
 slice-aggregate-write-all : tie.Need-slice-aggregate-write-all
-slice-aggregate-write-all c = search needs
+slice-aggregate-write-all c = sym (length-take-le _ _ (array-share-prefix-out (c .before)))
 
 write-all-requires : tie.Need-write-all-requires
 write-all-requires c κs = search needs
 
-enum-told-2 : tie.Need-enum-told-2
-enum-told-2 c = search needs
-
-slice-aggregate-write-all-2 : tie.Need-slice-aggregate-write-all-2
-slice-aggregate-write-all-2 c = search needs
-
-write-all-requires-2 : tie.Need-write-all-requires-2
-write-all-requires-2 c κs = search needs
-
-enum-known-parsed : tie.Need-enum-known-parsed
-enum-known-parsed c = search needs
-
-array-share-prefix-numbers : tie.Need-array-share-prefix-numbers
-array-share-prefix-numbers c = numbers-within (c .before .before .before .before .parse .ensures) _ (c .before .parsed .given .1)
-
-slice-aggregate-print-verdict : tie.Need-slice-aggregate-print-verdict
-slice-aggregate-print-verdict c =
-    sym (length-take-le _ _ (numbers-within (c .before .before .before .before .before .parse .ensures) _ (c .before .before .parsed .given .1)))
-
-print-verdict-requires : tie.Need-print-verdict-requires
-print-verdict-requires c κs = search needs
-
 returns : tie.Need-returns
 returns c = search needs
-
-returns-2 : tie.Need-returns-2
-returns-2 c = search needs
-
-returns-3 : tie.Need-returns-3
-returns-3 c = search needs
 
 pub main-spec : {M : Type 1} → statement M
 main-spec =
@@ -71,19 +43,9 @@ main-spec =
     slice-aggregate-read-full
     read-full-requires
     array-share-prefix-text
-    slice-aggregate-parse
-    slice-aggregate-parse-2
-    parse-requires
-    enum-told
+    slice-aggregate-report
+    report-requires
+    array-share-prefix-out
     slice-aggregate-write-all
     write-all-requires
-    enum-told-2
-    slice-aggregate-write-all-2
-    write-all-requires-2
-    enum-known-parsed
-    array-share-prefix-numbers
-    slice-aggregate-print-verdict
-    print-verdict-requires
-    returns
-    returns-2
-    returns-3)
+    returns)

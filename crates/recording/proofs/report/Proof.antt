@@ -1,0 +1,79 @@
+-- `recording::report` meets its contract: what the parsed lines print.
+use mathlib.Core.Path.{sym}
+use Prim.Native.Nat.{ℕ}
+use lib.ListN.{length-replicate}
+use lib.Seq.{length-take-le}
+use Rattle.lines.specs.Laws.{numbers-within}
+use Rattle.recording.specs.Laws.{reported-is, reported-numbers}
+use borrow.Author.Needs.{needs}
+use Rattle.recording.proofs.report.Statement.{statement}
+use Rattle.recording.proofs.report.Tie as tie
+
+slice-aggregate-parse : tie.Need-slice-aggregate-parse
+slice-aggregate-parse c = search needs
+
+parse-requires : tie.Need-parse-requires
+parse-requires c κs = search needs
+
+enum-told : tie.Need-enum-told
+enum-told c = search needs
+
+slice-aggregate-write-bytes : tie.Need-slice-aggregate-write-bytes
+slice-aggregate-write-bytes c = search needs
+
+write-bytes-requires : tie.Need-write-bytes-requires
+write-bytes-requires c κs = search needs
+
+returns : tie.Need-returns
+returns c =
+    rw (reported-is (length-replicate {A = ℕ} 32768 0) (c .before .before .before .before .before .before .parse .ensures) (c .before .before .before .enum-told .given .1)) (c .write-bytes .ensures)
+
+enum-told-2 : tie.Need-enum-told-2
+enum-told-2 c = search needs
+
+slice-aggregate-write-bytes-2 : tie.Need-slice-aggregate-write-bytes-2
+slice-aggregate-write-bytes-2 c = search needs
+
+write-bytes-requires-2 : tie.Need-write-bytes-requires-2
+write-bytes-requires-2 c κs = search needs
+
+returns-2 : tie.Need-returns-2
+returns-2 c =
+    rw (reported-is (length-replicate {A = ℕ} 32768 0) (c .before .before .before .before .before .before .parse .ensures) (c .before .before .before .enum-told2 .given .1)) (c .write-bytes2 .ensures)
+
+enum-known-parsed : tie.Need-enum-known-parsed
+enum-known-parsed c = search needs
+
+array-share-prefix-numbers : tie.Need-array-share-prefix-numbers
+array-share-prefix-numbers c = numbers-within (c .before .before .before .before .parse .ensures) (c .before .parsed .given .1)
+
+slice-aggregate-print-verdict : tie.Need-slice-aggregate-print-verdict
+slice-aggregate-print-verdict c =
+    sym (length-take-le _ _ (numbers-within (c .before .before .before .before .before .parse .ensures) (c .before .before .parsed .given .1)))
+
+print-verdict-requires : tie.Need-print-verdict-requires
+print-verdict-requires c κs = search needs
+
+returns-3 : tie.Need-returns-3
+returns-3 c =
+    rw (reported-numbers (length-replicate {A = ℕ} 32768 0) (c .before .before .before .before .before .before .before .parse .ensures) (c .before .before .before .before .parsed .given .1)) (c .print-verdict .ensures)
+
+pub report-spec : {M : Type 1} → statement M
+report-spec =
+    tie.close
+    (tie.spec
+    slice-aggregate-parse
+    parse-requires
+    enum-told
+    slice-aggregate-write-bytes
+    write-bytes-requires
+    returns
+    enum-told-2
+    slice-aggregate-write-bytes-2
+    write-bytes-requires-2
+    returns-2
+    enum-known-parsed
+    array-share-prefix-numbers
+    slice-aggregate-print-verdict
+    print-verdict-requires
+    returns-3)

@@ -1,0 +1,55 @@
+-- Recordings and what they print, as one table and one statement that the checker computes.
+use mathlib.Core.Path.{_≡_, refl}
+use mathlib.Core.List.{List, [], _∷_, _++_, map}
+use Prim.Native.Nat.{ℕ}
+use Rattle.history.specs.Event.{decode}
+use Rattle.history.specs.Form.{read}
+use Rattle.criterion.specs.Pass.{explains}
+use Rattle.text.specs.Decimal.{digitsFrom, numberAt, digits}
+use Rattle.lines.specs.Lines.{numbersFrom}
+use Rattle.protocol.specs.Words.{space, newline, refusedWord, badLine, explainedLine, unexplainedLine}
+use Rattle.recording.specs.Report.{reported}
+
+pub record Sample : Type 0 where
+  pub text : List ℕ
+  pub printed : List ℕ
+
+-- a line of four numbers of one digit, by the digits' bytes
+abbrev pub event : (kind thread number value : ℕ) → List ℕ
+event k t n v = k ∷ space ∷ t ∷ space ∷ n ∷ space ∷ v ∷ newline ∷ []
+
+-- "1 1 1 7", "2 1 1 7", "3 0 0 0", "4 0 1 7" and "5 0 0 0"
+abbrev pub enqueueStarts : List ℕ
+enqueueStarts = event 49 49 49 55
+
+abbrev pub enqueueEnds : List ℕ
+enqueueEnds = event 50 49 49 55
+
+abbrev pub dequeueStarts : List ℕ
+dequeueStarts = event 51 48 48 48
+
+abbrev pub givesItem : List ℕ
+givesItem = event 52 48 49 55
+
+abbrev pub givesEmpty : List ℕ
+givesEmpty = event 53 48 48 48
+
+abbrev pub samples : List Sample
+samples =
+    -- no event; an item of an enqueue that is under way; empty after an enqueue has ended
+    record { text = []; printed = explainedLine }
+    ∷ record { text = enqueueStarts ++ dequeueStarts ++ givesItem; printed = explainedLine }
+    ∷ record { text = enqueueStarts ++ enqueueEnds ++ dequeueStarts ++ givesEmpty; printed = unexplainedLine }
+    -- kind 6; an end without its start
+    ∷ record { text = event 54 48 48 48; printed = refusedWord ++ (49 ∷ 50 ∷ newline ∷ []) }
+    ∷ record { text = enqueueEnds; printed = refusedWord ++ (49 ∷ 51 ∷ newline ∷ []) }
+    -- three numbers; two spaces; the empty line
+    ∷ record { text = 51 ∷ space ∷ 48 ∷ space ∷ 48 ∷ newline ∷ []; printed = badLine }
+    ∷ record { text = 51 ∷ space ∷ space ∷ 48 ∷ space ∷ 48 ∷ space ∷ 48 ∷ newline ∷ []; printed = badLine }
+    ∷ record { text = newline ∷ []; printed = badLine }
+    ∷ []
+
+-- Every recording of the table prints what the table says.
+pub runs-as-written : map (λ x. reported (x .text)) samples ≡ map (λ x. x .printed) samples
+unfolding reported numbersFrom digitsFrom numberAt digits read decode explains
+runs-as-written = refl
