@@ -2,8 +2,9 @@
 use mathlib.Core.Path.{_≡_}
 use mathlib.Core.List.{List, _++_}
 use mathlib.Core.Option.{none, some}
-use Prim.Native.Nat.{ℕ, _+_, _≤_}
+use Prim.Native.Nat.{ℕ, _+_, _*_, _≤_}
 use lib.ListN.{drop}
+use Rattle.history.specs.Form.{mostEvents}
 use Rattle.history.specs.Linearization.{Linearizable}
 use Rattle.criterion.specs.Pass.{explains}
 use Rattle.text.specs.Wrote.{Wrote}
@@ -39,15 +40,12 @@ pub data Reached : Session → Type 0 where
   begun : Reached start
   turned : {x : Session} → Reached x → (line : Line) (call : Session → Turn) → callOf line ≡ some call → Reached (call x .session)
 
--- the most events, and a bound on the bytes of the replies: at most 4,096 lines, each answered with at most 27 bytes
-abbrev pub mostRecorded : ℕ
-mostRecorded = 4096
-
+-- A bound on the bytes of the replies: 8,192 bytes are at most 4,096 lines that ask for a call, so many as the judge takes events.
 abbrev pub mostReplies : ℕ
-mostReplies = 110592
+mostReplies = mostEvents * mostPrinted
 
 -- A bound on the bytes that are printed, not the most that can be printed (`length-output`, Length.antt): a line has two bytes with
--- its newline, which the last may lack, and is answered with at most 27; the judge's word has at most 12.
+-- its newline, which the last may lack, and is answered with at most 27; the judge's word has at most 12. 27 × 8,193 / 2 + 12.
 abbrev pub mostOutput : ℕ
 mostOutput = 110617
 
@@ -61,7 +59,7 @@ pub record Ended (p history before out : List ℕ) (at : Place) : Type 0 where
   pub replies : List ℕ
   pub wrote : Wrote before 0 replies out (at .bytes)
   pub printed : replies ++ printedVerdict (explains (last .history)) ≡ p
-  pub few : at .events ≤ mostRecorded
+  pub few : at .events ≤ mostEvents
   pub short : at .bytes ≤ mostReplies
 
 abbrev pub Finishes : (p history before out : List ℕ) → Next → Type 0

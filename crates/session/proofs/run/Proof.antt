@@ -16,7 +16,7 @@ write-bytes-requires : tie.Need-write-bytes-requires
 write-bytes-requires c κs = search needs
 
 returns : tie.Need-returns
-returns c = too-long (c .before .before .before .before .before .args .input .now) (c .before .before .before .if1 .taken) (c .write-bytes .ensures)
+returns c = too-long (c .before .before .before .before .before .args .input .now) (omega arith) (c .write-bytes .ensures)
 
 slice-aggregate-run-lines : tie.Need-slice-aggregate-run-lines
 slice-aggregate-run-lines c = search needs
