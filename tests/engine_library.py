@@ -12,7 +12,7 @@ GOING, END, EMPTY, ITEM = 100, 101, 102, 103
 
 
 def archive():
-    """The engine's archive, proved and written anew if it is not there."""
+    """The engine's archive, as it is; proved and written where there is none."""
     if not os.path.exists(ARCHIVE):
         subprocess.run(['rt', 'staticlib', 'engine'], cwd=ROOT, check=True, stdout=subprocess.DEVNULL)
     return ARCHIVE

@@ -33,7 +33,7 @@ def shared(sources, name, *flags):
 
 
 def built(archive, crate):
-    """The crate's static library, proved and built where it is not there yet."""
+    """The crate's static library, as it is; proved and built where there is none."""
     if not archive.exists():
         subprocess.run(['rt', 'staticlib', crate], cwd=ROOT, check=True, stdout=subprocess.DEVNULL)
     return archive
