@@ -1,13 +1,13 @@
 -- Linking a claimed record behind the last one, or giving it back, keeps the records' invariant.
-use mathlib.Core.Path.{_≡_, refl, ap, sym, _∙_, subst}
-use mathlib.Core.Logic.{_⊎_, inl, inr, ⊎-elim, _≢_}
+use mathlib.Core.Path.{_≡_, refl, ap, sym, _∙_}
+use mathlib.Core.Logic.{_⊎_, inl, inr, ⊎-elim}
 use Prim.Native.Nat.{ℕ, zero, suc, _≤_, _<_}
 use native.Mathlib.Decide.{ℕ-discrete}
 use native.Mathlib.Omega.{arith}
 use Rattle.rules.specs.Sizes.{Sizes}
-use Rattle.rules.specs.Cell.{Reader, producer, part, entry, tailRecord, headRecord, cursorRecord, foundRecord, place, next, prev, used, claimed, state, held}
-use Rattle.memory.specs.Chain.{Chain, at, at-other, chain-kept, chain-grows}
-use Rattle.memory.specs.Memory.{Shape, Holdable, Held, Blank, Claimed, ThreadOk, rowOf, Linked, Memory, claimed-is, held-is}
+use Rattle.rules.specs.Cell.{Reader, entry, tailRecord, headRecord, cursorRecord, foundRecord, place, next, prev, used, claimed, state, held}
+use Rattle.memory.specs.Chain.{at, at-other, chain-kept, chain-grows}
+use Rattle.memory.specs.Memory.{Shape, Holdable, Blank, ThreadOk, rowOf, Linked, Memory, claimed-is}
 use Rattle.memory.specs.Ends.{held-last}
 use Rattle.memory.specs.Frames.{held-kept, thread-kept, Untouched, holdable-kept, blank-kept, OthersKept, every-row, outside-kept, apart-kept}
 

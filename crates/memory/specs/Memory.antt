@@ -3,7 +3,7 @@
 -- Why it is inductive. A claim takes a record that is not linked, that no producer has claimed and, if it is retired, that none
 -- holds; so nothing that anyone can reach changes. A link is made only behind the last record, since only that one has no next.
 -- Only the consumer retires, and only the head record, which then has a next; so a held record is linked, or retired with a next.
-use mathlib.Core.Path.{_≡_, refl, ap, sym, _∙_, subst}
+use mathlib.Core.Path.{_≡_, subst}
 use mathlib.Core.Logic.{_⊎_, _≢_}
 use Prim.Native.Nat.{ℕ, zero, suc, _≤_, _<_}
 use Rattle.rules.specs.Sizes.{Sizes}

@@ -1,15 +1,15 @@
 -- Retiring the head record keeps the records' invariant.
-use mathlib.Core.Path.{_≡_, refl, ap, sym, _∙_, subst}
-use mathlib.Core.Logic.{_⊎_, inl, inr, ⊎-elim, _≢_}
+use mathlib.Core.Path.{_≡_, refl, ap, sym, _∙_}
+use mathlib.Core.Logic.{inl, inr}
 use mathlib.Core.List.{List, [], _∷_}
-use Prim.Native.Nat.{ℕ, zero, suc, _≤_, _<_}
+use Prim.Native.Nat.{ℕ, suc, _<_}
 use native.Mathlib.Decide.{ℕ-discrete}
 use native.Mathlib.Omega.{arith}
 use borrow.Author.Tests.{eq-eqb, ne-eqb}
 use Rattle.rules.specs.Sizes.{Sizes}
-use Rattle.rules.specs.Cell.{Reader, Write, _:=_, headRecord, headPosition, cursorRecord, foundRecord, place, next, prev, used, state, after}
-use Rattle.memory.specs.Chain.{Chain, chain-shrinks}
-use Rattle.memory.specs.Memory.{Shape, Holdable, Held, Blank, ThreadOk, rowOf, Linked, Memory}
+use Rattle.rules.specs.Cell.{Reader, Write, _:=_, headRecord, headPosition, cursorRecord, foundRecord, place, next, used, state, after}
+use Rattle.memory.specs.Chain.{chain-shrinks}
+use Rattle.memory.specs.Memory.{Shape, Holdable, Blank, rowOf, Memory}
 use Rattle.memory.specs.Frames.{thread-kept}
 
 -- What the consumer writes when record n takes h's place as head record, at position p.

@@ -1,7 +1,7 @@
 -- The position machine that a store stands for. What the store does not hold is kept beside it: where the chain stands, the
 -- entries by position, which call owns a position, and the history.
 use mathlib.Core.Path.{_≡_}
-use mathlib.Core.List.{List, [], _∷_}
+use mathlib.Core.List.{[], _∷_}
 use Prim.Native.Nat.{ℕ, zero, suc, _+_, _*_, _≤_, _<_}
 use lib.ListN.{getD}
 use Rattle.history.specs.Event.{History}
