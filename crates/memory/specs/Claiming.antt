@@ -17,7 +17,7 @@ use Rattle.rules.specs.Address.{both}
 use Rattle.rules.specs.Readback.{true-false}
 use Rattle.rules.specs.InRange.{InSort, every-at}
 use Rattle.memory.specs.Chain.{chain-kept}
-use Rattle.memory.specs.Memory.{Shape, Holdable, Blank, ThreadOk, rowOf, Linked, Memory, claimed-is, held-is}
+use Rattle.memory.specs.Memory.{ChainShape, Holdable, Blank, ThreadOk, rowOf, Linked, Memory, claimed-is, held-is}
 use Rattle.memory.specs.Frames.{held-kept, thread-kept, Untouched, holdable-kept, blank-kept, OthersKept, others-kept, every-row, outside-kept}
 
 -- What a claim by thread t writes, on its way to phase p.
@@ -43,7 +43,7 @@ free-has z σ r e = go (eqb (σ (used r)) 0) refl
         let p = both (eqb (σ (used r)) 3) (every (z .P) (λ t. not (holds σ (suc t) r))) (rw q at e) in
         inr (eqb-true (σ (used r)) 3 (p .0), unheld (p .1))
 
-module _ (z : Sizes) (σ : Reader) (g : Shape) (m : Memory z σ g) (t r p : ℕ)
+module _ (z : Sizes) (σ : Reader) (g : ChainShape) (m : Memory z σ g) (t r p : ℕ)
     (a-producer : (1 ≤ t) × (t ≤ z .P)) (fits : r < z .N) (is-free : free z σ r ≡ true)
     (holds-one : σ (held t) ≢ 0) where
   abbrev σ′ : Reader

@@ -24,7 +24,7 @@ use Rattle.rules.specs.InRange.{InSort, writes-keep-range}
 use Rattle.model.specs.State.{Entry, Producer, State, at}
 use Rattle.model.specs.Invariant.{Invariant}
 use Rattle.model.specs.Moves.{withProducer}
-use Rattle.memory.specs.Memory.{Shape, Held, ThreadOk, rowOf}
+use Rattle.memory.specs.Memory.{ChainShape, Held, ThreadOk, rowOf}
 use Rattle.memory.specs.Frames.{OthersKept, others-kept}
 use Rattle.memory.specs.Light.{Light, producer-keeps}
 use Rattle.ordering.specs.View.{Ghost, placesOf, placeOf, producerAt, producerOf, producersOf, view, Agrees, cellOf}
@@ -113,7 +113,7 @@ module _ (z : Sizes) (σ : Reader) (γ : Ghost) (good : Good z σ γ) (t : ℕ) 
   seen-at p e = ap (λ (x : ℕ). producerAt x (σ (call t)) (σ (value t)) (σ (position t)) (placeOf (placesOf σ) (σ (held t)))) e
 
   pub producer-goes : (r : Reply) (ws : List Write) (tp : ℕ) (entry : ℕ → Entry) (owner : ℕ → ℕ) (content : ℕ → Item) (h : History)
-      → let g : Shape = record { lo = γ .shape .lo; tp = tp; hi = γ .shape .hi; at = γ .shape .at } in
+      → let g : ChainShape = record { lo = γ .shape .lo; tp = tp; hi = γ .shape .hi; at = γ .shape .at } in
       let γ′ : Ghost = record { shape = g; entry = entry; owner = owner; content = content; history = h } in
       All (InSort z t) ws
       → All (WriteThere z) ws

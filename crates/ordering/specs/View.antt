@@ -8,10 +8,10 @@ use Rattle.history.specs.Event.{History}
 use Rattle.history.specs.Linearization.{Item}
 use Rattle.rules.specs.Cell.{Reader, consumer, entry, tail, headPosition, starts, place}
 use Rattle.model.specs.State.{Entry, blank, put, gone, Producer, idle, started, seeking, ahead, shifting, behind, writing, setting, done, Consumer, resting, front, reading, scanning, looking, rescanning, found, holding, State}
-use Rattle.memory.specs.Memory.{Shape, rowOf}
+use Rattle.memory.specs.Memory.{ChainShape, rowOf}
 
 pub record Ghost : Type 0 where
-  pub shape : Shape
+  pub shape : ChainShape
   pub entry : ℕ → Entry
   pub owner : ℕ → ℕ
   pub content : ℕ → Item
