@@ -1,13 +1,13 @@
 """The engine through its C interface, word for word against the independent model."""
 
 import collections
-import os
 import random
 import subprocess
 import unittest
 
 import engine_library
 import intake_model as model
+from archives import ROOT, archive
 
 LARGEST = (64, 64, 16, 1000000)
 
@@ -131,18 +131,18 @@ class Differential(unittest.TestCase):
 
 class Host(unittest.TestCase):
     def make(self, target):
-        return subprocess.run(['make', '-s', '-C', os.path.join(engine_library.ROOT, 'host'), target], capture_output=True, text=True)
+        return subprocess.run(['make', '-s', '-C', ROOT / 'host', target], capture_output=True, text=True)
 
     def test_host(self):
         """A host that does not build without warnings, or that sees a producer's items out of order."""
-        engine_library.archive()
+        archive('engine')
         done = self.make('run')
         self.assertEqual(done.returncode, 0, done.stderr)
         self.assertIn("8000 items received, each producer's in its order", done.stdout)
 
     def test_host_sanitized(self):
         """An access outside the lent memory, or undefined behaviour, at the boundary."""
-        engine_library.archive()
+        archive('engine')
         done = self.make('sanitized')
         self.assertEqual(done.returncode, 0, done.stderr)
         self.assertIn("800 items received, each producer's in its order", done.stdout)

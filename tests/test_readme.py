@@ -6,9 +6,8 @@ import subprocess
 import tempfile
 import unittest
 
-import engine_library
+from archives import ROOT, archive
 
-ROOT = engine_library.ROOT
 VERDICT = r"printf '1 1 1 7\n2 1 1 7\n3 0 0 0\n4 0 1 7\n' | target/bin/verdict"
 
 
@@ -26,7 +25,7 @@ class Readme(unittest.TestCase):
             with open(path, 'w', encoding='utf-8') as file:
                 file.write(source)
             flags = ['-std=c11', '-Wall', '-Wextra', '-Werror', '-I' + os.path.join(ROOT, 'include')]
-            subprocess.run(['gcc', *flags, '-o', program, path, engine_library.archive()], check=True)
+            subprocess.run(['gcc', *flags, '-o', program, path, archive('engine')], check=True)
             printed = subprocess.run([program], capture_output=True, text=True, check=True).stdout
         self.assertEqual(printed, 'call 1\ncall 1, value 700\n')
         self.assertIn('It prints `call 1` and `call 1, value 700`.', readme())
