@@ -8,8 +8,11 @@
  *     16 + 8 * (producers + 1) + records * (3 * entries + 4)
  * words, at most 12,696. Words past that are never read or written.
  *
- * Every call returns at once. A refused call returns its number below and changes no word of store or reply. `reply` must not overlap the
- * store. Each call that takes a store with words checks all of it first, so a damaged store is refused with 3 and not followed.
+ * Every call returns. A refused call returns its number below and changes no word of store or reply. `store` points to `words` words and
+ * `reply` to four, apart from the store; both are aligned and not NULL, also where `words` is 0.
+ *
+ * Every start and step first looks whether each word of the store is in its range, and refuses with 3 if one is not. Damage that stays in
+ * range is not seen then: such a store may be followed, or refused with 9. No memory but what was lent is touched.
  *
  *     1  a size outside its limits (open)
  *     2  the store is shorter than 16 words, or than its sizes need

@@ -56,7 +56,7 @@ def empties(n):
 
 
 def main():
-    archive = jl.built(jl.ARCHIVE, 'judge_c')
+    archive = jl.archive('judge_c')
     library = jl.shared([pathlib.Path(__file__).with_suffix('.c'), archive], 'bench', '-O2')
     library.time_judge.restype = library.time_pass.restype = ctypes.c_double
     cases = [(f'engine-like {n}', engine_like(n)) for n in (512, 1024, 2048, 4096)]

@@ -1,29 +1,15 @@
 """The engine's C interface for Python: the static library as a shared object, called through ctypes."""
 
 import ctypes
-import os
-import subprocess
-import tempfile
 
-ROOT = os.path.dirname(os.path.dirname(os.path.abspath(__file__)))
-ARCHIVE = os.path.join(ROOT, 'target', 'staticlib', 'libengine.a')
+from archives import archive, shared
 
 GOING, END, EMPTY, ITEM = 100, 101, 102, 103
 
 
-def archive():
-    """The engine's archive, proved and written anew if it is not there."""
-    if not os.path.exists(ARCHIVE):
-        subprocess.run(['rt', 'staticlib', 'engine'], cwd=ROOT, check=True, stdout=subprocess.DEVNULL)
-    return ARCHIVE
-
-
 def load():
     """The engine as a ctypes library."""
-    folder = tempfile.mkdtemp()
-    shared = os.path.join(folder, 'libengine.so')
-    subprocess.run(['gcc', '-shared', '-o', shared, '-Wl,--whole-archive', archive(), '-Wl,--no-whole-archive'], check=True)
-    library = ctypes.CDLL(shared)
+    library = shared([archive('engine')], 'engine')
     word, words, size = ctypes.c_uint32, ctypes.POINTER(ctypes.c_uint32), ctypes.c_size_t
     library.intake_open.argtypes = [words, size, word, word, word, word]
     library.intake_start_enqueue.argtypes = [words, size, word, word, words]

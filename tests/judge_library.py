@@ -1,12 +1,9 @@
 """The proved judge as a shared library, for tests and benchmarks in bulk."""
 
 import ctypes
-import pathlib
-import subprocess
-import tempfile
 
-ROOT = pathlib.Path(__file__).resolve().parent.parent
-ARCHIVE = ROOT / 'target' / 'staticlib' / 'libjudge_c.a'
+from archives import ROOT, archive, shared
+
 PROGRAM = ROOT / 'target' / 'bin' / 'verdict'
 WORDS = {0: 'explained', 1: 'unexplained'}
 Words = ctypes.POINTER(ctypes.c_uint32)
@@ -21,26 +18,8 @@ class Call(ctypes.Structure):
         return (self.kind, self.start, self.end, self.answer)
 
 
-def shared(sources, name, *flags):
-    """A shared library of C sources and archives, kept while the result is referred to."""
-    folder = tempfile.TemporaryDirectory()
-    path = pathlib.Path(folder.name) / f'{name}.so'
-    whole = ['-Wl,--whole-archive', *map(str, sources), '-Wl,--no-whole-archive']
-    subprocess.run(['cc', '-shared', '-fPIC', *flags, '-o', str(path), *whole], check=True)
-    library = ctypes.CDLL(str(path))
-    library.folder = folder
-    return library
-
-
-def built(archive, crate):
-    """The crate's static library, proved and built where it is not there yet."""
-    if not archive.exists():
-        subprocess.run(['rt', 'staticlib', crate], cwd=ROOT, check=True, stdout=subprocess.DEVNULL)
-    return archive
-
-
 def load():
-    library = shared([built(ARCHIVE, 'judge_c')], 'judge')
+    library = shared([archive('judge_c')], 'judge')
     library.judge_history.argtypes = [Words, ctypes.c_size_t, ctypes.POINTER(Call), ctypes.c_size_t]
     library.judge_history.restype = ctypes.c_uint32
     return library

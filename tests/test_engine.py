@@ -1,12 +1,13 @@
 """The engine through its C interface, word for word against the independent model."""
 
-import os
+import collections
 import random
 import subprocess
 import unittest
 
 import engine_library
 import intake_model as model
+from archives import ROOT, archive
 
 LARGEST = (64, 64, 16, 1000000)
 
@@ -24,6 +25,11 @@ def random_call(rng, producers):
     if draw < 0.17:
         return ('d',)
     return ('s', thread)
+
+
+def kind(reply):
+    """What a reply is counted as: a refusal by its number."""
+    return reply[:2] if reply[0] == 'refused' else reply[0]
 
 
 def damaged(rng, words):
@@ -62,8 +68,8 @@ class Differential(unittest.TestCase):
 
     def test_schedules(self):
         """A phase, a reply or a word that differs from the rules on stores that only the engine has written."""
-        rng, seen, calls = random.Random(11), {}, 0
-        while calls < 170000:
+        rng, seen = random.Random(11), collections.Counter()
+        while sum(seen.values()) < 170000:
             sizes = random_sizes(rng)
             words = [rng.getrandbits(32) for _ in range(model.needed_words(*sizes[:3]) + rng.randrange(3))]
             engine = engine_library.Engine(self.library, words)
@@ -72,15 +78,14 @@ class Differential(unittest.TestCase):
             self.assertEqual(engine.words(), words)
             for _ in range(rng.randrange(100, 1200)):
                 reply = self.both(engine, words, random_call(rng, sizes[2]))
-                seen[reply[:2] if reply[0] == 'refused' else reply[0]] = True
-                calls += 1
-        for kind in ('ok', 'going', 'end', 'empty', 'item', ('refused', 4), ('refused', 5), ('refused', 6), ('refused', 7), ('refused', 8)):
-            self.assertIn(kind, seen)
+                seen[kind(reply)] += 1
+        for known in ('ok', 'going', 'end', 'empty', 'item', *(('refused', number) for number in (4, 5, 6, 7, 8))):
+            self.assertGreaterEqual(seen[known], 50, seen)
 
     def test_damaged_stores(self):
         """A damaged store that is followed and not refused, or refused with another number, or changed by a refusal."""
-        rng, seen, calls = random.Random(12), {}, 0
-        while calls < 45000:
+        rng, seen = random.Random(12), collections.Counter()
+        while sum(seen.values()) < 45000:
             sizes = random_sizes(rng)
             run = model.Recorder(*sizes)
             for _ in range(rng.randrange(200)):
@@ -88,10 +93,9 @@ class Differential(unittest.TestCase):
             for _ in range(60):
                 words = damaged(rng, run.words)
                 reply = self.both(engine_library.Engine(self.library, words), words, random_call(rng, sizes[2]))
-                seen[reply[:2] if reply[0] == 'refused' else reply[0]] = seen.get(reply[:2] if reply[0] == 'refused' else reply[0], 0) + 1
-                calls += 1
+                seen[kind(reply)] += 1
         for number in (2, 3, 4, 5, 7, 9):
-            self.assertGreater(seen.get(('refused', number), 0), 0, number)
+            self.assertGreaterEqual(seen['refused', number], 50, seen)
 
     def test_largest_store(self):
         """A bound or an address that fails only at the largest sizes."""
@@ -109,7 +113,7 @@ class Differential(unittest.TestCase):
 
     def test_open(self):
         """An open that takes sizes outside the limits, a short store, or writes past the store."""
-        rng = random.Random(14)
+        rng, seen = random.Random(14), collections.Counter()
         limits = [0, 1, 2, 3, 63, 64, 65, 2**32 - 1]
         for _ in range(3000):
             sizes = (rng.choice(limits), rng.choice(limits), rng.choice([0, 1, 2, 15, 16, 17]), rng.choice([0, 1, 9, 1000000, 1000001]))
@@ -120,22 +124,25 @@ class Differential(unittest.TestCase):
             number, _ = engine_library.expected(model.open_store(words, *sizes))
             self.assertEqual(engine.open(sizes), number, sizes)
             self.assertEqual(engine.words(), words)
+            seen[number] += 1
+        self.assertEqual(set(seen), {0, 1, 2})
+        self.assertGreaterEqual(min(seen.values()), 50, seen)
 
 
 class Host(unittest.TestCase):
     def make(self, target):
-        return subprocess.run(['make', '-s', '-C', os.path.join(engine_library.ROOT, 'host'), target], capture_output=True, text=True)
+        return subprocess.run(['make', '-s', '-C', ROOT / 'host', target], capture_output=True, text=True)
 
     def test_host(self):
         """A host that does not build without warnings, or that sees a producer's items out of order."""
-        engine_library.archive()
+        archive('engine')
         done = self.make('run')
         self.assertEqual(done.returncode, 0, done.stderr)
         self.assertIn("8000 items received, each producer's in its order", done.stdout)
 
     def test_host_sanitized(self):
         """An access outside the lent memory, or undefined behaviour, at the boundary."""
-        engine_library.archive()
+        archive('engine')
         done = self.make('sanitized')
         self.assertEqual(done.returncode, 0, done.stderr)
         self.assertIn("800 items received, each producer's in its order", done.stdout)

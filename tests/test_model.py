@@ -293,6 +293,37 @@ def stopped_holder_run(engine):
     return enqueue_whole(recorder, 2, 4), recorder.call(('s', 1))
 
 
+class Room(unittest.TestCase):
+    """docs/STEPS.md, "Room"."""
+
+    def test_claims_within_the_room(self):
+        """A step in phase 4 that meets 8 while the positions from the head to the tail are within the room: N = 2 P + 3 and a little
+        more, threads stopped for long at random."""
+        rng, within, dry = random.Random(21), 0, 0
+        while within < 600 or dry < 20:
+            P = rng.randint(1, 3)
+            B, N = rng.randint(2, 3), 2 * P + 3 + rng.randint(0, 3)
+            words = [0] * needed_words(B, N, P)
+            open_store(words, B, N, P, 400)
+            stopped = [0] * (P + 1)
+            for _ in range(rng.randrange(50, 900)):
+                t = rng.randint(0, P) if rng.random() < 0.8 else rng.randint(1, P)
+                if stopped[t]:
+                    stopped[t] -= 1
+                    continue
+                if rng.random() < 0.02:
+                    stopped[t] = rng.randrange(300)
+                idle = words[16 + 8 * t] == 0
+                claims = t > 0 and words[16 + 8 * t] == 4
+                room = words[im.TAIL] - words[im.HEAD_POSITION] <= B * (N - 2 * P - 3)
+                reply = im.do(words, (('e', t, 7) if t else ('d',)) if idle else ('s', t))
+                if claims and room:
+                    self.assertNotEqual(reply, ('refused', 8), (B, N, P))
+                    within += 1
+                elif claims and reply == ('refused', 8):
+                    dry += 1
+
+
 class Refusals(unittest.TestCase):
     """Each refusal where the table has it, in the table's order, with the words unchanged."""
 

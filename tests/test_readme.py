@@ -6,9 +6,9 @@ import subprocess
 import tempfile
 import unittest
 
-import engine_library
+from archives import ROOT, archive
 
-ROOT = engine_library.ROOT
+VERDICT = r"printf '1 1 1 7\n2 1 1 7\n3 0 0 0\n4 0 1 7\n' | target/bin/verdict"
 
 
 def readme():
@@ -25,36 +25,34 @@ class Readme(unittest.TestCase):
             with open(path, 'w', encoding='utf-8') as file:
                 file.write(source)
             flags = ['-std=c11', '-Wall', '-Wextra', '-Werror', '-I' + os.path.join(ROOT, 'include')]
-            subprocess.run(['gcc', *flags, '-o', program, path, engine_library.archive()], check=True)
+            subprocess.run(['gcc', *flags, '-o', program, path, archive('engine')], check=True)
             printed = subprocess.run([program], capture_output=True, text=True, check=True).stdout
         self.assertEqual(printed, 'call 1\ncall 1, value 700\n')
         self.assertIn('It prints `call 1` and `call 1, value 700`.', readme())
 
-    def test_first_command(self):
-        """A first command that fails, or ends with another line."""
-        self.assertIn('    make -C host\n', readme())
-        engine_library.archive()
-        done = subprocess.run('make -C host', shell=True, cwd=ROOT, capture_output=True, text=True)
-        self.assertEqual(done.returncode, 0, done.stderr)
-        last = [line for line in done.stdout.splitlines() if not line.startswith('make')][-1]
-        self.assertTrue(last.startswith("8000 items received, each producer's in its order"), last)
+    def test_commands(self):
+        """A command of the README that fails as it is written, or prints something else than the README says. `.ci/run` is the gate
+        itself, which runs this test."""
+        text = re.sub(r'```.*?```', '', readme(), flags=re.S)
+        commands = re.findall(r'^    ((?:make |rt |target/|printf ).*|\.ci/run)$', text, re.M)
+        printed = {command: self.run_command(command) for command in commands if command != '.ci/run'}
+        self.assertEqual(set(commands) - set(printed), {'.ci/run'})
+        self.assertEqual(
+            set(printed),
+            {'make -C host', 'rt check intake', 'rt check verdict', 'target/bin/intake < crates/intake/stdin', VERDICT},
+        )
+        received = [line for line in printed['make -C host'].splitlines() if not line.startswith('make')][-1]
+        self.assertTrue(received.startswith("8000 items received, each producer's in its order"), received)
+        shown = readme().split('crates/intake/stdin\n\n')[1].split('\n\n')[0].splitlines()
+        self.assertEqual(printed['target/bin/intake < crates/intake/stdin'].splitlines(), [line[21:33].strip() for line in shown])
+        with open(os.path.join(ROOT, 'crates', 'intake', 'stdin'), encoding='utf-8') as file:
+            self.assertEqual(file.read().splitlines(), [line[4:21].strip() for line in shown[:-1]])
+        self.assertEqual(printed[VERDICT], 'explained\n')
 
-    def test_program(self):
-        """The program's first run as the README shows it."""
-        if not os.path.exists(os.path.join(ROOT, 'target', 'bin', 'intake')):
-            subprocess.run(['rt', 'check', 'intake'], cwd=ROOT, check=True, stdout=subprocess.DEVNULL)
-        self.assertIn('    target/bin/intake < crates/intake/stdin\n', readme())
-        done = subprocess.run('target/bin/intake < crates/intake/stdin', shell=True, cwd=ROOT, capture_output=True, text=True)
-        shown = [line[21:33].strip() for line in readme().split('crates/intake/stdin\n\n')[1].split('\n\n')[0].splitlines()]
-        self.assertEqual(done.stdout.splitlines(), shown)
-
-    def test_verdict(self):
-        """The verdict example as written; the program is built by the proofs that the gate has run."""
-        command = re.search(r"    (printf .*\| target/bin/verdict)\n", readme()).group(1)
-        if not os.path.exists(os.path.join(ROOT, 'target', 'bin', 'verdict')):
-            subprocess.run(['rt', 'check', 'verdict'], cwd=ROOT, check=True, stdout=subprocess.DEVNULL)
+    def run_command(self, command):
         done = subprocess.run(command, shell=True, cwd=ROOT, capture_output=True, text=True)
-        self.assertEqual(done.stdout, 'explained\n')
+        self.assertEqual(done.returncode, 0, command + '\n' + done.stdout[-2000:] + done.stderr[-2000:])
+        return done.stdout
 
 
 if __name__ == '__main__':

@@ -1,18 +1,16 @@
 -- The range tests as the code makes them, word by word: a word of a sort is one that is at most the sort's cap.
 use mathlib.Core.Path.{_≡_, refl, ap, ap₂, sym, _∙_}
-use mathlib.Core.Bool.{Bool, true, false, _&&_, and-true}
+use mathlib.Core.Bool.{Bool, true, false, _&&_}
 use mathlib.Core.List.{List, [], _∷_, map}
 use Prim.Native.Nat.{ℕ, zero, suc, _+_, _*_, _≤_, _<_}
-use native.Mathlib.Decide.{decLe}
 use native.Mathlib.Omega.{arith}
-use native.Mathlib.Nat.{mul-le-mul-right}
 use lib.Dec.{leb, eqb}
 use lib.ListN.{length, getD, drop}
 use borrow.Author.Tests.{eq-eqb, ne-eqb, le-leb, lt-leb}
-use Rattle.rules.specs.Sizes.{Sizes, mostPlace, firstRecord, recordWords, storeWords}
-use Rattle.rules.specs.Cell.{Reader, reader, content, consumer, producer, part, entry}
-use Rattle.rules.specs.Range.{Sort, unused, exactly, number, link, record-number, most, any, ofSort, ofSorts, every, threadInRange, producerInRange, consumerInRange, contentSorts, entrySorts, partSorts, recordInRange, producerSorts, consumerSorts, idleSorts, placedSorts, cursorSorts}
-use Rattle.rules.specs.Address.{both, There}
+use Rattle.rules.specs.Sizes.{Sizes}
+use Rattle.rules.specs.Cell.{reader, content, consumer, producer}
+use Rattle.rules.specs.Range.{Sort, unused, exactly, number, link, record-number, most, any, ofSort, ofSorts, every, threadInRange, producerInRange, consumerInRange, contentSorts, producerSorts, consumerSorts, idleSorts, placedSorts, cursorSorts}
+use Rattle.rules.specs.Address.{both}
 use Rattle.rules.specs.Readback.{true-false}
 use Rattle.rules.specs.Request.{sizesOf}
 use Rattle.store.specs.Caps.{cap, mostWord}

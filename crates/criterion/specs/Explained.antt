@@ -4,12 +4,12 @@
 use mathlib.Core.Path.{_≡_}
 use mathlib.Core.Logic.{_⊎_, _≢_}
 use mathlib.Core.Bool.{Bool, true, false, cond}
-use mathlib.Core.List.{List, [], _∷_}
+use mathlib.Core.List.{[], _∷_}
 use mathlib.Core.Option.{Option, none, some}
 use Prim.Native.Nat.{ℕ}
 use lib.Dec.{eqb}
 use Rattle.history.specs.Lists.{All, Pairwise, Member}
-use Rattle.history.specs.Event.{Event, History, enqueueStarted, enqueueEnded, dequeueStarted, gaveItem, gaveEmpty}
+use Rattle.history.specs.Event.{History, enqueueStarted, enqueueEnded, dequeueStarted, gaveItem, gaveEmpty}
 use Rattle.history.specs.Linearization.{Item, Queue}
 
 -- the enqueue with this number and value was started

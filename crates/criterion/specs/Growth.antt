@@ -2,7 +2,7 @@
 -- `Begun` tell of the calls of a well-formed history what `follows` asks of them.
 use mathlib.Core.Path.{_≡_, refl, sym, ap, subst, _∙_}
 use mathlib.Core.Logic.{inl, inr, _≢_}
-use mathlib.Core.Bool.{Bool, true, false, cond, true≢false, false≢true}
+use mathlib.Core.Bool.{true, false, cond, true≢false, false≢true}
 use mathlib.Core.List.{List, [], _∷_, map}
 use mathlib.Core.Option.{Option, none, some, Option·none-ne-some, Option·some-injective}
 use Prim.Native.Nat.{ℕ, suc}
@@ -13,12 +13,12 @@ use lib.ListN.{length}
 use borrow.Author.Tests.{eq-eqb, ne-eqb}
 use Rattle.history.specs.Lists.{Member}
 use Rattle.history.specs.Event.{History, enqueueStarted, enqueueEnded, dequeueStarted, gaveItem, gaveEmpty}
-use Rattle.history.specs.Calls.{Answer, item, empty, Enqueue, Dequeue, Call, enq, deq, endOf, endEnqueue, endDequeue, calls}
+use Rattle.history.specs.Calls.{Answer, item, empty, Enqueue, Dequeue, Call, enq, deq, endEnqueue, endDequeue, calls}
 use Rattle.history.specs.Form.{wellFormed}
-use Rattle.history.specs.Linearization.{Item, Settled}
+use Rattle.history.specs.Linearization.{Item}
 use Rattle.criterion.specs.Explained.{Begun, current, dequeuing}
 use Rattle.criterion.specs.Parts.{itemOf}
-use Rattle.criterion.specs.Members.{all-at, in-left, in-right, in-snoc, in-map}
+use Rattle.criterion.specs.Members.{in-left, in-right, in-snoc, in-map}
 use Rattle.criterion.specs.Following.{head-follows, tail-formed, grows, thread-is-free, may-start, may-end, may-dequeue, may-answer}
 use Rattle.criterion.specs.Entering.{opened, asked, same-enq, enq-not-deq, enqueue-in-ended, dequeue-in-ended, dequeue-in-answered, enqueue-in-answered, enqueue-stays}
 
@@ -147,18 +147,3 @@ module _ (h : History) (w : wellFormed h ≡ true) where
 
   pub dequeue-may-be-empty : dequeuing h ≡ true → wellFormed (gaveEmpty ∷ h) ≡ true
   dequeue-may-be-empty e = let r = dequeuing-is-open h e in grows gaveEmpty h (may-answer (calls h) (r .0) (r .1) (r .2)) w
-
--- With no call under way, no thread has a current enqueue and no dequeue is under way.
-pub settled-current : (h : History) → Settled h → (t : ℕ) → current t h ≡ none
-settled-current h s t = go (current t h) refl
-  where
-    go : (o : Option Item) → current t h ≡ o → o ≡ none
-    go none e = refl
-    go (some i) e = let r = current-is-open h t i e in absurd (all-at (λ c. endOf c ≢ 0) (calls h) s (enq (r .0)) (r .1) (r .3))
-
-pub settled-dequeuing : (h : History) → Settled h → dequeuing h ≡ false
-settled-dequeuing h s = go (dequeuing h) refl
-  where
-    go : (b : Bool) → dequeuing h ≡ b → b ≡ false
-    go true e = let r = dequeuing-is-open h e in absurd (all-at (λ c. endOf c ≢ 0) (calls h) s (deq (r .0)) (r .1) (r .2))
-    go false e = refl

@@ -2,14 +2,14 @@
 use mathlib.Core.Path.{_≡_, refl}
 use mathlib.Core.Bool.{true, false, cond}
 use mathlib.Core.List.{List, [], _∷_}
-use Prim.Native.Nat.{ℕ, zero, suc, _-_, _≤_}
+use Prim.Native.Nat.{ℕ, suc, _-_, _≤_}
 use native.Mathlib.Omega.{arith}
 use lib.Dec.{eqb}
 use borrow.Author.Tests.{eq-eqb, ne-eqb}
 use Rattle.rules.specs.Sizes.{Sizes}
-use Rattle.rules.specs.Cell.{Reader, reader, Write, _:=_, tailRecord, headRecord, headPosition, consumerPhase, cursorRecord, cursorPosition, foundRecord, foundPosition, used, state}
+use Rattle.rules.specs.Cell.{Reader, reader, _:=_, tailRecord, headRecord, headPosition, consumerPhase, cursorRecord, cursorPosition, foundRecord, foundPosition, used, state}
 use Rattle.rules.specs.Rule.{Answer, refuse, goes, upTo, inside, cross}
-use Rattle.rules.specs.Consumer.{byState, endsEmpty, rescanned}
+use Rattle.rules.specs.Consumer.{byState, endsEmpty}
 
 -- Where record r crosses to: the stored number of its next and that one's first position, or 0 where that is refused.
 pub record Crossed (z : Sizes) (m : List ℕ) (r n p : ℕ) : Type 0 where

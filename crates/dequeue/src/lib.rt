@@ -1,7 +1,6 @@
 // The consumer's phases 1 to 4, a function each (document 01, "Calls"). The words are admitted.
 ghost use mathlib.Core.Path.{_≡_};
 ghost use Prim.Native.Nat.{_≤_, _<_};
-ghost use Rattle.rules.specs.Rule.{cross};
 ghost use Rattle.rules.specs.Consumer.{front, readTail, scan, readEntry};
 ghost use Rattle.store.specs.Shape.{sizes};
 ghost use Rattle.store.specs.Outcome.{left, does};

@@ -6,7 +6,7 @@ use native.Mathlib.Omega.{arith}
 use Rattle.rules.specs.Sizes.{Sizes}
 use Rattle.rules.specs.Cell.{reader}
 use Rattle.rules.specs.Free.{Picker}
-use Rattle.rules.specs.Request.{Request, Result, applied, admitted, answer, result, sizesOf}
+use Rattle.rules.specs.Request.{Request, Result, applied, answer, result, sizesOf}
 use Rattle.store.specs.declared.Shape.{Shape}
 use Rattle.store.specs.declared.Reply.the-variants.{Refused}
 use Rattle.store.specs.Shape.{sizes}

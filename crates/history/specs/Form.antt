@@ -3,7 +3,7 @@ use mathlib.Core.Bool.{Bool, true, false, _&&_, _||_, not, cond}
 use mathlib.Core.List.{List, [], _∷_}
 use mathlib.Core.Option.{Option, none, some}
 use Prim.Native.Nat.{ℕ, _/_, _%_}
-use lib.Dec.{leb, ltb, eqb}
+use lib.Dec.{ltb, eqb}
 use lib.ListN.{length}
 use Rattle.history.specs.Event.{Event, History, enqueueStarted, enqueueEnded, dequeueStarted, gaveItem, gaveEmpty, decode}
 use Rattle.history.specs.Calls.{Call, enq, deq, calls}

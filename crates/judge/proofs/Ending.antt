@@ -1,16 +1,15 @@
 -- A call ends: its event follows exactly when its thread has it under way, and the memory then holds the calls with it ended.
 use mathlib.Core.Path.{_≡_, refl, ap, sym, subst, _∙_}
 use mathlib.Core.Logic.{_⊎_, inl, inr, _≢_}
-use mathlib.Core.Bool.{Bool, true, false, _&&_, _||_, not}
-use mathlib.Core.List.{List, [], _∷_, _++_, map}
-use Prim.Native.Nat.{ℕ, zero, suc, _+_, _-_, _≤_, _<_}
+use mathlib.Core.Bool.{true, false}
+use mathlib.Core.List.{List, map}
+use Prim.Native.Nat.{ℕ, zero, suc, _-_, _≤_, _<_}
 use native.Mathlib.Omega.{arith}
 use lib.Dec.{lit≤, eqb, eqb·suc-zero}
 use borrow.Author.Tests.{eqb-true}
-use Rattle.history.specs.Calls.{Answer, Call, enq, deq, endEnqueue, endDequeue, enter}
-use Rattle.history.specs.Form.{any, enqueues, enqueuesItem, dequeues, follows}
-use Rattle.judge.specs.Build.{build}
-use Rattle.judge.specs.Table.{startAt, endAt, answerAt, threadAt, numberAt, valueAt, busyAt, topOf, answerOf, callOf, callAt, callsIn, Table}
+use Rattle.history.specs.Calls.{Call, endEnqueue, endDequeue, enter}
+use Rattle.history.specs.Form.{enqueuesItem, follows}
+use Rattle.judge.specs.Table.{startAt, endAt, answerAt, threadAt, numberAt, valueAt, busyAt, answerOf, callOf, callAt, callsIn, Table}
 use Rattle.judge.specs.Steps.{endEvent, ended, repeatsAt, Enters}
 use Rattle.judge.proofs.Logic.{same-or-not, true-not-false, both}
 use Rattle.judge.proofs.Builds.{build-same, map-build, none-of, one-of}

@@ -7,21 +7,20 @@ use Prim.Native.Nat.{ℕ, zero, suc, _+_, _≤_, _<_, max, suc-le-suc}
 use native.Mathlib.Numerals.{add-one}
 use native.Mathlib.Omega.{arith}
 use lib.Dec.{eqb, leb, eqb·suc-zero}
-use lib.ListN.{length, getD, set, length-set, drop}
+use lib.ListN.{getD, set, length-set, drop}
 use lib.Seq.{getD-set-same, getD-set-other}
 use borrow.Author.Tests.{eq-eqb, ne-eqb}
-use Rattle.history.specs.Calls.{Answer, nothing, item, empty, Enqueue, Call, enq, deq}
+use Rattle.history.specs.Calls.{Enqueue, Call, enq, deq}
 use Rattle.history.specs.Form.{hasNumber}
 use Rattle.criterion.specs.Parts.{look}
 use Rattle.criterion.specs.Pass.{has, past, leaves, giving, passes}
 use Rattle.judge.specs.declared.Moved.{Moved}
 use Rattle.judge.specs.declared.Moved.the-variants.{Stuck, To}
-use Rattle.judge.specs.declared.Marked.{Marked}
 use Rattle.judge.specs.declared.Marked.the-variants.{Fails, Mark}
 use Rattle.judge.specs.Build.{build}
 use Rattle.judge.specs.Table.{startAt, endAt, answerAt, threadAt, numberAt, valueAt, callOf, callAt, callsIn, Table}
 use Rattle.judge.specs.Marks.{Found, Given, Moves, Marks}
-use Rattle.judge.proofs.Logic.{true-not-false, false-not-true, same-or-not, and-right-false}
+use Rattle.judge.proofs.Logic.{same-or-not}
 use Rattle.judge.proofs.Builds.{drop-build, drop-built}
 use Rattle.judge.proofs.Words
 

@@ -2,20 +2,19 @@
 -- with it.
 use mathlib.Core.Path.{_≡_, refl, ap, sym, subst, _∙_}
 use mathlib.Core.Logic.{_⊎_, inl, inr, _≢_}
-use mathlib.Core.Bool.{Bool, true, false, _&&_, not}
+use mathlib.Core.Bool.{Bool, true, false, not}
 use mathlib.Core.List.{List, [], _∷_, _++_}
-use Prim.Native.Nat.{ℕ, zero, suc, _+_, _≤_, _<_, max}
+use Prim.Native.Nat.{ℕ, zero, suc, _+_, _≤_, _<_}
 use native.Mathlib.Nat.{le-max-left, le-max-right}
 use native.Mathlib.Numerals.{add-one}
 use native.Mathlib.Omega.{arith}
 use lib.Dec.{lit≤}
 use Rattle.history.specs.Event.{Event}
-use Rattle.history.specs.Calls.{Call, enq, deq, enter}
+use Rattle.history.specs.Calls.{Call, enter}
 use Rattle.history.specs.Form.{any, enqueues, dequeues, hasNumber, follows}
-use Rattle.judge.specs.Build.{build}
 use Rattle.judge.specs.Table.{startAt, endAt, answerAt, threadAt, numberAt, valueAt, busyAt, topOf, callOf, callAt, callsIn, Table}
 use Rattle.judge.specs.Steps.{startEvent, Starts, begun, Fresh, Enters}
-use Rattle.judge.proofs.Logic.{true-not-false, false-not-true, same-or-not, before-or-last, and-right-false}
+use Rattle.judge.proofs.Logic.{false-not-true, same-or-not, before-or-last, and-right-false}
 use Rattle.judge.proofs.Builds.{build-same, build-snoc, none-of, one-of}
 use Rattle.judge.proofs.Cells.{Begun, begun-is}
 use Rattle.judge.proofs.Words

@@ -1,15 +1,14 @@
 -- The ways out of a step.
 use mathlib.Core.Path.{_≡_, refl, ap, sym, subst, _∙_}
-use mathlib.Core.Bool.{Bool, true, false, _||_, cond}
+use mathlib.Core.Bool.{Bool, true, false, cond}
 use mathlib.Core.List.{List}
 use mathlib.Core.Option.{Option, none, some}
 use Prim.Native.Nat.{ℕ, _+_, _≤_}
 use native.Mathlib.Omega.{arith}
-use lib.Dec.{eqb}
-use Rattle.history.specs.Event.{Event, decode}
+use Rattle.history.specs.Event.{Event}
 use Rattle.judge.specs.declared.Entered.{Entered}
 use Rattle.judge.specs.declared.Entered.the-variants.{Refused, Calls}
-use Rattle.judge.specs.Steps.{isEvent, startEvent, endEvent, Enters, Stepped}
+use Rattle.judge.specs.Steps.{isEvent, Enters, Stepped}
 use Rattle.judge.proofs.Logic.{true-not-false}
 
 -- no two events are one

@@ -1,12 +1,11 @@
 -- What the tests on calls say of a call's six words.
-use mathlib.Core.Path.{_≡_, refl, ap, sym, _∙_}
+use mathlib.Core.Path.{_≡_, refl}
 use mathlib.Core.Logic.{_≢_}
-use mathlib.Core.Bool.{Bool, true, false, _&&_, cond}
+use mathlib.Core.Bool.{true, false, _&&_}
 use Prim.Native.Nat.{ℕ, zero, suc, _≤_}
-use native.Mathlib.Omega.{arith}
 use lib.Dec.{eqb}
 use borrow.Author.Tests.{eqb-true, eq-eqb, ne-eqb}
-use Rattle.history.specs.Calls.{Answer, nothing, item, empty, Call, enq, deq, endEnqueue, endDequeue}
+use Rattle.history.specs.Calls.{Answer, endEnqueue, endDequeue}
 use Rattle.history.specs.Form.{enqueues, enqueuesItem, dequeues, hasNumber}
 use Rattle.judge.specs.Table.{callOf, answerOf}
 use Rattle.judge.proofs.Logic.{and-false, last-two-false}

@@ -1,12 +1,11 @@
 -- Memory that is all zeros holds no call, and flags that are all zeros no item.
-use mathlib.Core.Path.{_≡_, refl, ap, sym, _∙_}
+use mathlib.Core.Path.{_≡_, _∙_}
 use mathlib.Core.Logic.{inl, inr}
 use mathlib.Core.List.{List, []}
-use Prim.Native.Nat.{ℕ, suc, _≤_, _<_}
+use Prim.Native.Nat.{ℕ}
 use native.Mathlib.Omega.{arith}
-use lib.Dec.{eqb}
-use lib.ListN.{length, getD, replicate, length-replicate, getD-replicate, List·getD-eq-default}
-use Rattle.judge.specs.Table.{busyAt, Table}
+use lib.ListN.{getD, replicate, length-replicate, getD-replicate, List·getD-eq-default}
+use Rattle.judge.specs.Table.{Table}
 use Rattle.judge.specs.Marks.{Given}
 use Rattle.judge.proofs.Logic.{at-most-or-above}
 

@@ -2,14 +2,14 @@
 use mathlib.Core.Path.{_≡_}
 use mathlib.Core.Logic.{_≢_}
 use mathlib.Core.Bool.{Bool, true, false, _&&_, _||_, cond}
-use mathlib.Core.List.{List, []}
+use mathlib.Core.List.{List}
 use mathlib.Core.Option.{Option, none, some}
 use Prim.Native.Nat.{ℕ, zero, suc, _+_, _≤_, _<_, max}
 use lib.Dec.{eqb}
 use lib.ListN.{set}
-use Rattle.history.specs.Event.{Event, History, enqueueStarted, enqueueEnded, dequeueStarted, gaveItem, gaveEmpty, decode}
+use Rattle.history.specs.Event.{Event, History, enqueueStarted, enqueueEnded, dequeueStarted, gaveItem, gaveEmpty}
 use Rattle.history.specs.Calls.{calls, enter}
-use Rattle.history.specs.Form.{Reading, refused, history, follows, wellFormed, readEvents}
+use Rattle.history.specs.Form.{Reading, refused, history, follows, wellFormed}
 use Rattle.judge.specs.declared.Entered.{Entered}
 use Rattle.judge.specs.declared.Entered.the-variants.{Refused, Calls}
 use Rattle.judge.specs.Table.{Table, callsIn, numberAt, valueAt, topOf}

@@ -1,5 +1,5 @@
 -- Phases 5 and 11 link the claimed record or give it back: the writes of the two, and what the code says of them.
-use mathlib.Core.Path.{_≡_, refl, ap, sym, _∙_}
+use mathlib.Core.Path.{_≡_, refl, ap, sym}
 use mathlib.Core.Bool.{Bool, true, false, cond}
 use mathlib.Core.List.{List, [], _∷_, _++_}
 use Prim.Native.Nat.{ℕ, zero, suc}
@@ -8,7 +8,7 @@ use Rattle.rules.specs.Sizes.{Sizes}
 use Rattle.rules.specs.Cell.{Reader, reader, Write, write, writes, _:=_, clearProducer, phase, held, claimed, place, next, prev, used}
 use Rattle.rules.specs.Rule.{Answer, Reply, refuse, reply, going, ended}
 use Rattle.rules.specs.Producer.{linked, linkClaimed, linkAhead}
-use Rattle.rules.specs.Request.{Result, applied}
+use Rattle.rules.specs.Request.{applied}
 use Rattle.rules.specs.Readback.{true-false}
 use Rattle.store.specs.Outcome.{left}
 use Rattle.store.specs.declared.Reply.the-variants.{Refused, Going, Ended}

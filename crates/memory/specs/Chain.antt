@@ -1,7 +1,6 @@
 -- The chain of linked records, over the functions place, next, prev and use of records: how it is kept, how it grows at its end
 -- and how it shrinks at its front.
 use mathlib.Core.Path.{_≡_, refl, ap, sym, _∙_, subst}
-use mathlib.Core.Logic.{_≢_}
 use mathlib.Core.Bool.{cond}
 use Prim.Native.Nat.{ℕ, suc, _≤_, _<_}
 use native.Mathlib.Decide.{decLe, ℕ-discrete}

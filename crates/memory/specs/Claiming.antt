@@ -1,7 +1,7 @@
 -- Claiming a free record keeps the records' invariant: nothing that anyone can reach changes.
-use mathlib.Core.Path.{_≡_, refl, ap, sym, _∙_, subst}
+use mathlib.Core.Path.{_≡_, refl, ap, sym, _∙_}
 use mathlib.Core.Logic.{_⊎_, inl, inr, ⊎-elim, _≢_}
-use mathlib.Core.Bool.{Bool, true, false, _&&_, _||_, not, cond, or-true, and-false}
+use mathlib.Core.Bool.{Bool, true, false, not, or-true, and-false}
 use mathlib.Core.List.{List, [], _∷_}
 use Prim.Native.Nat.{ℕ, zero, suc, _≤_, _<_}
 use native.Mathlib.Decide.{decLe, ℕ-discrete}
@@ -10,14 +10,14 @@ use lib.Dec.{eqb}
 use borrow.Author.Tests.{eq-eqb, ne-eqb, eqb-true}
 use Rattle.history.specs.Lists.{All}
 use Rattle.rules.specs.Sizes.{Sizes}
-use Rattle.rules.specs.Cell.{Reader, Write, _:=_, wipe, cursorRecord, foundRecord, producer, place, next, prev, used, claimed, phase, state, entry, held, after}
+use Rattle.rules.specs.Cell.{Reader, Write, _:=_, wipe, cursorRecord, foundRecord, place, next, prev, used, claimed, phase, state, held, after}
 use Rattle.rules.specs.Range.{every}
 use Rattle.rules.specs.Free.{free, holds}
 use Rattle.rules.specs.Address.{both}
 use Rattle.rules.specs.Readback.{true-false}
 use Rattle.rules.specs.InRange.{InSort, every-at}
-use Rattle.memory.specs.Chain.{Chain, chain-kept}
-use Rattle.memory.specs.Memory.{Shape, Holdable, Held, Blank, Claimed, ThreadOk, rowOf, Linked, Memory, claimed-is, held-is}
+use Rattle.memory.specs.Chain.{chain-kept}
+use Rattle.memory.specs.Memory.{ChainShape, Holdable, Blank, ThreadOk, rowOf, Linked, Memory, claimed-is, held-is}
 use Rattle.memory.specs.Frames.{held-kept, thread-kept, Untouched, holdable-kept, blank-kept, OthersKept, others-kept, every-row, outside-kept}
 
 -- What a claim by thread t writes, on its way to phase p.
@@ -43,7 +43,7 @@ free-has z σ r e = go (eqb (σ (used r)) 0) refl
         let p = both (eqb (σ (used r)) 3) (every (z .P) (λ t. not (holds σ (suc t) r))) (rw q at e) in
         inr (eqb-true (σ (used r)) 3 (p .0), unheld (p .1))
 
-module _ (z : Sizes) (σ : Reader) (g : Shape) (m : Memory z σ g) (t r p : ℕ)
+module _ (z : Sizes) (σ : Reader) (g : ChainShape) (m : Memory z σ g) (t r p : ℕ)
     (a-producer : (1 ≤ t) × (t ≤ z .P)) (fits : r < z .N) (is-free : free z σ r ≡ true)
     (holds-one : σ (held t) ≢ 0) where
   abbrev σ′ : Reader

@@ -7,9 +7,9 @@ use native.Mathlib.Omega.{arith}
 use Rattle.rules.specs.Sizes.{Sizes}
 use Rattle.rules.specs.Cell.{Reader, place, next, used}
 use Rattle.memory.specs.Chain.{last-is}
-use Rattle.memory.specs.Memory.{Shape, Holdable, rowOf, Memory, held-is}
+use Rattle.memory.specs.Memory.{ChainShape, Holdable, rowOf, Memory, held-is}
 
-module _ {z : Sizes} {σ : Reader} {g : Shape} (m : Memory z σ g) where
+module _ {z : Sizes} {σ : Reader} {g : ChainShape} (m : Memory z σ g) where
   -- A held record without a next is the last one.
   pub held-last : (t h : ℕ) → rowOf σ t 4 ≡ suc h → σ (next h) ≡ 0 → (σ (used h) ≡ 2) × (σ (place h) ≡ g .hi) × (g .at (g .hi) ≡ h)
   held-last t h holds none = go (held-is m t h holds)

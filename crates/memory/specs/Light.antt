@@ -1,19 +1,19 @@
 -- A step that writes no word of a record outside its entries, and entries of linked records alone, keeps the records' invariant.
-use mathlib.Core.Path.{_≡_, refl, sym, _∙_, subst⁻¹, fun-ext}
+use mathlib.Core.Path.{_≡_, sym, _∙_, subst⁻¹, fun-ext}
 use Prim.Native.Nat.{ℕ, zero, suc, _≤_, _<_}
 use native.Mathlib.Omega.{arith}
 use Rattle.rules.specs.Sizes.{Sizes}
-use Rattle.rules.specs.Cell.{Reader, producer, part, entry, tailRecord, headRecord, cursorRecord, foundRecord, place, next, prev, used, state}
-use Rattle.memory.specs.Chain.{Chain, chain-kept}
-use Rattle.memory.specs.Memory.{Shape, ChainOf, Holdable, Held, Blank, Claimed, ThreadOk, rowOf, Linked, Memory}
-use Rattle.memory.specs.Frames.{thread-kept, Untouched, holdable-kept, blank-kept, OthersKept, every-row, outside-kept, apart-kept}
+use Rattle.rules.specs.Cell.{Reader, part, entry, tailRecord, headRecord, cursorRecord, foundRecord, place, next, prev, used, state}
+use Rattle.memory.specs.Chain.{chain-kept}
+use Rattle.memory.specs.Memory.{ChainShape, ChainOf, ThreadOk, rowOf, Linked, Memory}
+use Rattle.memory.specs.Frames.{thread-kept, holdable-kept, blank-kept, OthersKept, every-row, outside-kept, apart-kept}
 
 -- The words of records outside their entries stay, and so do the entries of records that are not linked.
 pub record Light (σ σ′ : Reader) : Type 0 where
   pub parts : (x k : ℕ) → σ′ (part x k) ≡ σ (part x k)
   pub entries : (x : ℕ) → (σ (used x) ≡ 2 → ⊥) → (i k : ℕ) → σ′ (entry x i k) ≡ σ (entry x i k)
 
-module _ (z : Sizes) (σ σ′ : Reader) (g : Shape) (m : Memory z σ g) (light : Light σ σ′) where
+module _ (z : Sizes) (σ σ′ : Reader) (g : ChainShape) (m : Memory z σ g) (light : Light σ σ′) where
   light-chain : ChainOf z σ′ g
   light-chain =
       chain-kept (omega (arith, m .head-tail, m .tail-last)) (m .chain) (λ x. σ′ (place x)) (λ x. σ′ (next x)) (λ x. σ′ (prev x)) (λ x. σ′ (used x))

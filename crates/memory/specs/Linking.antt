@@ -1,13 +1,13 @@
 -- Linking a claimed record behind the last one, or giving it back, keeps the records' invariant.
-use mathlib.Core.Path.{_≡_, refl, ap, sym, _∙_, subst}
-use mathlib.Core.Logic.{_⊎_, inl, inr, ⊎-elim, _≢_}
+use mathlib.Core.Path.{_≡_, refl, ap, sym, _∙_}
+use mathlib.Core.Logic.{_⊎_, inl, inr, ⊎-elim}
 use Prim.Native.Nat.{ℕ, zero, suc, _≤_, _<_}
 use native.Mathlib.Decide.{ℕ-discrete}
 use native.Mathlib.Omega.{arith}
 use Rattle.rules.specs.Sizes.{Sizes}
-use Rattle.rules.specs.Cell.{Reader, producer, part, entry, tailRecord, headRecord, cursorRecord, foundRecord, place, next, prev, used, claimed, state, held}
-use Rattle.memory.specs.Chain.{Chain, at, at-other, chain-kept, chain-grows}
-use Rattle.memory.specs.Memory.{Shape, Holdable, Held, Blank, Claimed, ThreadOk, rowOf, Linked, Memory, claimed-is, held-is}
+use Rattle.rules.specs.Cell.{Reader, entry, tailRecord, headRecord, cursorRecord, foundRecord, place, next, prev, used, claimed, state, held}
+use Rattle.memory.specs.Chain.{at, at-other, chain-kept, chain-grows}
+use Rattle.memory.specs.Memory.{ChainShape, Holdable, Blank, ThreadOk, rowOf, Linked, Memory, claimed-is}
 use Rattle.memory.specs.Ends.{held-last}
 use Rattle.memory.specs.Frames.{held-kept, thread-kept, Untouched, holdable-kept, blank-kept, OthersKept, every-row, outside-kept, apart-kept}
 
@@ -17,7 +17,7 @@ pub record LetGo (σ σ′ : Reader) (t : ℕ) : Type 0 where
   pub in-phase : (rowOf σ′ t 0 ≡ 5) ⊎ (rowOf σ′ t 0 ≡ 11) → ⊥
   pub holds-on : (rowOf σ′ t 4 ≡ rowOf σ t 4) ⊎ (rowOf σ′ t 4 ≡ 0) × (rowOf σ′ t 0 ≡ 0)
 
-module _ (z : Sizes) (σ σ′ : Reader) (g : Shape) (m : Memory z σ g) (t h c : ℕ)
+module _ (z : Sizes) (σ σ′ : Reader) (g : ChainShape) (m : Memory z σ g) (t h c : ℕ)
     (a-producer : (1 ≤ t) × (t ≤ z .P)) (holds : σ (held t) ≡ suc h) (claims : σ (claimed t) ≡ suc c)
     (kept : OthersKept t σ σ′) (own : LetGo σ σ′ t)
     (tail-kept : σ′ tailRecord ≡ σ tailRecord) (head-kept : σ′ headRecord ≡ σ headRecord)
@@ -108,7 +108,7 @@ module _ (z : Sizes) (σ σ′ : Reader) (g : Shape) (m : Memory z σ g) (t h c 
       (nexts : (x : ℕ) → (x ≡ c → ⊥) → (x ≡ h → ⊥) → σ′ (next x) ≡ σ (next x))
       (entries : (x i k : ℕ) → σ′ (entry x i k) ≡ σ (entry x i k)) where
     -- the chain with the claimed record behind the last one
-    abbrev pub grown : Shape
+    abbrev pub grown : ChainShape
     grown = record { lo = g .lo; tp = g .tp; hi = suc (g .hi); at = at (g .at) (suc (g .hi)) c }
 
     link-linked : (x : ℕ) → Linked σ x → Linked σ′ x

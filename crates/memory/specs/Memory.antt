@@ -3,7 +3,7 @@
 -- Why it is inductive. A claim takes a record that is not linked, that no producer has claimed and, if it is retired, that none
 -- holds; so nothing that anyone can reach changes. A link is made only behind the last record, since only that one has no next.
 -- Only the consumer retires, and only the head record, which then has a next; so a held record is linked, or retired with a next.
-use mathlib.Core.Path.{_≡_, refl, ap, sym, _∙_, subst}
+use mathlib.Core.Path.{_≡_, subst}
 use mathlib.Core.Logic.{_⊎_, _≢_}
 use Prim.Native.Nat.{ℕ, zero, suc, _≤_, _<_}
 use Rattle.rules.specs.Sizes.{Sizes}
@@ -11,13 +11,13 @@ use Rattle.rules.specs.Cell.{Reader, producer, entry, tailRecord, headRecord, c
 use Rattle.memory.specs.Chain.{Chain}
 
 -- Where the chain stands: the places of the head, tail and last record, and the record of each place.
-pub record Shape : Type 0 where
+pub record ChainShape : Type 0 where
   pub lo : ℕ
   pub tp : ℕ
   pub hi : ℕ
   pub at : ℕ → ℕ
 
-abbrev pub ChainOf : Sizes → Reader → Shape → Type 0
+abbrev pub ChainOf : Sizes → Reader → ChainShape → Type 0
 ChainOf z σ g = Chain (z .N) (g .lo) (g .hi) (g .at) (λ r. σ (place r)) (λ r. σ (next r)) (λ r. σ (prev r)) (λ r. σ (used r))
 
 -- A record that may be held: linked, or retired with a next and a place before the head's.
@@ -57,7 +57,7 @@ abbrev pub Linked : Reader → ℕ → Type 0
 Linked σ zero = Unit
 Linked σ (suc r) = σ (used r) ≡ 2
 
-pub record Memory (z : Sizes) (σ : Reader) (g : Shape) : Type 0 where
+pub record Memory (z : Sizes) (σ : Reader) (g : ChainShape) : Type 0 where
   pub head-tail : g .lo ≤ g .tp
   pub tail-last : g .tp ≤ g .hi
   pub chain : ChainOf z σ g
@@ -74,9 +74,9 @@ pub record Memory (z : Sizes) (σ : Reader) (g : Shape) : Type 0 where
   pub outside : (t k : ℕ) → ((1 ≤ t) × (t ≤ z .P) → ⊥) → σ (producer t k) ≡ 0
 
 -- the record that producer t has claimed
-pub claimed-is : {z : Sizes} {σ : Reader} {g : Shape} → Memory z σ g → (t r : ℕ) → rowOf σ t 5 ≡ suc r → Blank (z .N) σ r
+pub claimed-is : {z : Sizes} {σ : Reader} {g : ChainShape} → Memory z σ g → (t r : ℕ) → rowOf σ t 5 ≡ suc r → Blank (z .N) σ r
 claimed-is {z} {σ} m t r e = subst (Claimed (z .N) σ) e (m .threads t .claiming)
 
 -- the record that producer t holds
-pub held-is : {z : Sizes} {σ : Reader} {g : Shape} → Memory z σ g → (t r : ℕ) → rowOf σ t 4 ≡ suc r → Holdable (g .lo) σ r
+pub held-is : {z : Sizes} {σ : Reader} {g : ChainShape} → Memory z σ g → (t r : ℕ) → rowOf σ t 4 ≡ suc r → Holdable (g .lo) σ r
 held-is {z} {σ} {g} m t r e = subst (Held (g .lo) σ) e (m .threads t .holding)

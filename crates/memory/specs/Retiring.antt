@@ -1,22 +1,22 @@
 -- Retiring the head record keeps the records' invariant.
-use mathlib.Core.Path.{_≡_, refl, ap, sym, _∙_, subst}
-use mathlib.Core.Logic.{_⊎_, inl, inr, ⊎-elim, _≢_}
+use mathlib.Core.Path.{_≡_, refl, ap, sym, _∙_}
+use mathlib.Core.Logic.{inl, inr}
 use mathlib.Core.List.{List, [], _∷_}
-use Prim.Native.Nat.{ℕ, zero, suc, _≤_, _<_}
+use Prim.Native.Nat.{ℕ, suc, _<_}
 use native.Mathlib.Decide.{ℕ-discrete}
 use native.Mathlib.Omega.{arith}
 use borrow.Author.Tests.{eq-eqb, ne-eqb}
 use Rattle.rules.specs.Sizes.{Sizes}
-use Rattle.rules.specs.Cell.{Reader, Write, _:=_, headRecord, headPosition, cursorRecord, foundRecord, place, next, prev, used, state, after}
-use Rattle.memory.specs.Chain.{Chain, chain-shrinks}
-use Rattle.memory.specs.Memory.{Shape, Holdable, Held, Blank, ThreadOk, rowOf, Linked, Memory}
+use Rattle.rules.specs.Cell.{Reader, Write, _:=_, headRecord, headPosition, cursorRecord, foundRecord, place, next, used, state, after}
+use Rattle.memory.specs.Chain.{chain-shrinks}
+use Rattle.memory.specs.Memory.{ChainShape, Holdable, Blank, rowOf, Memory}
 use Rattle.memory.specs.Frames.{thread-kept}
 
 -- What the consumer writes when record n takes h's place as head record, at position p.
 abbrev pub retireWrites : (h n p : ℕ) → List Write
 retireWrites h n p = headRecord := suc n ∷ headPosition := p ∷ used h := 3 ∷ []
 
-module _ (z : Sizes) (σ : Reader) (g : Shape) (m : Memory z σ g) (p : ℕ) (more : g .lo < g .tp)
+module _ (z : Sizes) (σ : Reader) (g : ChainShape) (m : Memory z σ g) (p : ℕ) (more : g .lo < g .tp)
     (no-cursor : σ cursorRecord ≡ 0) (no-found : σ foundRecord ≡ 0)
     (handled : (i : ℕ) → i < z .B → σ (state (g .at (g .lo)) i) ≡ 1 → ⊥) where
   abbrev h : ℕ
@@ -25,7 +25,7 @@ module _ (z : Sizes) (σ : Reader) (g : Shape) (m : Memory z σ g) (p : ℕ) (mo
   abbrev σ′ : Reader
   σ′ = after σ (retireWrites h (g .at (suc (g .lo))) p)
 
-  abbrev pub shrunk : Shape
+  abbrev pub shrunk : ChainShape
   shrunk = record { lo = suc (g .lo); tp = g .tp; hi = g .hi; at = g .at }
 
   used-h : σ′ (used h) ≡ 3

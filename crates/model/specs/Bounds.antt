@@ -27,10 +27,6 @@ module _ (B : ℕ) (s : State) (i : Invariant B s) where
       let below : lo < suc k = lt-of-mul-lt-mul-left B (omega (arith, i .places, placed-past-head n v L o)) in
       omega arith
 
-  -- at the end of the head record it is past it
-  placed-past-first : (n v L k : ℕ) → Placed tail n v L entry owner history → L < B * k → hp ≡ B * lo → lo < k
-  placed-past-first n v L k o l at-end = lt-of-mul-lt-mul-left B (omega (arith, placed-past-head n v L o))
-
   module _ (t n v L k : ℕ) where
     pub behind-past-first : s .producer t ≡ behind n v L k → lo < k
     behind-past-first e =
@@ -43,19 +39,10 @@ module _ (B : ℕ) (s : State) (i : Invariant B s) where
     pub setting-place : s .producer t ≡ setting n v L k → (lo ≤ k) × (k ≤ tp) × Inside B L k
     setting-place e = let o = producer-clause B s i t _ e in (placed-place n v L k (o .0) (o .2 .0), o .1, o .2)
 
-    pub writing-past-first : s .producer t ≡ writing n v L k → hp ≡ B * lo → lo < k
-    writing-past-first e = let o = producer-clause B s i t _ e in placed-past-first n v L k (o .0) (o .2 .0)
-
-    pub setting-past-first : s .producer t ≡ setting n v L k → hp ≡ B * lo → lo < k
-    setting-past-first e = let o = producer-clause B s i t _ e in placed-past-first n v L k (o .0) (o .2 .0)
-
   -- the head
 
   pub head-inside : hp ≢ B * lo → Inside B hp lo
   head-inside inside = omega (arith, i .places)
-
-  pub head-record-last : lo ≢ tp → lo < tp
-  head-record-last more = omega (arith, i .places)
 
   pub gone-head-below-tail : entry hp ≡ gone → suc hp ≤ tail
   gone-head-below-tail is-gone = lt-unless hp tail (λ l. gone-not-blank _ is-gone (i .entries .blank-past hp l))
@@ -93,9 +80,6 @@ module _ (B : ℕ) (s : State) (i : Invariant B s) where
 
     pub rescanning-below-tail : suc c ≤ tail
     rescanning-below-tail = let o = consumer-clause B s i _ e in omega arith
-
-    pub rescanning-found : Found B s f g
-    rescanning-found = consumer-clause B s i _ e .4
 
   -- the found entry
 

@@ -17,7 +17,7 @@ use Rattle.rules.specs.Rule.{going, ended}
 use Rattle.rules.specs.Producer.{claim, claimRecord, claimAhead}
 use Rattle.rules.specs.Readback.{true-false}
 use Rattle.rules.specs.InRange.{every-of}
-use Rattle.memory.specs.Memory.{Shape, Memory, held-is, claimed-is}
+use Rattle.memory.specs.Memory.{ChainShape, Memory, held-is, claimed-is}
 use Rattle.memory.specs.Claiming.{claimWrites, free-has}
 use Rattle.ordering.specs.Rows.{has-sort}
 use Rattle.ordering.specs.Renaming.{Renaming, to-apart, renamed, renamed-is, isLink, seen, exchanged, by-exchanged}
@@ -54,7 +54,7 @@ free-of z σ r (inr e) =
 pub free-kind : (z : Sizes) (σ : Reader) (r : ℕ) → free z σ r ≡ true → kind (σ (used r)) ≡ 0
 free-kind z σ r e = ⊎-elim (λ u. ap kind u) (λ u. ap kind (u .0)) (free-has z σ r e)
 
-module _ {z : Sizes} {σ : Reader} {g : Shape} (m : Memory z σ g) where
+module _ {z : Sizes} {σ : Reader} {g : ChainShape} (m : Memory z σ g) where
   -- A free record is held and claimed by nobody.
   free-held : (r : ℕ) → free z σ r ≡ true → (t : ℕ) → (σ (held t) ≡ suc r → ⊥) × (σ (claimed t) ≡ suc r → ⊥)
   free-held r e t = go (free-has z σ r e) (decLe 1 t) (decLe t (z .P))
@@ -92,7 +92,7 @@ module _ {z : Sizes} {σ : Reader} {g : Shape} (m : Memory z σ g) where
   link-words (entry s i k) n l r e is-free = absurd n
 
 -- A record of the same kind, which the same producers hold and have claimed, is free too.
-free-passes : {z : Sizes} {σ : Reader} {g : Shape} (m : Memory z σ g) (τ : Reader) (r s : ℕ) → kind (τ (used s)) ≡ kind (σ (used r)) → τ (used s) ≤ 3
+free-passes : {z : Sizes} {σ : Reader} {g : ChainShape} (m : Memory z σ g) (τ : Reader) (r s : ℕ) → kind (τ (used s)) ≡ kind (σ (used r)) → τ (used s) ≤ 3
     → ((t : ℕ) → (τ (held t) ≡ suc s → σ (held t) ≡ suc r) × (τ (claimed t) ≡ suc s → σ (claimed t) ≡ suc r))
     → free z σ r ≡ true → free z τ s ≡ true
 free-passes {z} {σ} m τ r s k l back e = free-of z τ s (⊎-elim inl (λ u. inr (u, unheld)) (loose (τ (used s)) l (k ∙ free-kind z σ r e)))

@@ -11,7 +11,7 @@ use Rattle.rules.specs.Sizes.{Sizes}
 use Rattle.rules.specs.Cell.{Reader, place, next, prev, used, held, claimed, phase, call, value, position, tailRecord, headRecord, cursorRecord, foundRecord}
 use Rattle.model.specs.State.{behind}
 use Rattle.model.specs.Bounds.{behind-past-first}
-use Rattle.memory.specs.Memory.{Shape, Holdable, Blank, Memory, held-is, claimed-is}
+use Rattle.memory.specs.Memory.{ChainShape, Holdable, Blank, Memory, held-is, claimed-is}
 use Rattle.ordering.specs.View.{Ghost, placesOf, placeOf, view}
 use Rattle.ordering.specs.Good.{Good}
 use Rattle.ordering.specs.Steps.{seen-at}
@@ -30,7 +30,7 @@ pub eqb-none : (f : ℕ → ℕ) (x : ℕ) → eqb (renamed f x) 0 ≡ eqb x 0
 eqb-none f zero = refl
 eqb-none f (suc r) = eqb-alike (suc (f r)) 0 (suc r) 0 (λ e. absurd (omega arith)) (λ e. absurd (omega arith))
 
-module _ {z : Sizes} {σ : Reader} {g : Shape} (m : Memory z σ g) where
+module _ {z : Sizes} {σ : Reader} {g : ChainShape} (m : Memory z σ g) where
   pub tail-linked : (r : ℕ) → σ tailRecord ≡ suc r → σ (used r) ≡ 2
   tail-linked r e =
       let is : r ≡ g .at (g .tp) = omega (arith, m .tail-is) in

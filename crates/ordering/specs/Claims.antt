@@ -1,9 +1,9 @@
 -- Producer phases 4 and 10, which claim a record.
-use mathlib.Core.Path.{_≡_, refl, ap, sym, _∙_, subst}
+use mathlib.Core.Path.{_≡_, refl, ap, sym, _∙_}
 use mathlib.Core.Logic.{⊎-elim, _≢_}
 use mathlib.Core.Bool.{true}
 use mathlib.Core.List.{List, [], _∷_}
-use Prim.Native.Nat.{ℕ, zero, suc, _+_, _*_, _≤_, _<_}
+use Prim.Native.Nat.{ℕ, zero, suc, _≤_, _<_}
 use native.Mathlib.Omega.{arith}
 use lib.Dec.{eqb}
 use lib.ListN.{getD}
@@ -20,9 +20,8 @@ use Rattle.rules.specs.Request.{step}
 use Rattle.rules.specs.InRange.{InSort}
 use Rattle.model.specs.State.{idle, callOf}
 use Rattle.model.specs.Enqueues.{finish-keeps}
-use Rattle.model.specs.Invariant.{Invariant}
-use Rattle.memory.specs.Memory.{rowOf, Memory, held-is}
-use Rattle.memory.specs.Frames.{OthersKept, others-kept}
+use Rattle.memory.specs.Memory.{rowOf, Memory}
+use Rattle.memory.specs.Frames.{others-kept}
 use Rattle.memory.specs.Claiming.{claimWrites, free-has, claim-keeps, not-held}
 use Rattle.ordering.specs.View.{Ghost, placesOf, placeOf, producerAt, producersOf, view, cellOf}
 use Rattle.ordering.specs.Good.{Good, Goes, Fine}

@@ -1,19 +1,19 @@
 -- What the consumer's steps share: its words by its phase, the records it stands in, and the empty answer.
-use mathlib.Core.Path.{_≡_, refl, ap, sym, _∙_, subst}
-use mathlib.Core.Logic.{_⊎_, inl, inr, ⊎-elim, _≢_}
-use mathlib.Core.Bool.{Bool, true, false, _&&_, cond}
+use mathlib.Core.Path.{_≡_, refl, ap, sym, _∙_}
+use mathlib.Core.Logic.{_≢_}
+use mathlib.Core.Bool.{true, false}
 use mathlib.Core.List.{List, [], _∷_, _++_}
-use Prim.Native.Nat.{ℕ, zero, suc, _+_, _*_, _≤_, _<_}
+use Prim.Native.Nat.{ℕ, suc, _+_, _*_, _≤_, _<_}
 use native.Mathlib.Omega.{arith}
 use lib.Dec.{eqb}
 use lib.ListN.{getD}
-use borrow.Author.Tests.{eq-eqb, ne-eqb, eqb-true, eqb-false}
+use borrow.Author.Tests.{eqb-true, eqb-false}
 use Rattle.history.specs.Lists.{All}
 use Rattle.history.specs.Event.{History, gaveEmpty}
 use Rattle.history.specs.Form.{wellFormed}
 use Rattle.criterion.specs.Growth.{dequeue-may-be-empty}
 use Rattle.rules.specs.Sizes.{Sizes}
-use Rattle.rules.specs.Cell.{Reader, Write, clearConsumer, after, consumer, consumerPhase, cursorRecord, cursorPosition, foundRecord, foundPosition, itemNumber, itemValue, tail, tailRecord, headRecord, headPosition, place, next, used}
+use Rattle.rules.specs.Cell.{Reader, Write, clearConsumer, after, consumer, consumerPhase, cursorRecord, cursorPosition, foundRecord, foundPosition, itemNumber, itemValue, tail, tailRecord, headRecord, place, next, used}
 use Rattle.rules.specs.Range.{number, consumerSorts, consumerInRange}
 use Rattle.rules.specs.Rule.{Answer, Reply, going, empty, cross}
 use Rattle.rules.specs.Consumer.{byState, endsEmpty}
@@ -24,7 +24,7 @@ use Rattle.rules.specs.InRange.{InSort, writes-keep-range}
 use Rattle.model.specs.State.{Entry, blank, put, gone, Consumer, resting}
 use Rattle.model.specs.Invariant.{Invariant, dequeues}
 use Rattle.model.specs.Moves.{withConsumer, answerEmpty}
-use Rattle.memory.specs.Memory.{rowOf, Linked, Memory}
+use Rattle.memory.specs.Memory.{rowOf, Linked}
 use Rattle.memory.specs.Light.{Light, consumer-keeps}
 use Rattle.ordering.specs.View.{Ghost, placesOf, placeOf, consumerAt, consumerOf, view, codeOf, AgreesWith}
 use Rattle.ordering.specs.Good.{Good, Goes, Fine, by-need, by-up-to}

@@ -1,22 +1,22 @@
 -- The end of an enqueue: the event that it adds, and the producer's words, which are zero.
-use mathlib.Core.Path.{_≡_, refl, ap, sym, _∙_, subst}
-use mathlib.Core.Bool.{Bool, true, false, cond}
-use mathlib.Core.List.{List, [], _∷_, _++_}
-use mathlib.Core.Option.{Option, none, some, Option·none-ne-some, Option·some-injective}
-use Prim.Native.Nat.{ℕ, _≤_}
+use mathlib.Core.Path.{_≡_, refl, ap, sym, _∙_}
+use mathlib.Core.Bool.{Bool, true, false}
+use mathlib.Core.List.{[], _∷_, _++_}
+use mathlib.Core.Option.{none, some, Option·none-ne-some, Option·some-injective}
+use Prim.Native.Nat.{ℕ}
 use native.Mathlib.Omega.{arith}
 use lib.Dec.{eqb}
-use borrow.Author.Tests.{eq-eqb, eqb-true}
-use Rattle.history.specs.Event.{Event, History, enqueueStarted, enqueueEnded, dequeueStarted, gaveItem, gaveEmpty}
+use borrow.Author.Tests.{eqb-true}
+use Rattle.history.specs.Event.{History, enqueueStarted, enqueueEnded, dequeueStarted, gaveItem, gaveEmpty}
 use Rattle.history.specs.Form.{wellFormed}
 use Rattle.history.specs.Linearization.{Item}
 use Rattle.criterion.specs.Explained.{current}
 use Rattle.criterion.specs.Growth.{enqueue-may-end}
 use Rattle.rules.specs.Sizes.{Sizes}
-use Rattle.rules.specs.Cell.{Reader, producer, call, value, phase}
+use Rattle.rules.specs.Cell.{Reader, producer, value}
 use Rattle.rules.specs.Range.{threadInRange, producerSorts}
 use Rattle.rules.specs.Play.{endOfEnqueue}
-use Rattle.model.specs.State.{idle, State, callOf}
+use Rattle.model.specs.State.{idle, callOf}
 use Rattle.ordering.specs.View.{Ghost, placeOf, producerAt, producerOf, view}
 use Rattle.memory.specs.Memory.{ThreadOk}
 use Rattle.ordering.specs.Good.{Good}

@@ -1,8 +1,7 @@
 -- The entry at a position: where it stands, and what a write of it leaves alone.
-use mathlib.Core.Path.{_≡_, refl, ap, sym, _∙_, subst}
-use mathlib.Core.Logic.{_≢_}
+use mathlib.Core.Path.{_≡_, refl, ap, sym, _∙_}
 use mathlib.Core.Bool.{true, false, _&&_, and-false}
-use Prim.Native.Nat.{ℕ, zero, suc, _+_, _-_, _*_, _≤_, _<_}
+use Prim.Native.Nat.{ℕ, zero, suc, _+_, _*_, _≤_, _<_}
 use native.Mathlib.Nat.{mul-comm, mul-le-mul-left}
 use native.Mathlib.Decide.{ℕ-discrete}
 use native.Mathlib.Omega.{arith}
@@ -16,7 +15,7 @@ use Rattle.rules.specs.Rule.{Answer, within, index, inside}
 use Rattle.rules.specs.Address.{and-true, same-row}
 use Rattle.model.specs.State.{Entry}
 use Rattle.model.specs.Invariant.{Inside}
-use Rattle.memory.specs.Memory.{Shape, ChainOf}
+use Rattle.memory.specs.Memory.{ChainShape, ChainOf}
 use Rattle.ordering.specs.View.{Ghost, codeOf, Agrees, AgreesWith, cellOf}
 
 -- Positions in records: each is one index of one record.
@@ -79,7 +78,7 @@ module _ (B lo hi : ℕ) (at : ℕ → ℕ) (entry entry′ : ℕ → Entry) (co
           go (no p) q = there k b l h s (λ e f. p e)
 
 -- Two places of the chain have two records.
-pub records-apart : (z : Sizes) (σ : Reader) (g : Shape) → ChainOf z σ g → (a b : ℕ) → g .lo ≤ a → a ≤ g .hi → g .lo ≤ b → b ≤ g .hi → g .at a ≡ g .at b → a ≡ b
+pub records-apart : (z : Sizes) (σ : Reader) (g : ChainShape) → ChainOf z σ g → (a b : ℕ) → g .lo ≤ a → a ≤ g .hi → g .lo ≤ b → b ≤ g .hi → g .at a ≡ g .at b → a ≡ b
 records-apart z σ g c a b la ha lb hb e = sym (c .placed a la ha) ∙ ap (λ (x : ℕ). σ (place x)) e ∙ c .placed b lb hb
 
 -- A record that is not linked is another one than one that is.
@@ -95,7 +94,7 @@ other-entry h i x a n = go (ℕ-discrete x h)
     go (no m) = rw (ne-eqb h x (λ q. m (sym q))) refl
 
 -- The entry at position p, inside a record r that is linked: where it stands, on the chain and in the record.
-pub record Slot (z : Sizes) (σ : Reader) (g : Shape) (r p : ℕ) : Type 0 where
+pub record Slot (z : Sizes) (σ : Reader) (g : ChainShape) (r p : ℕ) : Type 0 where
   pub before : ℕ
   pub placed : σ (place r) ≡ suc before
   pub linked : σ (used r) ≡ 2
@@ -105,7 +104,7 @@ pub record Slot (z : Sizes) (σ : Reader) (g : Shape) (r p : ℕ) : Type 0 where
   pub fits : r < z .N
   pub here : Stands (z .B) p before (index z σ r p)
 
-pub slot : (z : Sizes) (σ : Reader) (g : Shape) → ChainOf z σ g → (r p : ℕ) → σ (used r) ≡ 2 → Inside (z .B) p (σ (place r)) → Slot z σ g r p
+pub slot : (z : Sizes) (σ : Reader) (g : ChainShape) → ChainOf z σ g → (r p : ℕ) → σ (used r) ≡ 2 → Inside (z .B) p (σ (place r)) → Slot z σ g r p
 slot z σ g c r p u h = go (σ (place r)) refl (c .only r u)
   where
     go : (k : ℕ) → σ (place r) ≡ k → (g .lo ≤ σ (place r)) × (σ (place r) ≤ g .hi) × (g .at (σ (place r)) ≡ r) → Slot z σ g r p
@@ -126,7 +125,7 @@ slot z σ g c r p u h = go (σ (place r)) refl (c .only r u)
         }
 
 -- A write of some cells of the entry at position p alone.
-pub slot-changes : (z : Sizes) (σ σ′ : Reader) (g : Shape) → ChainOf z σ g → (r p : ℕ) (s : Slot z σ g r p)
+pub slot-changes : (z : Sizes) (σ σ′ : Reader) (g : ChainShape) → ChainOf z σ g → (r p : ℕ) (s : Slot z σ g r p)
     → (entry entry′ : ℕ → Entry) (content content′ : ℕ → Item)
     → ((q : ℕ) → (q ≡ p → ⊥) → (entry′ q ≡ entry q) × (content′ q ≡ content q))
     → ((y a k : ℕ) → (y ≡ r → a ≡ index z σ r p → ⊥) → σ′ (Cell.entry y a k) ≡ σ (Cell.entry y a k))

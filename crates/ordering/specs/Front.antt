@@ -1,35 +1,30 @@
 -- Consumer phases 1 and 2, at the front.
 use mathlib.Core.Path.{_≡_, refl, ap, sym, _∙_, subst}
 use mathlib.Core.Logic.{_≢_}
-use mathlib.Core.Bool.{true, cond}
-use mathlib.Core.List.{List, [], _∷_, _++_}
+use mathlib.Core.List.{List, [], _∷_}
 use Prim.Native.Nat.{ℕ, zero, suc, _+_, _*_, _≤_, _<_}
 use native.Mathlib.Omega.{arith}
 use lib.Dec.{eqb}
 use borrow.Author.Tests.{eqb-true, eqb-false}
-use Rattle.history.specs.Lists.{All}
 use Rattle.rules.specs.Sizes.{Sizes}
-use Rattle.rules.specs.Cell.{Reader, Write, _:=_, after, tail, tailRecord, headRecord, headPosition, consumer, consumerPhase, cursorRecord, cursorPosition, foundRecord, foundPosition, place, next, used, state}
-use Rattle.rules.specs.Range.{number, link, record-number, idleSorts, consumerSorts}
+use Rattle.rules.specs.Cell.{Reader, Write, _:=_, tail, tailRecord, headRecord, headPosition, consumer, consumerPhase, cursorRecord, cursorPosition, foundRecord, foundPosition, place, next, used, state}
+use Rattle.rules.specs.Range.{number, record-number, idleSorts}
 use Rattle.rules.specs.Rule.{Answer, going, goes, upTo, atEnd, index, inside, cross}
-use Rattle.rules.specs.Consumer.{byState, endsEmpty, front, readTail}
+use Rattle.rules.specs.Consumer.{byState, front, readTail}
 use Rattle.rules.specs.Request.{step}
-use Rattle.rules.specs.InRange.{InSort, writes-keep-range}
-use Rattle.model.specs.State.{Entry, blank, put, gone, Consumer, State}
+use Rattle.rules.specs.InRange.{writes-keep-range}
+use Rattle.model.specs.State.{gone, State}
 use Rattle.model.specs.State
-use Rattle.model.specs.Invariant.{Invariant, Inside, dequeues}
-use Rattle.model.specs.Moves.{retireHead, advanceHead}
+use Rattle.model.specs.Invariant.{Inside, dequeues}
 use Rattle.model.specs.Dequeues.{empty-at-head-end, empty-at-tail}
 use Rattle.model.specs.Scanning.{retire-head, advance-head, front-found, front-blank, read-tail}
-use Rattle.model.specs.Bounds.{head-inside, head-record-last, gone-head-below-tail, read-head-below-tail}
-use Rattle.memory.specs.Memory.{Shape, Linked, Memory}
-use Rattle.memory.specs.Light.{consumer-keeps}
+use Rattle.model.specs.Bounds.{head-inside, gone-head-below-tail, read-head-below-tail}
+use Rattle.memory.specs.Memory.{Memory}
 use Rattle.memory.specs.Retiring.{retireWrites, retire-keeps}
-use Rattle.ordering.specs.View.{Ghost, placesOf, placeOf, consumerOf, view, codeOf, Agrees}
+use Rattle.ordering.specs.View.{Ghost, placesOf, placeOf, view, codeOf}
 use Rattle.ordering.specs.Good.{Good, Goes, Fine, by-need, by-cond, by-up-to}
-use Rattle.ordering.specs.Rows.{OfSorts, of-sort, has-sort, row-of}
-use Rattle.ordering.specs.Own.{consumer-own}
-use Rattle.ordering.specs.Entries.{by-inside, Slot, slot, slot-state}
+use Rattle.ordering.specs.Rows.{OfSorts, of-sort, has-sort}
+use Rattle.ordering.specs.Entries.{by-inside, slot, slot-state}
 use Rattle.ordering.specs.Dequeue.{by-state, consumer-words, consumer-at, tail-fits, head-placed, head-linked, tail-record-is, not-tail-record, by-cross, answers-empty, consumer-goes, consumer-light}
 
 module _ (z : Sizes) (σ : Reader) (γ : Ghost) (good : Good z σ γ) where

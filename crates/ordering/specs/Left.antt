@@ -5,19 +5,19 @@ use mathlib.Core.Bool.{Bool, true, false}
 use mathlib.Core.List.{List, [], _∷_, _++_}
 use Prim.Native.Nat.{ℕ, zero, suc, _+_, _*_, _/_, _%_, _≤_, _<_}
 use native.Mathlib.Nat.{div-add-mod, mod-lt, lt-of-mul-lt-mul-left}
-use native.Mathlib.Decide.{decLt, ℕ-discrete}
+use native.Mathlib.Decide.{ℕ-discrete}
 use native.Mathlib.Omega.{arith}
 use lib.Dec.{eqb}
 use borrow.Author.Tests.{eqb-true, eqb-false}
-use Rattle.history.specs.Lists.{All, Pairwise, Member}
+use Rattle.history.specs.Lists.{Member}
 use Rattle.history.specs.Linearization.{Item, Queue}
 use Rattle.rules.specs.Sizes.{Sizes}
-use Rattle.rules.specs.Cell.{Reader, tail, headPosition, place, used, state, entryNumber, entryValue}
+use Rattle.rules.specs.Cell.{Reader, tail, place, used, state, entryNumber, entryValue}
 use Rattle.rules.specs.Play.{Placed, insert, placedItem, insertEntries, insertRecords, itemsOf, itemsLeft}
 use Rattle.model.specs.State.{Entry, blank, put, gone}
 use Rattle.model.specs.Known.{put-below-tail, put-in-records, put-past-head}
 use Rattle.model.specs.Items.{join, itemsBelow, items, all-items, pairwise-items, member-items}
-use Rattle.memory.specs.Memory.{Shape, Memory}
+use Rattle.memory.specs.Memory.{Memory}
 use Rattle.ordering.specs.View.{Ghost, view, codeOf}
 use Rattle.ordering.specs.Good.{Good}
 use Rattle.ordering.specs.Limits.{limits}

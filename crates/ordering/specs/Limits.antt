@@ -13,7 +13,6 @@ pub record Limits (z : Sizes) : Type 0 where
   pub two-entries : 2 ≤ z .B
   pub two-records : 2 ≤ z .N
   pub one-producer : 1 ≤ z .P
-  pub one-start : 1 ≤ z .M
   pub most-starts : z .M ≤ 1000000
 
 pub limits : (z : Sizes) → sizesInRange z ≡ true → Limits z
@@ -25,7 +24,6 @@ limits z e =
       two-entries = leb-true 2 (z .B) (both (leb 2 (z .B)) (leb (z .B) 64) (r .0) .0);
       two-records = leb-true 2 (z .N) (both (leb 2 (z .N)) (leb (z .N) 64) (r .1) .0);
       one-producer = leb-true 1 (z .P) (both (leb 1 (z .P)) (leb (z .P) 16) (q .1) .0);
-      one-start = leb-true 1 (z .M) (both (leb 1 (z .M)) (leb (z .M) 1000000) (p .1) .0);
       most-starts = leb-true (z .M) 1000000 (both (leb 1 (z .M)) (leb (z .M) 1000000) (p .1) .1);
     }
 

@@ -1,19 +1,17 @@
 -- Producer phases 5 and 11, which link the claimed record or give it back.
-use mathlib.Core.Path.{_≡_, refl, ap, sym, _∙_, subst}
-use mathlib.Core.Logic.{_⊎_, inl, inr, ⊎-elim, _≢_}
-use mathlib.Core.Bool.{Bool, true, false, _&&_, and-false}
+use mathlib.Core.Path.{_≡_, refl, ap, sym, _∙_}
+use mathlib.Core.Logic.{_⊎_, inl, inr, ⊎-elim}
+use mathlib.Core.Bool.{true, false, and-false}
 use mathlib.Core.List.{List, [], _∷_, _++_}
 use mathlib.Core.Option.{some}
-use Prim.Native.Nat.{ℕ, zero, suc, _+_, _*_, _≤_, _<_}
+use Prim.Native.Nat.{ℕ, suc, _+_, _*_, _≤_, _<_}
 use native.Mathlib.Nat.{mul-le-mul-left}
-use native.Mathlib.Decide.{ℕ-discrete}
 use native.Mathlib.Omega.{arith}
 use lib.Dec.{eqb}
 use borrow.Author.Tests.{eq-eqb, ne-eqb, eqb-true, eqb-false}
 use Rattle.history.specs.Lists.{All}
 use Rattle.history.specs.Event.{History, enqueueEnded}
 use Rattle.history.specs.Form.{wellFormed}
-use Rattle.history.specs.Linearization.{Item}
 use Rattle.rules.specs.Sizes.{Sizes, mostPlace}
 use Rattle.rules.specs.Cell.{Cell, Reader, Write, _:=_, clearProducer, update, after, tail, headPosition, starts, producer, part, entry, consumer, place, next, prev, used, phase, call, value, position, held, claimed, tailRecord, headRecord, cursorRecord, foundRecord}
 use Rattle.rules.specs.Range.{number, link, most, producerSorts, producerInRange}
@@ -23,13 +21,13 @@ use Rattle.rules.specs.Request.{step}
 use Rattle.rules.specs.Play.{replyEvents}
 use Rattle.rules.specs.InRange.{InSort}
 use Rattle.rules.specs.Readback.{WriteThere}
-use Rattle.model.specs.State.{Entry, blank, Producer, idle, ahead, shifting, done, State, callOf}
+use Rattle.model.specs.State.{blank, Producer, idle, ahead, done, callOf}
 use Rattle.model.specs.Invariant.{Invariant}
 use Rattle.model.specs.Moves.{withProducer, linkLast}
 use Rattle.model.specs.Walking.{producer-clause, pass-on, link-last}
 use Rattle.model.specs.Enqueues.{finish-keeps}
-use Rattle.memory.specs.Chain.{at, at-same, at-other}
-use Rattle.memory.specs.Memory.{Shape, Holdable, Blank, rowOf, Memory, claimed-is, held-is}
+use Rattle.memory.specs.Chain.{at}
+use Rattle.memory.specs.Memory.{Blank, rowOf, Memory, claimed-is, held-is}
 use Rattle.memory.specs.Ends.{held-last, held-before-last}
 use Rattle.memory.specs.Frames.{Untouched, OthersKept, others-kept}
 use Rattle.memory.specs.Linking.{LetGo, give-back-keeps, link-keeps}

@@ -1,16 +1,16 @@
 -- An opened store, whatever the words held before.
-use mathlib.Core.Path.{_≡_, refl, ap, sym, _∙_, subst, fun-ext}
+use mathlib.Core.Path.{_≡_, refl, ap, sym, _∙_, fun-ext}
 use mathlib.Core.Logic.{⊎-elim}
-use mathlib.Core.Bool.{Bool, true, false, _&&_, cond, and-false}
-use mathlib.Core.List.{List, [], _∷_, _++_}
-use Prim.Native.Nat.{ℕ, zero, suc, _+_, _*_, _≤_, _<_}
+use mathlib.Core.Bool.{Bool, true, false, cond}
+use mathlib.Core.List.{List, [], _++_}
+use Prim.Native.Nat.{ℕ, zero, suc, _+_, _≤_, _<_}
 use native.Mathlib.Omega.{arith}
 use lib.Dec.{eqb}
 use lib.ListN.{length, getD, drop, replicate, length-append, length-replicate, getD-replicate, List·getD-append}
-use borrow.Author.Tests.{eq-eqb, eqb-true}
+use borrow.Author.Tests.{eqb-true}
 use Rattle.history.specs.Lists.{All}
 use Rattle.rules.specs.Sizes.{Sizes, sizesInRange, mostPlace, storeWords}
-use Rattle.rules.specs.Cell.{Cell, content, consumer, producer, part, entry, Reader, reader, writes, there, address, after, used}
+use Rattle.rules.specs.Cell.{Cell, content, consumer, producer, part, entry, Reader, reader, there, address, after, used}
 use Rattle.rules.specs.Range.{number, link, most, any, ofSort, contentSorts, partSorts, entrySorts}
 use Rattle.rules.specs.Request.{openWrites, opened}
 use Rattle.rules.specs.Address.{There, there-has, address-below}
@@ -18,9 +18,8 @@ use Rattle.rules.specs.Readback.{WriteThere, length-writes, reader-writes}
 use Rattle.rules.specs.InRange.{sortOf, row-at, InRange}
 use Rattle.model.specs.State.{blank}
 use Rattle.model.specs.Enqueues.{initial-keeps}
-use Rattle.memory.specs.Chain.{Chain}
-use Rattle.memory.specs.Memory.{Shape, Memory}
-use Rattle.ordering.specs.View.{Ghost, Agrees}
+use Rattle.memory.specs.Memory.{Memory}
+use Rattle.ordering.specs.View.{Ghost}
 use Rattle.ordering.specs.Good.{Good}
 use Rattle.ordering.specs.Limits.{Limits, limits}
 use Rattle.ordering.specs.Rows.{OfSorts, of-sort, of-sorts}

@@ -1,30 +1,29 @@
 -- A step that writes its own thread's words alone: what is left to show of it is that thread's.
-use mathlib.Core.Path.{_≡_, refl, ap, ap₂, sym, _∙_, subst, subst⁻¹, fun-ext}
-use mathlib.Core.Logic.{⊎-elim, _≢_}
-use mathlib.Core.Bool.{Bool, true, false, cond}
+use mathlib.Core.Path.{_≡_, refl, ap, ap₂, sym, _∙_, subst, fun-ext}
+use mathlib.Core.Bool.{true}
 use mathlib.Core.List.{List, [], _∷_, _++_}
-use Prim.Native.Nat.{ℕ, zero, suc, _≤_, _<_}
+use Prim.Native.Nat.{ℕ, _≤_, _<_}
 use native.Mathlib.Omega.{arith}
 use Rattle.history.specs.Lists.{All}
 use Rattle.history.specs.Event.{History}
 use Rattle.history.specs.Form.{wellFormed}
 use Rattle.rules.specs.Sizes.{Sizes}
-use Rattle.rules.specs.Cell.{Cell, content, consumer, producer, part, entry, Reader, Write, _:=_, clearConsumer, clearProducer, wipe, update, after, place, tailRecord, headRecord, cursorRecord, foundRecord, tail, headPosition, starts}
+use Rattle.rules.specs.Cell.{Cell, content, consumer, producer, part, entry, Reader, Write, _:=_, clearConsumer, clearProducer, wipe, update, after, tailRecord, headRecord, cursorRecord, foundRecord, tail, headPosition, starts}
 use Rattle.rules.specs.Range.{producerInRange, consumerInRange}
 use Rattle.rules.specs.Rule.{Reply}
 use Rattle.rules.specs.Request.{Request, step}
 use Rattle.rules.specs.Play.{replyEvents}
 use Rattle.rules.specs.Readback.{WriteThere}
 use Rattle.rules.specs.InRange.{InSort, writes-keep-range}
-use Rattle.model.specs.State.{Entry, Producer, Consumer, State, at}
+use Rattle.model.specs.State.{Producer, Consumer, State, at}
 use Rattle.model.specs.Invariant.{Invariant}
 use Rattle.model.specs.Moves.{withProducer, withConsumer}
 use Rattle.memory.specs.Memory.{ThreadOk, rowOf, Linked}
 use Rattle.memory.specs.Frames.{others-kept}
-use Rattle.memory.specs.Light.{Light, consumer-keeps}
+use Rattle.memory.specs.Light.{consumer-keeps}
 use Rattle.ordering.specs.View.{Ghost, placesOf, placeOf, producerOf, producersOf, consumerFrom, consumerOf, view, Agrees, cellOf}
 use Rattle.ordering.specs.Good.{Good, Goes}
-use Rattle.ordering.specs.Steps.{withProducers, producers-after, producer-goes}
+use Rattle.ordering.specs.Steps.{producers-after, producer-goes}
 
 -- A write of one of producer t's words.
 abbrev pub OfProducer : ℕ → Write → Type 0

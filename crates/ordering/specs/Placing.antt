@@ -1,21 +1,20 @@
 -- Producer phases 1, 8 and 9, which take a position, write its entry and set it.
 use mathlib.Core.Path.{_≡_, refl, ap, ap₂, sym, _∙_, subst, fun-ext}
-use mathlib.Core.Logic.{_⊎_, inl, inr, ⊎-elim, _≢_}
-use mathlib.Core.Bool.{Bool, true, false, _&&_, cond, and-false}
+use mathlib.Core.Logic.{inl, inr}
+use mathlib.Core.Bool.{true, _&&_, cond, and-false}
 use mathlib.Core.List.{List, [], _∷_, _++_}
 use mathlib.Core.Option.{some}
-use Prim.Native.Nat.{ℕ, zero, suc, _+_, _*_, _≤_, _<_}
-use native.Mathlib.Decide.{ℕ-discrete}
+use Prim.Native.Nat.{ℕ, suc, _+_, _≤_}
 use native.Mathlib.Omega.{arith}
 use lib.Dec.{eqb}
-use borrow.Author.Tests.{eq-eqb, ne-eqb, eqb-true}
+use borrow.Author.Tests.{eq-eqb, eqb-true}
 use Rattle.history.specs.Lists.{All}
 use Rattle.history.specs.Event.{History, enqueueEnded}
 use Rattle.history.specs.Form.{wellFormed}
 use Rattle.history.specs.Linearization.{Item}
 use Rattle.rules.specs.Sizes.{Sizes}
 use Rattle.rules.specs.Address.{both}
-use Rattle.rules.specs.Cell.{Cell, Reader, Write, _:=_, clearProducer, update, after, tail, tailRecord, headRecord, headPosition, starts, cursorRecord, foundRecord, consumer, producer, part, entry, place, used, state, entryNumber, entryValue, phase, call, value, position, held, claimed, backed}
+use Rattle.rules.specs.Cell.{Cell, Reader, Write, _:=_, clearProducer, update, after, tail, tailRecord, headRecord, headPosition, starts, cursorRecord, foundRecord, consumer, producer, part, entry, place, used, state, entryNumber, entryValue, phase, call, value, position, held, backed}
 use Rattle.rules.specs.Range.{number, startedSorts, placedSorts, producerSorts, producerInRange}
 use Rattle.rules.specs.Rule.{Reply, going, ended, goes, reply, index}
 use Rattle.rules.specs.Producer.{takePosition, writeEntry, setEntry}
@@ -23,7 +22,7 @@ use Rattle.rules.specs.Request.{step}
 use Rattle.rules.specs.Play.{replyEvents}
 use Rattle.rules.specs.InRange.{InSort}
 use Rattle.rules.specs.Readback.{WriteThere}
-use Rattle.model.specs.State.{Entry, blank, put, Producer, started, seeking, writing, setting, done, idle, State, callOf, at}
+use Rattle.model.specs.State.{put, Producer, started, writing, setting, idle, callOf, at}
 use Rattle.model.specs.Invariant.{Invariant, Inside}
 use Rattle.model.specs.Facts.{at-same, at-other}
 use Rattle.model.specs.Moves.{withProducer, withEntry, setEntry as setEntered}
@@ -31,10 +30,9 @@ use Rattle.model.specs.Positions.{take-position, write-entry, set-entry}
 use Rattle.model.specs.Enqueues.{finish-keeps}
 use Rattle.model.specs.Count.{tail-below}
 use Rattle.model.specs.Bounds.{writing-place, setting-place}
-use Rattle.memory.specs.Memory.{Shape, Holdable, ThreadOk, rowOf, Memory, held-is}
+use Rattle.memory.specs.Memory.{Holdable, ThreadOk, rowOf, held-is}
 use Rattle.memory.specs.Frames.{others-kept}
-use Rattle.memory.specs.Light.{Light}
-use Rattle.ordering.specs.View.{Ghost, placesOf, placeOf, producersOf, consumerFrom, view, Agrees, codeOf, cellOf}
+use Rattle.ordering.specs.View.{Ghost, placesOf, placeOf, producersOf, consumerFrom, view}
 use Rattle.ordering.specs.Good.{Good, Goes, Fine, by-need, by-cond, by-up-to}
 use Rattle.ordering.specs.Rows.{OfSorts, of-sort, has-sort, row-of}
 use Rattle.ordering.specs.Steps.{as-seen, at-twice, producers-after, unclaimed, own-words, seen-at, producer-goes}

@@ -1,16 +1,15 @@
 -- A producer's step that writes a record's words: what is left to show of it, and what others see of it, nothing.
-use mathlib.Core.Path.{_≡_, refl, ap, ap₂, sym, _∙_, subst}
-use mathlib.Core.Logic.{⊎-elim, _≢_}
+use mathlib.Core.Path.{_≡_, refl, ap, sym, _∙_, subst}
 use mathlib.Core.Bool.{true}
 use mathlib.Core.List.{List, _++_}
-use Prim.Native.Nat.{ℕ, zero, suc, _+_, _*_, _≤_, _<_}
+use Prim.Native.Nat.{ℕ, zero, suc, _+_, _*_, _≤_}
 use native.Mathlib.Decide.{ℕ-discrete}
 use native.Mathlib.Omega.{arith}
 use Rattle.history.specs.Lists.{All}
 use Rattle.history.specs.Form.{wellFormed}
 use Rattle.history.specs.Linearization.{Item}
 use Rattle.rules.specs.Sizes.{Sizes}
-use Rattle.rules.specs.Cell.{Reader, Write, after, consumer, place, used, cursorRecord, foundRecord, held}
+use Rattle.rules.specs.Cell.{Reader, Write, after, consumer, place, used, cursorRecord, foundRecord}
 use Rattle.rules.specs.Range.{producerInRange}
 use Rattle.rules.specs.Rule.{Reply}
 use Rattle.rules.specs.Request.{Request}
@@ -20,8 +19,8 @@ use Rattle.rules.specs.InRange.{InSort, writes-keep-range}
 use Rattle.model.specs.State.{Entry, blank, Producer, Consumer, State}
 use Rattle.model.specs.Invariant.{Invariant}
 use Rattle.memory.specs.Chain
-use Rattle.memory.specs.Memory.{Shape, Linked, Memory}
-use Rattle.ordering.specs.View.{Ghost, placesOf, placeOf, consumerAt, consumerOf, view, codeOf, Agrees, AgreesWith, cellOf}
+use Rattle.memory.specs.Memory.{Linked, Memory}
+use Rattle.ordering.specs.View.{Ghost, placesOf, placeOf, consumerAt, consumerOf, view, codeOf, Agrees, AgreesWith}
 use Rattle.ordering.specs.Good.{Good, Goes}
 
 module _ (z : Sizes) (σ : Reader) (γ : Ghost) (good : Good z σ γ) (t : ℕ) (a-producer : (1 ≤ t) × (t ≤ z .P)) where

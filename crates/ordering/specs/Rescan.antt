@@ -2,26 +2,25 @@
 use mathlib.Core.Path.{_≡_, refl, ap, ap₂, sym, _∙_}
 use mathlib.Core.Logic.{_≢_}
 use mathlib.Core.Bool.{cond}
-use mathlib.Core.List.{List, [], _∷_}
-use Prim.Native.Nat.{ℕ, suc, _+_, _*_, _≤_, _<_}
+use mathlib.Core.List.{[], _∷_}
+use Prim.Native.Nat.{ℕ, suc, _*_, _≤_, _<_}
 use native.Mathlib.Omega.{arith}
 use lib.Dec.{eqb}
 use borrow.Author.Tests.{eqb-true, eqb-false}
 use Rattle.rules.specs.Sizes.{Sizes}
-use Rattle.rules.specs.Cell.{Reader, Write, _:=_, headRecord, headPosition, tail, consumer, consumerPhase, cursorRecord, cursorPosition, foundRecord, foundPosition, place, state}
+use Rattle.rules.specs.Cell.{Reader, _:=_, headRecord, headPosition, consumer, consumerPhase, cursorRecord, cursorPosition, foundRecord, foundPosition, place, state}
 use Rattle.rules.specs.Range.{rescanSorts}
-use Rattle.rules.specs.Rule.{Answer, upTo, atEnd, index, cross}
+use Rattle.rules.specs.Rule.{upTo, atEnd, index, cross}
 use Rattle.rules.specs.Consumer.{rescanned, rescan}
 use Rattle.rules.specs.Request.{step}
 use Rattle.model.specs.State
 use Rattle.model.specs.State.{put}
-use Rattle.model.specs.Invariant.{Inside, Found}
 use Rattle.model.specs.Dequeues.{consumer-clause}
 use Rattle.model.specs.Scanning.{rescan-cross, rescan-again, rescan-front, rescan-pass, rescan-done}
 use Rattle.model.specs.Bounds.{rescanning-crosses, rescanning-before-found, rescanning-inside, rescanning-below-tail}
 use Rattle.memory.specs.Memory.{Memory}
 use Rattle.ordering.specs.View.{Ghost, placesOf, placeOf, view}
-use Rattle.ordering.specs.Good.{Good, Goes, Fine, by-need, by-cond, by-up-to}
+use Rattle.ordering.specs.Good.{Good, Fine, by-need, by-cond, by-up-to}
 use Rattle.ordering.specs.Rows.{OfSorts}
 use Rattle.ordering.specs.Entries.{by-inside, slot-state}
 use Rattle.ordering.specs.Cursor.{head-most, position-most, linked-most, some-record, stays, placed, linked, at-end, entry-slot}

@@ -1,11 +1,10 @@
 -- The ranges of one thread's words, taken apart and put together by its phase.
-use mathlib.Core.Path.{_≡_, refl, sym, _∙_, subst, subst⁻¹}
-use mathlib.Core.Bool.{Bool, true, false, _&&_}
+use mathlib.Core.Path.{_≡_, refl, subst, subst⁻¹}
+use mathlib.Core.Bool.{true}
 use mathlib.Core.List.{List, [], _∷_}
-use Prim.Native.Nat.{ℕ, zero, suc, _+_, _≤_, _<_}
-use native.Mathlib.Omega.{arith}
+use Prim.Native.Nat.{ℕ, suc, _≤_}
 use lib.Dec.{leb}
-use lib.ListN.{length, getD}
+use lib.ListN.{getD}
 use borrow.Author.Tests.{le-leb, leb-true, eq-eqb, eqb-true}
 use Rattle.rules.specs.Sizes.{Sizes}
 use Rattle.rules.specs.Range.{Sort, unused, exactly, number, link, record-number, most, any, ofSort, ofSorts, threadInRange}
@@ -56,9 +55,6 @@ has-sorts z row k (s ∷ ss) e =
 
 module _ (z : Sizes) (last : ℕ) (table : List (List Sort)) (row : ℕ → ℕ) where
   -- A thread's words in range: its phase is listed, and its words are of that phase's sorts.
-  pub phase-most : threadInRange z last table row ≡ true → row 0 ≤ last
-  phase-most e = leb-true (row 0) last (both (leb (row 0) last) (ofSorts z row 1 (getD table (row 0) [])) e .0)
-
   pub row-has : threadInRange z last table row ≡ true → (p : ℕ) → row 0 ≡ p → OfSorts z row 1 (getD table p [])
   row-has e p q =
       has-sorts z row 1 (getD table p [])

@@ -1,31 +1,29 @@
 -- Consumer phases 3 and 4, the scan.
-use mathlib.Core.Path.{_≡_, refl, ap, ap₂, sym, _∙_, subst}
+use mathlib.Core.Path.{_≡_, refl, ap, ap₂, sym, _∙_}
 use mathlib.Core.Logic.{_≢_}
-use mathlib.Core.Bool.{Bool, true, false, cond}
-use mathlib.Core.List.{List, [], _∷_, _++_}
-use Prim.Native.Nat.{ℕ, zero, suc, _+_, _*_, _≤_, _<_}
+use mathlib.Core.Bool.{cond}
+use mathlib.Core.List.{List, [], _∷_}
+use Prim.Native.Nat.{ℕ, suc, _*_, _≤_}
 use native.Mathlib.Omega.{arith}
 use lib.Dec.{eqb}
-use borrow.Author.Tests.{eqb-true, eqb-false, ne-eqb}
-use Rattle.history.specs.Linearization.{Item}
+use borrow.Author.Tests.{eqb-true, eqb-false}
 use Rattle.rules.specs.Sizes.{Sizes}
-use Rattle.rules.specs.Cell.{Reader, Write, _:=_, after, tail, tailRecord, headRecord, headPosition, consumer, consumerPhase, cursorRecord, cursorPosition, foundRecord, foundPosition, place, used, state}
-use Rattle.rules.specs.Range.{number, record-number, cursorSorts, rescanSorts}
-use Rattle.rules.specs.Rule.{Answer, going, goes, upTo, atEnd, index, inside, cross}
-use Rattle.rules.specs.Consumer.{scan, readEntry, rescanned, rescan}
+use Rattle.rules.specs.Cell.{Reader, Write, _:=_, tail, tailRecord, headRecord, headPosition, consumer, consumerPhase, cursorRecord, cursorPosition, foundRecord, foundPosition, place, state}
+use Rattle.rules.specs.Range.{cursorSorts}
+use Rattle.rules.specs.Rule.{Answer, goes, upTo, atEnd, index, cross}
+use Rattle.rules.specs.Consumer.{scan, readEntry}
 use Rattle.rules.specs.Request.{step}
 use Rattle.model.specs.State
-use Rattle.model.specs.State.{Entry, put, Consumer}
-use Rattle.model.specs.Invariant.{Invariant, Inside, Reached, dequeues}
-use Rattle.model.specs.Moves.{withConsumer}
+use Rattle.model.specs.State.{put}
+use Rattle.model.specs.Invariant.{Inside, Reached, dequeues}
 use Rattle.model.specs.Dequeues.{empty-scanned-records, empty-scanned-tail}
-use Rattle.model.specs.Scanning.{scan-cross, scan-look, look-found, look-pass, rescan-cross, rescan-again, rescan-front, rescan-pass, rescan-done}
-use Rattle.model.specs.Bounds.{scanning-reached, scanning-crosses, looking-inside, looking-below-tail, rescanning-crosses, rescanning-before-found, rescanning-inside, rescanning-below-tail, rescanning-found}
-use Rattle.memory.specs.Memory.{Linked, Memory}
-use Rattle.ordering.specs.View.{Ghost, placesOf, placeOf, consumerAt, view}
-use Rattle.ordering.specs.Good.{Good, Goes, Fine, by-need, by-cond, by-up-to}
-use Rattle.ordering.specs.Rows.{OfSorts, has-sort}
-use Rattle.ordering.specs.Entries.{by-inside, Slot, slot, slot-state}
+use Rattle.model.specs.Scanning.{scan-cross, scan-look, look-found, look-pass}
+use Rattle.model.specs.Bounds.{scanning-reached, scanning-crosses, looking-inside, looking-below-tail}
+use Rattle.memory.specs.Memory.{Memory}
+use Rattle.ordering.specs.View.{Ghost, placesOf, placeOf, view}
+use Rattle.ordering.specs.Good.{Good, Fine, by-need, by-cond, by-up-to}
+use Rattle.ordering.specs.Rows.{OfSorts}
+use Rattle.ordering.specs.Entries.{by-inside, slot-state}
 use Rattle.ordering.specs.Cursor.{head-most, position-most, linked-most, some-record, stays, placed, linked, at-end, entry-slot}
 use Rattle.ordering.specs.Dequeue.{is-set, is-not-set, consumer-words, consumer-at, tail-fits, head-placed, head-linked, tail-record-is, not-tail-record, by-cross, answers-empty, consumer-goes}
 

@@ -1,17 +1,17 @@
 -- The starts: an accepted start enqueue and an accepted start dequeue.
-use mathlib.Core.Path.{_≡_, refl, ap, sym, _∙_}
+use mathlib.Core.Path.{_≡_, refl, ap, _∙_}
 use mathlib.Core.Logic.{_≢_}
-use mathlib.Core.Bool.{Bool, true, false, _||_, not, cond}
-use mathlib.Core.List.{List, [], _∷_, _++_}
-use Prim.Native.Nat.{ℕ, zero, suc, _≤_, _<_}
+use mathlib.Core.Bool.{Bool, true, false, _||_, not}
+use mathlib.Core.List.{List, [], _∷_}
+use Prim.Native.Nat.{ℕ, suc, _≤_}
 use native.Mathlib.Omega.{arith}
 use lib.Dec.{eqb, ltb}
-use borrow.Author.Tests.{eq-eqb, eqb-true, eqb-false, ltb-false, not-false, not-true}
+use borrow.Author.Tests.{eq-eqb, eqb-true, eqb-false, ltb-false, not-false}
 use Rattle.history.specs.Lists.{All}
 use Rattle.history.specs.Event.{enqueueStarted, dequeueStarted}
 use Rattle.criterion.specs.Growth.{enqueue-may-start, dequeue-may-start}
 use Rattle.rules.specs.Sizes.{Sizes}
-use Rattle.rules.specs.Cell.{Reader, Write, _:=_, after, starts, consumer, consumerPhase, producer, phase, call, value}
+use Rattle.rules.specs.Cell.{Reader, Write, _:=_, after, starts, consumer, consumerPhase, phase, call, value}
 use Rattle.rules.specs.Range.{number, idleSorts, producerSorts, consumerSorts}
 use Rattle.rules.specs.Rule.{ok, started}
 use Rattle.rules.specs.Request.{startEnqueue, startDequeue, startingEnqueue, startingDequeue}

@@ -1,30 +1,30 @@
 -- A producer's step that writes none of the records' words outside the entries: what is left to show of it.
-use mathlib.Core.Path.{_≡_, refl, ap, sym, _∙_, subst, subst⁻¹, fun-ext}
+use mathlib.Core.Path.{_≡_, refl, ap, sym, _∙_, subst, fun-ext}
 use mathlib.Core.Logic.{⊎-elim, _≢_}
 use mathlib.Core.Bool.{Bool, true, false, cond}
-use mathlib.Core.List.{List, [], _∷_, _++_}
-use Prim.Native.Nat.{ℕ, zero, suc, _+_, _*_, _≤_, _<_}
+use mathlib.Core.List.{List, [], _++_}
+use Prim.Native.Nat.{ℕ, suc, _+_, _≤_}
 use native.Mathlib.Decide.{ℕ-discrete}
 use native.Mathlib.Omega.{arith}
 use lib.Dec.{eqb}
-use lib.ListN.{length, getD}
+use lib.ListN.{getD}
 use borrow.Author.Tests.{eq-eqb, ne-eqb}
 use Rattle.history.specs.Lists.{All}
 use Rattle.history.specs.Event.{History}
 use Rattle.history.specs.Form.{wellFormed}
 use Rattle.history.specs.Linearization.{Item}
 use Rattle.rules.specs.Sizes.{Sizes}
-use Rattle.rules.specs.Cell.{Reader, Write, after, producer, place, tailRecord, headRecord, cursorRecord, foundRecord, phase, call, value, position, held}
+use Rattle.rules.specs.Cell.{Reader, Write, after, producer, tailRecord, headRecord, cursorRecord, foundRecord, phase, call, value, position, held}
 use Rattle.rules.specs.Range.{producerSorts, producerInRange}
 use Rattle.rules.specs.Rule.{Reply}
-use Rattle.rules.specs.Request.{Request, step}
+use Rattle.rules.specs.Request.{step}
 use Rattle.rules.specs.Play.{replyEvents}
 use Rattle.rules.specs.Readback.{WriteThere}
-use Rattle.rules.specs.InRange.{InRange, InSort, writes-keep-range}
+use Rattle.rules.specs.InRange.{InSort, writes-keep-range}
 use Rattle.model.specs.State.{Entry, Producer, State, at}
 use Rattle.model.specs.Invariant.{Invariant}
 use Rattle.model.specs.Moves.{withProducer}
-use Rattle.memory.specs.Memory.{Shape, Held, ThreadOk, rowOf, Memory}
+use Rattle.memory.specs.Memory.{ChainShape, Held, ThreadOk, rowOf}
 use Rattle.memory.specs.Frames.{OthersKept, others-kept}
 use Rattle.memory.specs.Light.{Light, producer-keeps}
 use Rattle.ordering.specs.View.{Ghost, placesOf, placeOf, producerAt, producerOf, producersOf, view, Agrees, cellOf}
@@ -113,7 +113,7 @@ module _ (z : Sizes) (σ : Reader) (γ : Ghost) (good : Good z σ γ) (t : ℕ) 
   seen-at p e = ap (λ (x : ℕ). producerAt x (σ (call t)) (σ (value t)) (σ (position t)) (placeOf (placesOf σ) (σ (held t)))) e
 
   pub producer-goes : (r : Reply) (ws : List Write) (tp : ℕ) (entry : ℕ → Entry) (owner : ℕ → ℕ) (content : ℕ → Item) (h : History)
-      → let g : Shape = record { lo = γ .shape .lo; tp = tp; hi = γ .shape .hi; at = γ .shape .at } in
+      → let g : ChainShape = record { lo = γ .shape .lo; tp = tp; hi = γ .shape .hi; at = γ .shape .at } in
       let γ′ : Ghost = record { shape = g; entry = entry; owner = owner; content = content; history = h } in
       All (InSort z t) ws
       → All (WriteThere z) ws

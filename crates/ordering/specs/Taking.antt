@@ -1,35 +1,33 @@
 -- Consumer phases 6 and 7, which read the item and take it.
-use mathlib.Core.Path.{_≡_, refl, ap, ap₂, sym, _∙_, subst}
-use mathlib.Core.Logic.{_≢_}
-use mathlib.Core.Bool.{true, false, _&&_, cond, and-false}
-use mathlib.Core.List.{List, [], _∷_}
-use Prim.Native.Nat.{ℕ, suc, _+_, _*_, _≤_, _<_}
+use mathlib.Core.Path.{_≡_, refl, ap, ap₂, _∙_, subst}
+use mathlib.Core.Bool.{true, cond, and-false}
+use mathlib.Core.List.{[], _∷_}
+use Prim.Native.Nat.{ℕ, suc, _≤_}
 use native.Mathlib.Omega.{arith}
 use lib.Dec.{eqb}
-use borrow.Author.Tests.{eqb-true, eqb-false, eq-eqb, ne-eqb}
-use Rattle.history.specs.Lists.{All}
+use borrow.Author.Tests.{eqb-true, eq-eqb}
 use Rattle.history.specs.Event.{gaveItem}
 use Rattle.history.specs.Form.{wellFormed}
 use Rattle.history.specs.Linearization.{Item}
 use Rattle.criterion.specs.Growth.{dequeue-may-give}
 use Rattle.rules.specs.Sizes.{Sizes}
-use Rattle.rules.specs.Cell.{Reader, Write, update, _:=_, clearConsumer, after, headPosition, tail, consumer, consumerPhase, foundRecord, foundPosition, itemNumber, itemValue, place, used, state, entryNumber, entryValue, entry}
-use Rattle.rules.specs.Range.{number, foundSorts, itemSorts, consumerSorts}
-use Rattle.rules.specs.Rule.{Answer, goes, item, reply, upTo, index}
+use Rattle.rules.specs.Cell.{Reader, update, _:=_, clearConsumer, after, headPosition, consumer, consumerPhase, foundRecord, foundPosition, itemNumber, itemValue, place, used, state, entryNumber, entryValue, entry}
+use Rattle.rules.specs.Range.{number, foundSorts}
+use Rattle.rules.specs.Rule.{goes, item, reply, upTo, index}
 use Rattle.rules.specs.Consumer.{readItem, markHandled}
 use Rattle.rules.specs.Request.{step}
 use Rattle.model.specs.State
-use Rattle.model.specs.State.{Entry, gone, at}
+use Rattle.model.specs.State.{gone, at}
 use Rattle.model.specs.Facts.{at-same, at-other}
-use Rattle.model.specs.Invariant.{Invariant, Inside, Found, dequeues}
+use Rattle.model.specs.Invariant.{Inside, Found, dequeues}
 use Rattle.model.specs.Scanning.{read-item}
-use Rattle.model.specs.Dequeues.{consumer-clause, take-item, take-front}
+use Rattle.model.specs.Dequeues.{take-item, take-front}
 use Rattle.model.specs.Bounds.{found-found, holding-found}
 use Rattle.memory.specs.Memory.{Memory}
 use Rattle.ordering.specs.View.{Ghost, placesOf, placeOf, view, AgreesWith}
 use Rattle.ordering.specs.Good.{Good, Goes, Fine, by-need, by-cond, by-up-to}
-use Rattle.ordering.specs.Rows.{OfSorts, of-sort, has-sort, row-of}
-use Rattle.ordering.specs.Entries.{other-record, other-entry, by-inside, Slot, slot, slot-changes, slot-state, slot-number, slot-value}
+use Rattle.ordering.specs.Rows.{OfSorts, of-sort, has-sort}
+use Rattle.ordering.specs.Entries.{other-record, other-entry, by-inside, Slot, slot, slot-changes, slot-number, slot-value}
 use Rattle.ordering.specs.Cursor.{some-record}
 use Rattle.ordering.specs.Dequeue.{consumer-words, consumer-at, tail-fits, resting-in-range, consumer-goes, consumer-light}
 

@@ -1,30 +1,28 @@
 -- Demand 3, proved: along every list of calls from an accepted open the store stays one that only the engine has written.
-use mathlib.Core.Path.{_≡_, refl, ap, ap₂, sym, _∙_, subst, subst⁻¹}
+use mathlib.Core.Path.{_≡_, refl, ap, ap₂, sym, _∙_, subst⁻¹}
 use mathlib.Core.Logic.{_≢_}
 use mathlib.Core.Bool.{Bool, true, false, not, _||_, cond}
 use mathlib.Core.List.{List, [], _∷_, _++_}
 use Prim.Native.Nat.{ℕ, _≤_}
-use native.Mathlib.Omega.{arith}
 use lib.Dec.{ltb}
-use lib.ListN.{length, drop, replicate, length-append, length-replicate, length-drop}
-use borrow.Author.Tests.{ltb-false, not-false}
+use lib.ListN.{length}
 use Rattle.history.specs.Lists.{All}
 use Rattle.history.specs.Event.{History}
 use Rattle.history.specs.Linearization.{Linearization}
 use Rattle.criterion.specs.Criterion.{sound, criterion}
 use Rattle.criterion.specs.Order.{order}
 use Rattle.rules.specs.Sizes.{Sizes, sizesInRange, storeWords}
-use Rattle.rules.specs.Cell.{Reader, reader, writes}
+use Rattle.rules.specs.Cell.{Reader, reader}
 use Rattle.rules.specs.Free.{Picker, Picks}
-use Rattle.rules.specs.Rule.{Answer, refuse, reply, Reply, Response, refused, accepted, ok}
-use Rattle.rules.specs.Request.{Request, Result, applied, answer, admitted, result, sizesOf, open-store, opened, openWrites}
-use Rattle.rules.specs.Play.{Played, replyEvents, events, playOne, play, itemsLeft}
+use Rattle.rules.specs.Rule.{Answer, refuse, reply, refused, accepted, ok}
+use Rattle.rules.specs.Request.{Request, Result, applied, answer, result, open-store, opened}
+use Rattle.rules.specs.Play.{Played, replyEvents, events, playOne, play}
 use Rattle.rules.specs.Readback.{reader-writes, length-writes}
 use Rattle.rules.specs.Refusal.{accepted-not-refused}
 use Rattle.model.specs.Items.{items, items-rest}
 use Rattle.model.specs.State.{State}
 use Rattle.ordering.specs.View.{Ghost, view}
-use Rattle.ordering.specs.Good.{Good, Goes, Fine}
+use Rattle.ordering.specs.Good.{Good, Fine}
 use Rattle.ordering.specs.Every.{answer-fine}
 use Rattle.ordering.specs.Opened.{open-fits, openGhost, open-reads, open-good}
 use Rattle.ordering.specs.Left.{items-left}

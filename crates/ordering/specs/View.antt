@@ -1,17 +1,17 @@
 -- The position machine that a store stands for. What the store does not hold is kept beside it: where the chain stands, the
 -- entries by position, which call owns a position, and the history.
 use mathlib.Core.Path.{_≡_}
-use mathlib.Core.List.{List, [], _∷_}
+use mathlib.Core.List.{[], _∷_}
 use Prim.Native.Nat.{ℕ, zero, suc, _+_, _*_, _≤_, _<_}
 use lib.ListN.{getD}
 use Rattle.history.specs.Event.{History}
 use Rattle.history.specs.Linearization.{Item}
 use Rattle.rules.specs.Cell.{Reader, consumer, entry, tail, headPosition, starts, place}
 use Rattle.model.specs.State.{Entry, blank, put, gone, Producer, idle, started, seeking, ahead, shifting, behind, writing, setting, done, Consumer, resting, front, reading, scanning, looking, rescanning, found, holding, State}
-use Rattle.memory.specs.Memory.{Shape, rowOf}
+use Rattle.memory.specs.Memory.{ChainShape, rowOf}
 
 pub record Ghost : Type 0 where
-  pub shape : Shape
+  pub shape : ChainShape
   pub entry : ℕ → Entry
   pub owner : ℕ → ℕ
   pub content : ℕ → Item

@@ -1,27 +1,27 @@
 -- Producer phases 2, 3, 6 and 7, which move a producer along the records.
 use mathlib.Core.Path.{_≡_, refl, ap, sym, _∙_, subst, subst⁻¹}
-use mathlib.Core.Logic.{_⊎_, inl, inr, ⊎-elim, _≢_}
+use mathlib.Core.Logic.{inl, inr, _≢_}
 use mathlib.Core.Bool.{Bool, true, false, cond}
-use mathlib.Core.List.{List, [], _∷_, _++_}
+use mathlib.Core.List.{List, [], _∷_}
 use Prim.Native.Nat.{ℕ, zero, suc, _+_, _*_, _≤_, _<_}
 use native.Mathlib.Omega.{arith}
 use lib.Dec.{leb, ltb, eqb}
-use lib.ListN.{length, getD}
-use borrow.Author.Tests.{eq-eqb, ne-eqb, eqb-true, eqb-false, le-leb}
+use lib.ListN.{getD}
+use borrow.Author.Tests.{eq-eqb, eqb-true, eqb-false}
 use Rattle.history.specs.Lists.{All}
 use Rattle.rules.specs.Sizes.{Sizes}
-use Rattle.rules.specs.Cell.{Reader, Write, _:=_, after, producer, place, next, used, tailRecord, headRecord, phase, call, value, position, held, claimed, backed, prev}
+use Rattle.rules.specs.Cell.{Reader, Write, _:=_, after, producer, place, next, used, tailRecord, phase, call, value, position, held, claimed, backed, prev}
 use Rattle.rules.specs.InRange.{InSort}
 use Rattle.rules.specs.Range.{link, record-number, producerSorts, placedSorts}
-use Rattle.rules.specs.Rule.{Reply, going, Answer, need, goes}
+use Rattle.rules.specs.Rule.{going, need, goes}
 use Rattle.rules.specs.Producer.{choose, lookNext, loadTail, goBack, shiftTail}
-use Rattle.rules.specs.Request.{Request, step}
-use Rattle.model.specs.State.{Producer, ahead, shifting, behind, writing, State}
+use Rattle.rules.specs.Request.{step}
+use Rattle.model.specs.State.{Producer, ahead, shifting, behind, writing}
 use Rattle.model.specs.Invariant.{Invariant}
 use Rattle.model.specs.Moves.{withProducer, chosen}
 use Rattle.model.specs.Walking.{producer-clause, pass-on, load-tail, go-back, shift-tail, leave-tail}
 use Rattle.model.specs.Bounds.{behind-past-first}
-use Rattle.memory.specs.Memory.{Shape, Holdable, Held, ThreadOk, rowOf, Memory, held-is}
+use Rattle.memory.specs.Memory.{Holdable, Held, rowOf, Memory, held-is}
 use Rattle.memory.specs.Ends.{held-before-last}
 use Rattle.memory.specs.Frames.{others-kept}
 use Rattle.ordering.specs.View.{Ghost, placesOf, placeOf, producerAt, producersOf, view}

@@ -1,14 +1,13 @@
 -- Where cells are: a cell that is there has an address inside the store, and no other cell has it.
-use mathlib.Core.Path.{_≡_, refl, ap, sym, _∙_, subst}
-use mathlib.Core.Logic.{_≢_}
+use mathlib.Core.Path.{_≡_, refl, ap, sym}
 use mathlib.Core.Bool.{Bool, true, false, _&&_}
-use Prim.Native.Nat.{ℕ, zero, suc, _+_, _*_, _≤_, _<_}
-use native.Mathlib.Nat.{mul-le-mul-right, lt-of-not-le, add-assoc}
+use Prim.Native.Nat.{ℕ, _+_, _*_, _≤_, _<_}
+use native.Mathlib.Nat.{mul-le-mul-right, lt-of-not-le}
 use native.Mathlib.Decide.{decLe}
 use native.Mathlib.Omega.{arith}
-use lib.Dec.{leb, ltb, eqb}
+use lib.Dec.{leb, ltb}
 use borrow.Author.Tests.{lt-ltb, ltb-true, le-leb, leb-true, eq-eqb}
-use Rattle.rules.specs.Sizes.{Sizes, recordWords, firstRecord, storeWords}
+use Rattle.rules.specs.Sizes.{Sizes, recordWords, storeWords}
 use Rattle.rules.specs.Cell.{Cell, content, consumer, producer, part, entry, address, there, same}
 
 -- both sides of a conjunction of tests

@@ -1,12 +1,12 @@
 -- The consumer's phases 1 to 7 (document 01, "Calls"). Each rule stands under the sentence that it renders.
-use mathlib.Core.Bool.{Bool, true, false, _&&_, cond}
+use mathlib.Core.Bool.{cond}
 use mathlib.Core.List.{List, [], _∷_, _++_}
-use Prim.Native.Nat.{ℕ, zero, suc, _+_, _*_}
-use lib.Dec.{leb, ltb, eqb}
+use Prim.Native.Nat.{ℕ, zero, suc, _+_}
+use lib.Dec.{eqb}
 use lib.ListN.{getD}
 use Rattle.rules.specs.Sizes.{Sizes}
-use Rattle.rules.specs.Cell.{Reader, Write, _:=_, clearConsumer, tail, tailRecord, headRecord, headPosition, consumerPhase, cursorRecord, cursorPosition, foundRecord, foundPosition, itemNumber, itemValue, place, next, used, state, entryNumber, entryValue}
-use Rattle.rules.specs.Rule.{Answer, Reply, refuse, reply, empty, item, goes, need, upTo, atEnd, inside, cross}
+use Rattle.rules.specs.Cell.{Reader, Write, _:=_, clearConsumer, tail, tailRecord, headRecord, headPosition, consumerPhase, cursorRecord, cursorPosition, foundRecord, foundPosition, itemNumber, itemValue, used, state, entryNumber, entryValue}
+use Rattle.rules.specs.Rule.{Answer, refuse, reply, empty, item, goes, need, upTo, atEnd, inside, cross}
 
 -- an entry's state by cases: empty, set, handled
 abbrev pub byState : ℕ → Answer → Answer → Answer → Answer

@@ -14,7 +14,7 @@ use Rattle.rules.specs.Sizes.{Sizes}
 use Rattle.rules.specs.Cell.{Cell, content, consumer, producer, part, entry, Reader, Write, _:=_, clearConsumer, clearProducer, wipe, same, update, after}
 use Rattle.rules.specs.Range.{Sort, any, ofSort, contentSorts, partSorts, entrySorts, consumerSorts, producerSorts, ofSorts, every, threadInRange, consumerInRange, producerInRange, recordInRange, inRange}
 use Rattle.rules.specs.Address.{both, and-true, There}
-use Rattle.rules.specs.Readback.{true-false, same-eq}
+use Rattle.rules.specs.Readback.{same-eq}
 
 -- a test that passes everywhere below n
 pub every-at : (n : ℕ) (p : ℕ → Bool) → every n p ≡ true → (k : ℕ) → k < n → p k ≡ true

@@ -1,13 +1,13 @@
 -- Lists of calls from an open store: their replies, their history, and the items left (document 01, "What demand 3 speaks of").
-use mathlib.Core.Bool.{Bool, true, false, cond}
+use mathlib.Core.Bool.{true, false}
 use mathlib.Core.List.{List, [], _∷_, _++_}
 use Prim.Native.Nat.{ℕ, zero, suc, _+_, _*_}
 use lib.Dec.{leb, eqb}
 use lib.ListN.{length}
-use Rattle.history.specs.Event.{Event, History, enqueueStarted, enqueueEnded, dequeueStarted, gaveItem, gaveEmpty}
+use Rattle.history.specs.Event.{History, enqueueStarted, enqueueEnded, dequeueStarted, gaveItem, gaveEmpty}
 use Rattle.history.specs.Linearization.{Item, Queue}
 use Rattle.rules.specs.Sizes.{Sizes}
-use Rattle.rules.specs.Cell.{Reader, reader, place, state, entryNumber, entryValue}
+use Rattle.rules.specs.Cell.{Reader, place, state, entryNumber, entryValue}
 use Rattle.rules.specs.Free.{Picker}
 use Rattle.rules.specs.Rule.{Reply, Response, refused, accepted, ok, started, going, ended, empty, item}
 use Rattle.rules.specs.Request.{Result, Request, startEnqueue, startDequeue, step, result}

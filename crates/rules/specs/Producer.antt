@@ -1,12 +1,12 @@
 -- The producer's phases 1 to 11 (document 01, "Calls"). Each rule stands under the sentence that it renders.
-use mathlib.Core.Bool.{Bool, true, false, _&&_, cond}
+use mathlib.Core.Bool.{_&&_, cond}
 use mathlib.Core.List.{List, [], _∷_, _++_}
 use Prim.Native.Nat.{ℕ, zero, suc, _+_, _*_}
 use lib.Dec.{leb, ltb, eqb}
 use lib.ListN.{getD}
 use Rattle.rules.specs.Sizes.{Sizes, mostPlace}
 use Rattle.rules.specs.Cell.{Reader, Write, _:=_, clearProducer, wipe, tail, tailRecord, phase, call, value, position, held, claimed, backed, place, next, prev, used, state, entryNumber, entryValue}
-use Rattle.rules.specs.Rule.{Answer, Reply, refuse, reply, ended, goes, need, upTo, inside}
+use Rattle.rules.specs.Rule.{Answer, refuse, reply, ended, goes, need, upTo, inside}
 
 module _ (z : Sizes) (σ : Reader) (t : ℕ) where
   -- "choose" means: L at or past B × place of the held record goes to 3; L below B × (place − 1) goes to 7; otherwise 8.

@@ -1,11 +1,11 @@
 -- The range of every word of a store: refusal 3 (document 01, "Where a call is turned down", Ranges).
-use mathlib.Core.Bool.{Bool, true, false, _&&_}
+use mathlib.Core.Bool.{Bool, true, _&&_}
 use mathlib.Core.List.{List, [], _∷_}
 use Prim.Native.Nat.{ℕ, zero, suc}
 use lib.Dec.{leb, eqb}
 use lib.ListN.{getD}
 use Rattle.rules.specs.Sizes.{Sizes, between, mostPlace, firstRecord}
-use Rattle.rules.specs.Cell.{Cell, Reader, content, consumer, producer, part, entry}
+use Rattle.rules.specs.Cell.{Reader, content, consumer, producer, part, entry}
 
 -- What a word may hold: zero alone (a spare word, or one not in use); one number; a position, call number or count, 0 to M; a
 -- record number, 0 to N; the same with none left out, 1 to N; a number up to another; anything.

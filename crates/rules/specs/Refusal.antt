@@ -7,9 +7,8 @@ use native.Mathlib.Omega.{arith}
 use lib.Dec.{ltb}
 use lib.ListN.{length}
 use Rattle.rules.specs.Sizes.{Sizes, sizesInRange, storeWords}
-use Rattle.rules.specs.Cell.{writes}
 use Rattle.rules.specs.Free.{Picker}
-use Rattle.rules.specs.Rule.{Answer, refuse, reply, Response, refused, accepted}
+use Rattle.rules.specs.Rule.{Answer, refuse, reply, refused, accepted}
 use Rattle.rules.specs.Request.{Request, Result, applied, admitted, answer, result, sizesOf, opened, open-store}
 
 -- an accepted call is not refused

@@ -1,9 +1,9 @@
 -- The calls *open*, *start enqueue*, *start dequeue* and *step*: from the lent words and the arguments to the reply and the words
 -- after, every refusal in the table's order (document 01, "Calls" and "Where a call is turned down").
-use mathlib.Core.Bool.{Bool, true, false, _&&_, _||_, not, cond}
+use mathlib.Core.Bool.{_||_, not, cond}
 use mathlib.Core.List.{List, [], _∷_, _++_}
-use Prim.Native.Nat.{ℕ, zero, suc}
-use lib.Dec.{leb, ltb, eqb}
+use Prim.Native.Nat.{ℕ, suc}
+use lib.Dec.{ltb, eqb}
 use lib.ListN.{length, getD, drop, replicate}
 use Rattle.rules.specs.Sizes.{Sizes, sizesInRange, firstRecord, storeWords}
 use Rattle.rules.specs.Cell.{Reader, Write, reader, writes, _:=_, content, tailRecord, headRecord, starts, consumerPhase, phase, call, value, place, used}

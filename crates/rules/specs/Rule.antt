@@ -1,6 +1,6 @@
 -- What a rule answers, and the words that rules are written in. A refusal has no writes, so a refused call changes nothing.
 use mathlib.Core.Bool.{Bool, _&&_, cond}
-use mathlib.Core.List.{List, [], _∷_}
+use mathlib.Core.List.{List}
 use Prim.Native.Nat.{ℕ, zero, suc, _+_, _-_, _*_}
 use lib.Dec.{leb, ltb, eqb}
 use Rattle.rules.specs.Sizes.{Sizes}

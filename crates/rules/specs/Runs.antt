@@ -4,15 +4,15 @@ use mathlib.Core.Path.{_≡_, refl}
 use mathlib.Core.List.{List, [], _∷_, _++_, map, reverse}
 use Prim.Native.Nat.{ℕ, zero, suc}
 use lib.ListN.{replicate}
-use Rattle.rules.specs.Sizes.{Sizes, sizesInRange, storeWords}
-use Rattle.rules.specs.Cell.{Reader, reader, writes}
+use Rattle.rules.specs.Sizes.{Sizes}
+use Rattle.rules.specs.Cell.{reader, writes}
 use Rattle.rules.specs.Range.{inRange}
 use Rattle.rules.specs.Free.{free, lowestFree}
 use Rattle.rules.specs.Rule.{Reply, Response, refused, accepted, ok, started, going, ended, empty, item}
 use Rattle.rules.specs.Producer.{takePosition, loadTail, lookNext, claimRecord, linkClaimed, shiftTail, goBack, writeEntry, setEntry, claimAhead, linkAhead, producerStep}
 use Rattle.rules.specs.Consumer.{front, readTail, scan, readEntry, rescan, readItem, markHandled, consumerStep}
 use Rattle.rules.specs.Request.{Request, startEnqueue, startDequeue, step, applied, opened, open-store, startingEnqueue, startingDequeue, stepping, answer, admitted, result}
-use Rattle.rules.specs.Play.{Played, play}
+use Rattle.rules.specs.Play.{play}
 
 -- An open of a store of so many zero words, the calls after it, and the replies of all of them, in order.
 pub record Trial : Type 0 where

@@ -1,5 +1,5 @@
 -- What the proofs of the phases share: a link that is not none, as the rules take it apart.
-use mathlib.Core.Path.{_≡_, _∙_}
+use mathlib.Core.Path.{_≡_}
 use Prim.Native.Nat.{ℕ, suc, _-_}
 use native.Mathlib.Omega.{arith}
 

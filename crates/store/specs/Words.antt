@@ -1,19 +1,19 @@
 -- Laws of the accessors: a cell that is there is one word, a word in range is at most its cap, and zeros written one by one.
-use mathlib.Core.Path.{_≡_, refl, ap, sym, _∙_, subst}
-use mathlib.Core.Bool.{Bool, true, false, _&&_, cond}
-use mathlib.Core.List.{List, [], _∷_, _++_}
+use mathlib.Core.Path.{_≡_, ap, sym, _∙_, subst}
+use mathlib.Core.Bool.{true}
+use mathlib.Core.List.{List, [], _∷_}
 use Prim.Native.Nat.{ℕ, zero, suc, _+_, _*_, _≤_, _<_}
 use native.Mathlib.Nat.{mul-le-mul-left, mul-le-mul-right}
 use native.Mathlib.Omega.{arith}
-use lib.Dec.{leb, eqb}
-use lib.ListN.{length, getD, set, drop, replicate, length-replicate}
-use lib.Seq.{sets, sets-eq}
+use lib.Dec.{leb}
+use lib.ListN.{length, getD, set, replicate}
+use lib.Seq.{sets}
 use borrow.Author.Tests.{leb-true, eqb-true}
-use Rattle.rules.specs.Sizes.{Sizes, recordWords, firstRecord, storeWords}
-use Rattle.rules.specs.Cell.{Cell, content, consumer, producer, part, entry, address, there, Reader, reader}
+use Rattle.rules.specs.Sizes.{Sizes, recordWords, firstRecord}
+use Rattle.rules.specs.Cell.{Cell, content, consumer, producer, part, entry, address, reader}
 use Rattle.rules.specs.Range.{Sort, unused, exactly, number, link, record-number, most, any, ofSort, ofSorts, threadInRange, consumerSorts, producerSorts, contentSorts}
 use Rattle.rules.specs.Address.{both, There, there-is, address-below}
-use Rattle.rules.specs.InRange.{InRange, sorts-at, sortOf}
+use Rattle.rules.specs.InRange.{sorts-at, sortOf}
 use Rattle.store.specs.Caps.{cap, capOf, mostWord, producerCaps, consumerCaps, contentCaps}
 use Rattle.store.specs.Store.{Room, Admitted, Reads}
 

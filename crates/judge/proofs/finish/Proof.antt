@@ -1,10 +1,7 @@
 -- `judge::finish` meets its contract. Assumes nothing.
-use mathlib.Core.Path.{_≡_, sym, _∙_}
-use Prim.Native.Nat.{ℕ, suc, _-_, _<_, _≤_}
+use mathlib.Core.Path.{sym, _∙_}
 use native.Mathlib.Omega.{arith}
 use borrow.Author.Tests.{not-true, not-false}
-use mathlib.Core.Logic.{_≢_}
-use Rattle.judge.specs.Table.{busyAt, Table}
 use Rattle.judge.proofs.Ending.{end-idle, end-other, end-good, its-place}
 use borrow.Author.Needs.{needs}
 use Rattle.judge.proofs.finish.Statement.{statement}

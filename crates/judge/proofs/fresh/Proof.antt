@@ -1,5 +1,4 @@
 -- `judge::fresh` meets its contract. Assumes nothing.
-use mathlib.Core.Path.{_≡_}
 use native.Mathlib.Omega.{arith}
 use Prim.Native.Nat.{zero-le}
 use borrow.Author.Tests.{leb-true, leb-false}

@@ -1,10 +1,8 @@
 -- `judge::read_events` meets its contract. Assumes nothing.
 use Rattle.judge.specs.Steps.{Read}
-use mathlib.Core.Path.{_≡_}
-use Prim.Native.Nat.{_≤_, _-_, _/_}
+use Prim.Native.Nat.{_≤_, _-_}
 use native.Mathlib.Omega.{arith}
 use borrow.Author.Needs.{needs}
-use lib.ListN.{length}
 use Rattle.judge.proofs.Reading.{Progress, none-read, event-refused, event-read, all-read}
 use Rattle.judge.proofs.read_events.Statement.{statement}
 use Rattle.judge.proofs.read_events.Tie as tie

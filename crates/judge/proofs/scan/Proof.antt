@@ -1,6 +1,6 @@
 -- `judge::scan` meets its contract. Assumes nothing.
 use borrow.Author.Count.{below-more}
-use Prim.Native.Nat.{ℕ, _≤_, _<_, _-_, _+_}
+use Prim.Native.Nat.{ℕ, _≤_, _<_, _-_}
 use mathlib.Core.Logic.{_≢_}
 use native.Mathlib.Omega.{arith}
 use Rattle.judge.specs.Table.{numberAt}
