@@ -10,7 +10,6 @@ use lib.Dec.{leb, ltb}
 use lib.ListN.{length, set, take, drop, getD, length-append}
 use lib.Seq.{sets, take-suc, drop-cons, length-take-le, length-sets}
 use borrow.Author.Tests.{lt-ltb, le-ltb, le-leb, lt-leb}
-use Rattle.text.specs.declared.Number.{Number}
 use Rattle.text.specs.declared.Number.the-variants.{Bad, Read}
 use Rattle.text.specs.Wrote.{Wrote}
 use Rattle.text.specs.Decimal.{mostNumber, isDigit, digitsFrom, digit, digits}

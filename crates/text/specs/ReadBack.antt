@@ -1,18 +1,16 @@
 -- A number that was printed is read back: `decimal n` with no digit after it gives n and the position after it.
 use mathlib.Core.Path.{_≡_, refl, ap, sym, _∙_}
-use mathlib.Core.Bool.{Bool, true, false, cond}
+use mathlib.Core.Bool.{Bool, true, false}
 use mathlib.Core.List.{List, [], _∷_, _++_, append-assoc}
 use Prim.Native.Nat.{ℕ, zero, suc, _+_, _-_, _*_, _/_, _%_, _^_, _≤_, _<_}
 use native.Mathlib.Omega.{arith}
 use native.Mathlib.Nat.{add-zero, pow-suc}
-use native.Mathlib.Numerals.{add-one}
-use lib.Dec.{leb, ltb}
+use lib.Dec.{ltb}
 use lib.ListN.{length, drop, getD, length-append}
 use lib.Seq.{getD-drop}
-use borrow.Author.Tests.{ltb-true, ltb-false, lt-ltb, le-ltb, le-leb, lt-leb, eq-eqb, ne-eqb}
-use Rattle.text.specs.declared.Number.{Number}
-use Rattle.text.specs.declared.Number.the-variants.{Bad, Read}
-use Rattle.text.specs.Decimal.{mostNumber, isDigit, digitsFrom, afterZero, numberAt, digit, digits, decimal}
+use borrow.Author.Tests.{ltb-true, ltb-false, le-leb, ne-eqb}
+use Rattle.text.specs.declared.Number.the-variants.{Read}
+use Rattle.text.specs.Decimal.{mostNumber, isDigit, digitsFrom, numberAt, digit, digits, decimal}
 use Rattle.text.specs.Laws.{digits-none, digits-short, digits-split}
 
 -- one digit more

@@ -1,11 +1,9 @@
 -- The proof of the cycle of calls {write_digits}. The measure is how many digits are left.
-use mathlib.Core.Path.{_≡_, refl, sym, ap, _∙_}
-use mathlib.Core.List.{List, [], _∷_, _++_}
-use Prim.Native.Nat.{_+_, _-_, _/_, _%_, _≤_}
+use mathlib.Core.Path.{refl, _∙_}
+use Prim.Native.Nat.{_+_, _-_, _/_, _%_}
 use native.Mathlib.Omega.{arith}
-use lib.ListN.{length, set, length-set, length-append}
-use lib.Seq.{sets}
-use Rattle.text.specs.Decimal.{digits, digit}
+use lib.ListN.{length-set}
+use Rattle.text.specs.Decimal.{digit}
 use Rattle.text.specs.Laws.{digits-none, digits-short, digits-long, length-digits, wrote-append, wrote-byte}
 use Prim.Native.Nat.{ℕ, _<_}
 use borrow.Fn.Kinds.{In}
