@@ -15,7 +15,7 @@ abbrev pub printedReading : Reading → List ℕ
 printedReading (refused n) = numbered refusedWord n
 printedReading (history h) = printedVerdict (explains h)
 
--- the most bytes that it has: "refused ", a number of ten digits and a newline
+-- a bound on its bytes, not the most that it has: "refused ", a number of ten digits and a newline
 abbrev pub mostWord : ℕ
 mostWord = 19
 
