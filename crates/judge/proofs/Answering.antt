@@ -13,18 +13,18 @@ use Rattle.history.specs.Calls.{Call, calls, row, rows}
 use Rattle.history.specs.Form.{Reading, refused, history, read}
 use Rattle.criterion.specs.Pass.{passes, explains}
 use Rattle.criterion.specs.Criterion.{verdict}
-use Rattle.judge.specs.declared.Entered.{Entered}
-use Rattle.judge.specs.declared.Entered.the-variants as entered
-use Rattle.judge.specs.declared.Entered.the-variants.{Calls}
+use Rattle.reading.specs.declared.Entered.{Entered}
+use Rattle.reading.specs.declared.Entered.the-variants as entered
+use Rattle.reading.specs.declared.Entered.the-variants.{Calls}
 use Rattle.judge.specs.declared.Call as table
 use Rattle.judge.specs.declared.Outcome.the-variants.{Refused, Explained, Unexplained}
-use Rattle.judge.specs.Build.{build}
-use Rattle.judge.specs.Table.{callAt, callsIn}
-use Rattle.judge.specs.Steps.{Holds, Read}
+use Rattle.reading.specs.Build.{build}
+use Rattle.reading.specs.Table.{callAt, callsIn}
+use Rattle.reading.specs.Steps.{Holds, Read}
 use Rattle.judge.specs.Answer.{entry, written}
 use Rattle.judge.specs.Examine.{entryIn, filled, Examined}
-use Rattle.judge.proofs.Builds.{map-build, length-build}
-use Rattle.judge.proofs.Logic.{true-not-false, neither}
+use Rattle.reading.proofs.Builds.{map-build, length-build}
+use Rattle.reading.proofs.Logic.{true-not-false, neither}
 
 refused-not-read : (n : ℕ) (h : History) → refused n ≡ history h → ⊥
 refused-not-read n h e = let z : _≡_ {A = ℕ} 0 1 = cc in omega arith

@@ -8,10 +8,10 @@ use lib.ListN.{length, drop, set, length-append, length-drop}
 use lib.Seq.{drop-cons, set-at}
 use Rattle.history.specs.Calls.{row}
 use Rattle.judge.specs.declared.Call.{Call}
-use Rattle.judge.specs.Build.{build}
-use Rattle.judge.specs.Table.{startAt, endAt, answerAt, threadAt, numberAt, valueAt, callOf, callAt}
+use Rattle.reading.specs.Build.{build}
+use Rattle.reading.specs.Table.{startAt, endAt, answerAt, threadAt, numberAt, valueAt, callOf, callAt}
 use Rattle.judge.specs.Examine.{entryIn, filled}
-use Rattle.judge.proofs.Builds.{build-snoc, length-build}
+use Rattle.reading.proofs.Builds.{build-snoc, length-build}
 
 pub kind-dequeue : (t n v s e a : ℕ) → t ≡ 0 → 3 ≡ row (callOf t n v s e a) .kind
 kind-dequeue t n v s e a p = rw p

@@ -1,14 +1,3 @@
-pub mod Forms
-pub mod Builds
-pub mod Cells
-pub mod Logic
-pub mod Words
-pub mod Starting
-pub mod Ending
-pub mod Stepping
-pub mod Reading
-pub mod Passing
-pub mod Zeros
 pub mod Filling
 pub mod Answering
 pub mod Walking

@@ -10,8 +10,8 @@ use Rattle.judge.specs.declared.Outcome.{Outcome}
 use Rattle.judge.specs.declared.Outcome.the-variants as outcome
 use Rattle.judge.specs.declared.Verdict.{Verdict}
 use Rattle.judge.specs.declared.Verdict.the-variants.{Refused, Explained, Unexplained}
-use Rattle.judge.specs.Build.{build}
-use Rattle.judge.specs.Table.{callAt}
+use Rattle.reading.specs.Build.{build}
+use Rattle.reading.specs.Table.{callAt}
 use Rattle.judge.specs.Answer.{Replied, entry, written}
 
 -- How many calls were started, and the reply.

@@ -54,7 +54,7 @@ use Rattle.judge.proofs.calls_of.Met as calls-of-thm
 use Rattle.judge.proofs.verdict_of.Symbol as verdict-of-def
 use Rattle.judge.proofs.verdict_of.Met as verdict-of-thm
 use Rattle.judge.specs.declared.Call.{Call}
-use Rattle.judge.proofs.Zeros.{no-calls}
+use Rattle.marking.proofs.Zeros.{no-calls}
 use Rattle.judge.proofs.Walking.{Entry, Working, Computes, use4, computes}
 use Rattle.judge.proofs.Taken.{Given-both, After, exits, meets}
 use Rattle.judge.proofs.fill_calls as fill

@@ -1,0 +1,186 @@
+// The verdict's pass over the calls of a history: whether each dequeue's answer was in order.
+use reading::ANSWER;
+use reading::END;
+use reading::MEMORY;
+use reading::START;
+use reading::THREAD;
+use reading::VALUE;
+use reading::larger;
+use reading::scan;
+ghost use mathlib.Core.Path.{_≡_};
+ghost use mathlib.Core.Logic.{_≢_};
+ghost use mathlib.Core.List.{List, []};
+ghost use Prim.Native.Nat.{ℕ, _+_, _≤_, _<_};
+ghost use Rattle.criterion.specs.Pass.{leaves, passes};
+ghost use Rattle.reading.specs.Table.{Table, callsIn, threadAt, endAt, answerAt};
+ghost use Rattle.marking.specs.Marks.{Found, Given, fairAt, staysAt, Moves, Marks};
+
+// What one call does to the verdict's pass: the pass is stuck, or goes on with another mark, and with the place where the
+// next item is looked for first.
+enum Moved {
+    Stuck,
+    To { mark: u32, hint: usize },
+}
+
+// Where the verdict's pass ends: it fails, or leaves a mark.
+enum Marked {
+    Fails,
+    Mark(u32),
+}
+
+// Where a number stands among those of the calls, or c: it is looked for from the hint on, then before it.
+fn position(m: &[u32; MEMORY], hint: usize, c: usize, number: u32) -> usize
+    requires { ⌜ (hint ≤ c) × (c ≤ 4096) ⌝ }
+    ensures { λ r. ⌜ Found (now (m .entry)) c number r ⌝ }
+{
+    let late = scan(m, hint, c, number);
+    if late < c {
+        return late;
+    }
+    let early = scan(m, 0, hint, number);
+    if early < hint {
+        return early;
+    }
+    c
+}
+
+// Whether enqueue i may be the item of dequeue j: the same value, not given before, started before j ended, not ended before
+// the mark.
+fn fair(m: &[u32; MEMORY], flags: &[u32; 4_096], i: usize, j: usize, mark: u32) -> bool
+    requires { ⌜ (i < 4096) × (j < 4096) ⌝ }
+    ensures { λ r. ⌜ r ≡ fairAt (now (m .entry)) (now (flags .entry)) i j mark ⌝ }
+{
+    let end = m[END + i];
+    (m[VALUE + i] == m[VALUE + j])
+        & (flags[i] != 1)
+        & (m[START + i] <= m[END + j])
+        & ((end == 0) | (mark <= end))
+}
+
+// The first enqueue from the hint on whose item was not given, or c: where the next item is looked for first.
+fn first_left(m: &[u32; MEMORY], flags: &[u32; 4_096], hint: usize, c: usize) -> usize
+    requires { ⌜ (hint ≤ c) × (c ≤ 4096) ⌝ }
+    ensures { λ r. ⌜ r ≤ c ⌝ }
+{
+    let mut j = hint;
+    while j < c {
+        if (m[THREAD + j] != 0) & (flags[j] != 1) {
+            return j;
+        }
+        j += 1;
+    }
+    c
+}
+
+// Dequeue j gives an item: its enqueue's start moves the mark.
+fn give(
+    m: &[u32; MEMORY],
+    flags: &mut [u32; 4_096],
+    c: usize,
+    mark: u32,
+    hint: usize,
+    j: usize,
+) -> Moved
+    requires { ⌜ Table (now m) c × (c ≤ 4096) × (hint ≤ c) × (j < c) × (threadAt (now m) j ≡ 0) × (endAt (now m) j ≢ 0) × (answerAt (now m) j ≢ 0) ⌝ }
+    ensures { λ r. ⌜ Moves (now (m .entry)) c j mark (now (flags .entry)) (now (flags .exit)) r ⌝ }
+{
+    let i = position(m, hint, c, m[ANSWER + j]);
+    if c <= i {
+        return Moved::Stuck;
+    }
+    if !fair(m, flags, i, j, mark) {
+        return Moved::Stuck;
+    }
+    flags[i] = 1;
+    let next = larger(mark, m[START + i]);
+    let first = first_left(m, flags, hint, c);
+    Moved::To {
+        mark: next,
+        hint: first,
+    }
+}
+
+// Call j moves the mark, if it is a dequeue that has ended.
+fn pass(
+    m: &[u32; MEMORY],
+    flags: &mut [u32; 4_096],
+    c: usize,
+    mark: u32,
+    hint: usize,
+    j: usize,
+) -> Moved
+    requires { ⌜ Table (now m) c × (c ≤ 4096) × (hint ≤ c) × (j < c) ⌝ }
+    ensures { λ r. ⌜ Moves (now (m .entry)) c j mark (now (flags .entry)) (now (flags .exit)) r ⌝ }
+{
+    if m[THREAD + j] != 0 {
+        return Moved::To { mark, hint };
+    }
+    if m[END + j] == 0 {
+        return Moved::To { mark, hint };
+    }
+    if m[ANSWER + j] == 0 {
+        let next = larger(mark, m[START + j]);
+        return Moved::To { mark: next, hint };
+    }
+    give(m, flags, c, mark, hint, j)
+}
+
+// The pass over all calls, in starting order.
+fn marks(m: &[u32; MEMORY], flags: &mut [u32; 4_096], c: usize) -> Marked
+    requires { ⌜ Table (now m) c × (c ≤ 4096) × Given (now m) c (now flags) [] ⌝ }
+    ensures { λ r. ⌜ Marks (now (m .entry)) c (now (flags .exit)) r ⌝ }
+{
+    let mut mark = 0;
+    let mut hint = 0;
+    let mut j = 0;
+    while j < c {
+        let moved = pass(m, flags, c, mark, hint, j);
+        match moved {
+            Moved::Stuck => {
+                return Marked::Fails;
+            }
+            Moved::To { mark: a, hint: b } => {
+                mark = a;
+                hint = b;
+            }
+        }
+        j += 1;
+    }
+    Marked::Mark(mark)
+}
+
+// An enqueue whose item was not given has not ended before the mark.
+fn stays(m: &[u32; MEMORY], flags: &[u32; 4_096], mark: u32, j: usize) -> bool
+    requires { ⌜ j < 4096 ⌝ }
+    ensures { λ r. ⌜ r ≡ staysAt (now (m .entry)) (now (flags .entry)) j mark ⌝ }
+{
+    let end = m[END + j];
+    (m[THREAD + j] == 0) | ((flags[j] == 1) | ((end == 0) | (mark <= end)))
+}
+
+fn all_stay(m: &[u32; MEMORY], flags: &[u32; 4_096], c: usize, mark: u32) -> bool
+    requires { ⌜ c ≤ 4096 ⌝ }
+    ensures { λ r. ⌜ ((given : List ℕ) → Given (now (m .entry)) c (now (flags .entry)) given → r ≡ leaves mark given (callsIn (now (m .entry)) c)) ⌝ }
+{
+    let mut j = 0;
+    while j < c {
+        if !stays(m, flags, mark, j) {
+            return false;
+        }
+        j += 1;
+    }
+    true
+}
+
+// The verdict on the calls that the memory holds.
+pub fn explains(m: &[u32; MEMORY], c: usize) -> bool
+    requires { ⌜ Table (now m) c × (c ≤ 4096) ⌝ }
+    ensures { λ r. ⌜ r ≡ passes (callsIn (now (m .entry)) c) (callsIn (now (m .entry)) c) 0 [] ⌝ }
+{
+    let mut flags = [0u32; 4_096];
+    let marked = marks(m, &mut flags, c);
+    match marked {
+        Marked::Fails => false,
+        Marked::Mark(mark) => all_stay(m, &flags, c, mark),
+    }
+}

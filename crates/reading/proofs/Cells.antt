@@ -1,0 +1,140 @@
+-- What the columns hold after a call has started or ended.
+use mathlib.Core.Path.{_≡_, refl, _∙_}
+use mathlib.Core.Logic.{_≢_}
+use mathlib.Core.List.{List, [], _∷_, _++_}
+use Prim.Native.Nat.{ℕ, suc, _+_, _*_, _≤_, _<_, max}
+use native.Mathlib.Omega.{arith}
+use native.Mathlib.Numerals.{add-one}
+use lib.ListN.{length, getD, set, length-set}
+use lib.Seq.{getD-set-same, getD-set-other}
+use Rattle.history.specs.Lists.{All}
+use Rattle.reading.specs.Table.{cell, startAt, endAt, answerAt, threadAt, numberAt, valueAt, busyAt, topOf}
+use Rattle.reading.specs.Steps.{begun, ended}
+
+-- a word and what is written to it
+abbrev Write : Type 0
+Write = ℕ × ℕ
+
+-- the memory after some writes, the first one first
+abbrev written : List ℕ → List Write → List ℕ
+written m [] = m
+written m (w ∷ ws) = written (set m (w .0) (w .1)) ws
+
+abbrev Off : ℕ → List Write → Type 0
+Off a ws = All (λ w. a ≢ w .0) ws
+
+kept : (m : List ℕ) (ws : List Write) (a : ℕ) → Off a ws → getD (written m ws) a 0 ≡ getD m a 0
+kept m [] a h = refl
+kept m (w ∷ ws) a h = kept (set m (w .0) (w .1)) ws a (h .1) ∙ getD-set-other m (w .0) a (w .1) 0 (h .0)
+
+wrote : (m : List ℕ) (vs : List Write) (a x : ℕ) (ws : List Write) → a < length m → Off a ws → getD (written m (vs ++ ((a, x) ∷ ws))) a 0 ≡ x
+wrote m [] a x ws l h = kept (set m a x) ws a h ∙ getD-set-same m a x 0 l
+wrote m (v ∷ vs) a x ws l h = wrote (set m (v .0) (v .1)) vs a x ws (simp length-set l) h
+
+length-written : (m : List ℕ) (ws : List Write) → length (written m ws) ≡ length m
+length-written m [] = refl
+length-written m (w ∷ ws) = length-written (set m (w .0) (w .1)) ws ∙ length-set m (w .0) (w .1)
+
+-- The columns with call c begun: those of the calls before are as they were.
+pub record Begun (m m′ : List ℕ) (c k t n v : ℕ) : Type 0 where
+  pub size : length m′ ≡ length m
+  pub old : (q j : ℕ) → 1 ≤ q → q ≤ 6 → j < c → cell m′ q j ≡ cell m q j
+  pub start-is : startAt m′ c ≡ k
+  pub end-is : endAt m′ c ≡ 0
+  pub answer-is : answerAt m′ c ≡ 0
+  pub thread-is : threadAt m′ c ≡ t
+  pub number-is : numberAt m′ c ≡ n
+  pub value-is : valueAt m′ c ≡ v
+  pub busy-is : busyAt m′ t ≡ suc c
+  pub others : (u : ℕ) → u ≤ 16 → u ≢ t → busyAt m′ u ≡ busyAt m u
+  pub top-is : topOf m′ ≡ max (topOf m) n
+
+module _ (m : List ℕ) (c k t n v : ℕ) (size : length m ≡ 28672) (room : c < 4096) (thread : t ≤ 16) where
+  abbrev w₁ : Write
+  w₁ = (4096 + c, k)
+
+  abbrev w₂ : Write
+  w₂ = (8192 + c, 0)
+
+  abbrev w₃ : Write
+  w₃ = (12288 + c, 0)
+
+  abbrev w₄ : Write
+  w₄ = (16384 + c, t)
+
+  abbrev w₅ : Write
+  w₅ = (20480 + c, n)
+
+  abbrev w₆ : Write
+  w₆ = (24576 + c, v)
+
+  abbrev w₇ : Write
+  w₇ = (t, c + 1)
+
+  abbrev w₈ : Write
+  w₈ = (17, max (topOf m) n)
+
+  abbrev beginning : List Write
+  beginning = w₁ ∷ w₂ ∷ w₃ ∷ w₄ ∷ w₅ ∷ w₆ ∷ w₇ ∷ w₈ ∷ []
+
+  pub begun-is : Begun m (begun m c k t n v) c k t n v
+  unfolding begun
+  begun-is = record {
+    size = length-written m beginning;
+    old = λ q j a b l. kept m beginning (4096 * q + j) (omega arith);
+    start-is = wrote m [] (4096 + c) k (w₂ ∷ w₃ ∷ w₄ ∷ w₅ ∷ w₆ ∷ w₇ ∷ w₈ ∷ []) (omega arith) (omega arith);
+    end-is = wrote m (w₁ ∷ []) (8192 + c) 0 (w₃ ∷ w₄ ∷ w₅ ∷ w₆ ∷ w₇ ∷ w₈ ∷ []) (omega arith) (omega arith);
+    answer-is = wrote m (w₁ ∷ w₂ ∷ []) (12288 + c) 0 (w₄ ∷ w₅ ∷ w₆ ∷ w₇ ∷ w₈ ∷ []) (omega arith) (omega arith);
+    thread-is = wrote m (w₁ ∷ w₂ ∷ w₃ ∷ []) (16384 + c) t (w₅ ∷ w₆ ∷ w₇ ∷ w₈ ∷ []) (omega arith) (omega arith);
+    number-is = wrote m (w₁ ∷ w₂ ∷ w₃ ∷ w₄ ∷ []) (20480 + c) n (w₆ ∷ w₇ ∷ w₈ ∷ []) (omega arith) (omega arith);
+    value-is = wrote m (w₁ ∷ w₂ ∷ w₃ ∷ w₄ ∷ w₅ ∷ []) (24576 + c) v (w₇ ∷ w₈ ∷ []) (omega arith) (omega arith);
+    busy-is = wrote m (w₁ ∷ w₂ ∷ w₃ ∷ w₄ ∷ w₅ ∷ w₆ ∷ []) t (c + 1) (w₈ ∷ []) (omega arith) (omega arith) ∙ add-one c;
+    others = λ u a d. kept m beginning u (omega arith);
+    top-is = wrote m (w₁ ∷ w₂ ∷ w₃ ∷ w₄ ∷ w₅ ∷ w₆ ∷ w₇ ∷ []) 17 (max (topOf m) n) [] (omega arith) tt;
+  }
+
+-- The columns with call i ended: only its end, answer and value have changed.
+pub record Ended (m m′ : List ℕ) (i k t n v : ℕ) : Type 0 where
+  pub size : length m′ ≡ length m
+  pub old : (q j : ℕ) → 1 ≤ q → q ≤ 6 → j < 4096 → j ≢ i → cell m′ q j ≡ cell m q j
+  pub start-is : (j : ℕ) → j < 4096 → startAt m′ j ≡ startAt m j
+  pub thread-is : (j : ℕ) → j < 4096 → threadAt m′ j ≡ threadAt m j
+  pub number-is : (j : ℕ) → j < 4096 → numberAt m′ j ≡ numberAt m j
+  pub end-is : endAt m′ i ≡ k
+  pub answer-is : answerAt m′ i ≡ n
+  pub value-is : valueAt m′ i ≡ v
+  pub busy-is : busyAt m′ t ≡ 0
+  pub others : (u : ℕ) → u ≤ 16 → u ≢ t → busyAt m′ u ≡ busyAt m u
+  pub top-is : topOf m′ ≡ topOf m
+
+module _ (m : List ℕ) (i k t n v : ℕ) (size : length m ≡ 28672) (room : i < 4096) (thread : t ≤ 16) where
+  abbrev u₁ : Write
+  u₁ = (8192 + i, k)
+
+  abbrev u₂ : Write
+  u₂ = (12288 + i, n)
+
+  abbrev u₃ : Write
+  u₃ = (24576 + i, v)
+
+  abbrev u₄ : Write
+  u₄ = (t, 0)
+
+  abbrev ending : List Write
+  ending = u₁ ∷ u₂ ∷ u₃ ∷ u₄ ∷ []
+
+  pub ended-is : Ended m (ended m i k t n v) i k t n v
+  unfolding ended
+  ended-is = record {
+    size = length-written m ending;
+    old = λ q j a b l d. kept m ending (4096 * q + j) (omega arith);
+    start-is = λ j l. kept m ending (4096 + j) (omega arith);
+    thread-is = λ j l. kept m ending (16384 + j) (omega arith);
+    number-is = λ j l. kept m ending (20480 + j) (omega arith);
+    end-is = wrote m [] (8192 + i) k (u₂ ∷ u₃ ∷ u₄ ∷ []) (omega arith) (omega arith);
+    answer-is = wrote m (u₁ ∷ []) (12288 + i) n (u₃ ∷ u₄ ∷ []) (omega arith) (omega arith);
+    value-is = wrote m (u₁ ∷ u₂ ∷ []) (24576 + i) v (u₄ ∷ []) (omega arith) (omega arith);
+    busy-is = wrote m (u₁ ∷ u₂ ∷ u₃ ∷ []) t 0 [] (omega arith) tt;
+    others = λ u a d. kept m ending u (omega arith);
+    top-is = kept m ending 17 (omega arith);
+  }

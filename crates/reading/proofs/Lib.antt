@@ -1,0 +1,9 @@
+pub mod Forms
+pub mod Builds
+pub mod Cells
+pub mod Logic
+pub mod Words
+pub mod Starting
+pub mod Ending
+pub mod Stepping
+pub mod Reading

@@ -1,0 +1,85 @@
+-- What one event does to the working memory.
+use mathlib.Core.Path.{_≡_}
+use mathlib.Core.Logic.{_≢_}
+use mathlib.Core.Bool.{Bool, true, false, _&&_, _||_, cond}
+use mathlib.Core.List.{List}
+use mathlib.Core.Option.{Option, none, some}
+use Prim.Native.Nat.{ℕ, zero, suc, _+_, _≤_, _<_, max}
+use lib.Dec.{eqb}
+use lib.ListN.{set}
+use Rattle.history.specs.Event.{Event, History, enqueueStarted, enqueueEnded, dequeueStarted, gaveItem, gaveEmpty}
+use Rattle.history.specs.Calls.{calls, enter}
+use Rattle.history.specs.Form.{Reading, refused, history, follows, wellFormed}
+use Rattle.reading.specs.declared.Entered.{Entered}
+use Rattle.reading.specs.declared.Entered.the-variants.{Refused, Calls}
+use Rattle.reading.specs.Table.{Table, callsIn, numberAt, valueAt, topOf}
+
+abbrev pub isEvent : Option Event → Bool
+isEvent none = false
+isEvent (some e) = true
+
+-- The events by their last three words: kinds 1 and 3 start a call, the others end one; thread 0 is the consumer.
+abbrev pub startEvent : (thread number value : ℕ) → Event
+startEvent zero n v = dequeueStarted
+startEvent (suc t) n v = enqueueStarted (suc t) n v
+
+abbrev pub endEvent : (thread number value : ℕ) → Event
+endEvent zero zero v = gaveEmpty
+endEvent zero (suc n) v = gaveItem (suc n) v
+endEvent (suc t) n v = enqueueEnded (suc t) n v
+
+-- a dequeue starts with number 0, an enqueue with another
+pub record Starts (thread number : ℕ) : Type 0 where
+  pub thread-fits : thread ≤ 16
+  pub none-if-consumer : thread ≡ 0 → number ≡ 0
+  pub some-if-producer : thread ≢ 0 → number ≢ 0
+
+-- the memory with call c started at event k
+unfoldable pub begun : List ℕ → (c k thread number value : ℕ) → List ℕ
+begun m c k t n v =
+    set
+    (set
+    (set (set (set (set (set (set m (4096 + c) k) (8192 + c) 0) (12288 + c) 0) (16384 + c) t) (20480 + c) n) (24576 + c) v)
+    t
+    (c + 1))
+    17
+    (max (topOf m) n)
+
+-- the memory with call i ended at event k
+unfoldable pub ended : List ℕ → (i k thread number value : ℕ) → List ℕ
+ended m i k t n v = set (set (set (set m (8192 + i) k) (12288 + i) n) (24576 + i) v) t 0
+
+-- Whether an end repeats the number and value of call i; a dequeue has nothing to repeat.
+abbrev pub repeatsAt : (m : List ℕ) (i thread number value : ℕ) → Bool
+repeatsAt m i t n v = eqb t 0 || (eqb (numberAt m i) n && eqb (valueAt m i) v)
+
+-- Whether no call has this number.
+pub record Fresh (m : List ℕ) (c : ℕ) (number : ℕ) (r : Bool) : Type 0 where
+  pub is-new : r ≡ true → number ≢ 0 → (j : ℕ) → j < c → numberAt m j ≢ number
+  pub is-old : r ≡ false → (number ≢ 0) × ((j : ℕ) × (j < c) × (numberAt m j ≡ number))
+
+-- Event e, at place k, is taken in or turned down: r says which, and c′ calls have then been started.
+pub record Enters (k : ℕ) (e : Event) (m : List ℕ) (c : ℕ) (m′ : List ℕ) (c′ : ℕ) (r : Bool) : Type 0 where
+  pub as-formed : r ≡ follows e (callsIn m c)
+  pub table : r ≡ true → Table m′ c′
+  pub entered : r ≡ true → callsIn m′ c′ ≡ enter k e (callsIn m c)
+
+-- The four words of event k are taken in, or refused with 12 or 13.
+pub record Stepped (o : Option Event) (k : ℕ) (m : List ℕ) (c : ℕ) (m′ : List ℕ) (r : Entered) : Type 0 where
+  pub no-event : o ≡ none → r ≡ Refused 12
+  pub an-event :
+      (e : Event) → o ≡ some e
+      → (c′ : ℕ) × (b : Bool) × Enters k e m c m′ c′ b × (c′ ≤ c + 1) × (r ≡ cond b (Calls c′) (Refused 13))
+
+-- The memory holds the calls of the history that the words are read as, at most so many, or the words are refused.
+pub record Holds (reading : Reading) (limit : ℕ) (m : List ℕ) (c : ℕ) : Type 0 where
+  pub read-as : History
+  pub is-read : reading ≡ history read-as
+  pub is-formed : wellFormed read-as ≡ true
+  pub are-calls : callsIn m c ≡ calls read-as
+  pub table : Table m c
+  pub few : c ≤ limit
+
+unfoldable pub Read : Reading → (limit : ℕ) → (m : List ℕ) → Entered → Type 0
+Read reading limit m (Refused n) = reading ≡ refused n
+Read reading limit m (Calls c) = Holds reading limit m c
