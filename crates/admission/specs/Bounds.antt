@@ -154,33 +154,6 @@ by-entries q (suc n) =
     three : (a b c : Bool) → a ≡ (b && c) → {x y w x′ y′ w′ : Bool} → x ≡ x′ → y ≡ y′ → w ≡ w′ → (a && x && y && w) ≡ (b && (c && (x′ && (y′ && w′))))
     three a b c e f g h = rw (e, f, g, h) (simp and-assoc)
 
-module _ (z : Sizes) (m b : List ℕ) (is : Bounded z b) (r at : ℕ) (h : r < z .N) (e : at ≡ firstRecord z + r * recordWords z) where
-  -- a word of the record, where it lies
-  word : (c : Cell) → There z c → (j : ℕ) → at + j ≡ address z c → reader z m c ≡ getD m (at + j) 0
-  word c t j i = word-at z m c t ∙ ap (λ (x : ℕ). getD m x 0) (sym i)
-
-  -- Record r is in range exactly when each of its words is at most its bound.
-  pub record-test : ((j : ℕ) → getD m j 0 ≤ mostWord) → recordInRange z (reader z m) r ≡ every (3 * z .B + 4) (wordTest m b at)
-  record-test fit = ap₂ _&&_ parts (every-same (z .B) _ _ entries) ∙ sym (by-entries (wordTest m b at) (z .B))
-    where
-      q : ℕ → Bool
-      q = wordTest m b at
-
-      part-bound : (k x : ℕ) → k < 4 → getD b k 0 ≡ x → leb (reader z m (part r k)) x ≡ q k
-      part-bound k x l p = ap₂ leb (word (part r k) (h, l) k (omega arith)) (sym p)
-
-      parts : ofSorts z (λ k. reader z m (part r k)) 0 partSorts ≡ (q 0 && (q 1 && (q 2 && q 3)))
-      parts =
-          ap₂ _&&_ (part-bound 0 mostPlace (omega arith) (is .of-place))
-          (ap₂ _&&_ (part-bound 1 (z .N) (omega arith) (is .of-next))
-          (ap₂ _&&_ (part-bound 2 (z .N) (omega arith) (is .of-prev)) (and-true _ ∙ part-bound 3 3 (omega arith) (is .of-use))))
-
-      entries : (i : ℕ) → i < z .B → ofSorts z (λ k. reader z m (entry r i k)) 0 entrySorts ≡ (q (4 + 3 * i) && (q (5 + 3 * i) && q (6 + 3 * i)))
-      entries i l =
-          ap₂ _&&_ (ap₂ leb (word (entry r i 0) (h, l, omega arith) (4 + 3 * i) (omega arith)) (sym (is .of-state i l)))
-          (ap₂ _&&_ (ap₂ leb (word (entry r i 1) (h, l, omega arith) (5 + 3 * i) (omega arith)) (sym (is .of-number i l)))
-          (sym (rw (is .of-value i l) (le-leb (getD m (at + (6 + 3 * i)) 0) mostWord (fit (at + (6 + 3 * i)))))))
-
 -- Record r, which begins at word `at`, is in range exactly when its parts and each entry's state and call number are; a value may
 -- be any word.
 pub words-test : (z : Sizes) (m : List ℕ) (r at : ℕ) → r < z .N → at ≡ firstRecord z + r * recordWords z
@@ -202,6 +175,29 @@ words-test z m r at h e = ap₂ _&&_ parts (every-same (z .B) _ _ entries)
     entries i l =
         ap₂ _&&_ (word (entry r i 0) (h, l, omega arith) (at + 4 + 3 * i + 0) (omega arith) 2)
         (ap (λ x. x && true) (word (entry r i 1) (h, l, omega arith) (at + 4 + 3 * i + 1) (omega arith) (z .M)))
+
+-- A record's words one by one are a row of words, each at most its bound.
+module _ (z : Sizes) (m b : List ℕ) (is : Bounded z b) (r at : ℕ) (h : r < z .N) (e : at ≡ firstRecord z + r * recordWords z) where
+  pub record-test : ((j : ℕ) → getD m j 0 ≤ mostWord) → recordInRange z (reader z m) r ≡ every (3 * z .B + 4) (wordTest m b at)
+  record-test fit = words-test z m r at h e ∙ ap₂ _&&_ parts (every-same (z .B) _ _ entries) ∙ sym (by-entries q (z .B))
+    where
+      q : ℕ → Bool
+      q = wordTest m b at
+
+      bound : (j k x : ℕ) → j ≡ at + k → getD b k 0 ≡ x → leb (getD m j 0) x ≡ q k
+      bound j k x i p = ap₂ leb (ap (λ (y : ℕ). getD m y 0) i) (sym p)
+
+      parts : atMost (from m at) 0 (mostPlace ∷ z .N ∷ z .N ∷ 3 ∷ []) ≡ (q 0 && (q 1 && (q 2 && q 3)))
+      parts =
+          ap₂ _&&_ (bound (at + 0) 0 mostPlace refl (is .of-place))
+          (ap₂ _&&_ (bound (at + 1) 1 (z .N) refl (is .of-next))
+          (ap₂ _&&_ (bound (at + 2) 2 (z .N) refl (is .of-prev)) (and-true _ ∙ bound (at + 3) 3 3 refl (is .of-use))))
+
+      entries : (i : ℕ) → i < z .B → atMost (from m (at + 4 + 3 * i)) 0 (2 ∷ z .M ∷ []) ≡ (q (4 + 3 * i) && (q (5 + 3 * i) && q (6 + 3 * i)))
+      entries i l =
+          ap₂ _&&_ (bound (at + 4 + 3 * i + 0) (4 + 3 * i) 2 (omega arith) (is .of-state i l))
+          (ap₂ _&&_ (bound (at + 4 + 3 * i + 1) (5 + 3 * i) (z .M) (omega arith) (is .of-number i l))
+          (sym (rw (is .of-value i l) (le-leb (getD m (at + (6 + 3 * i)) 0) mostWord (fit (at + (6 + 3 * i)))))))
 
 -- two rows at a time
 pub every-both : (n : ℕ) (p q : ℕ → Bool) → every n (λ i. p i && q i) ≡ (every n p && every n q)
