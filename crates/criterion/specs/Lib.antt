@@ -21,4 +21,8 @@ pub mod Remaining
 pub mod Marks
 pub mod Judged
 pub mod Criterion
+pub mod Late
+pub mod UnderWay
+pub mod LateFacts
+pub mod Settle
 pub mod Runs
