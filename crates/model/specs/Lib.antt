@@ -10,6 +10,7 @@ pub mod Positions
 pub mod Enqueues
 pub mod Dequeues
 pub mod Scanning
+pub mod Settling
 pub mod Items
 pub mod Count
 pub mod Bounds
