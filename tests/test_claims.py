@@ -1,59 +1,188 @@
-"""docs/CLAIMS.md and docs/PROOF.md against the repository: what they cite is there, what they count is so."""
+"""docs/CLAIMS.md against the repository: each name is declared in the file that it is cited with, each file is there, each count is so, each
+must-fail edit is named, and what the cited statements rest on is listed under "What must be believed". The other pages: each file is there.
 
+A citation is a name, or several, and its file: `name` (`path`), `name`, `path` or `name` of `path`. A path without its beginning is taken
+to stand in the crate, or the folder, of the path before it. A name without a file must be cited with one elsewhere on the page."""
+
+import collections
 import glob
 import os
-import pathlib
 import re
 import unittest
 
-ROOT = pathlib.Path(__file__).resolve().parent.parent
-PATH = re.compile(r'`((?:crates|tests|docs|include|host)/[^`]*)`')
+from antt_files import ROOT, declared, rests_on, source
+
+PAGES = ('README.md', 'docs/CLAIMS.md', 'docs/DECISIONS.md', 'docs/PROOF.md', 'docs/STEPS.md', 'docs/LAYOUT.md', 'docs/CHANGES.md')
+TOP = ('crates', 'tests', 'docs', 'include', 'host')
+BESIDE = re.compile(r',? (?:and |or |of |in |\()?')
+# what is quoted and is no name: commands, what the programs print, words of the language and of C, libraries of the kit
+QUOTED = re.compile(
+    r'(?:rt|wc|make|ulimit)(?: .*)?|\.ci/run|(?:bad line|too long|unreadable|explained|unexplained|refused|going|end|empty|item|ok)(?: \w+)*'
+    r'|requires|ensures|main|memset|io|libc|libc::\w+|[≡<≤]|length|take|drop|sets'
+)
+# a computation that a theorem on the page shows to be a definition that is listed: `verdict`
+SHOWN = {'explains'}
+BELIEVED, ASSUMED, REFUSED = '## What must be believed', '## What is assumed and not proved', '## Wrong programs that are refused'
 
 
-def page(name):
-    return (ROOT / 'docs' / name).read_text(encoding='utf-8')
+def page(name='docs/CLAIMS.md'):
+    return (ROOT / name).read_text(encoding='utf-8')
 
 
 def expand(path):
-    """The files that a path with {a,b} and * names."""
-    found = re.match(r'(.*)\{(.*)\}(.*)', path)
+    """The files that a path with {a,b} and * names, and the names that lead nowhere."""
+    found = re.fullmatch(r'(.*)\{(.*)\}(.*)', path)
     names = [found[1] + name + found[3] for name in found[2].split(',')] if found else [path]
     return [file for name in names for file in (sorted(glob.glob(name, root_dir=ROOT)) or [name])]
 
 
+def is_path(token):
+    return '/' in token.replace('.ci/run', '') or re.search(r'\.(?:antt|rt|edit|py|md|h|c)$', token) is not None
+
+
+def whole(path, before):
+    """A path from the top; one without its beginning stands in the crate or the folder of the path before it."""
+    if path.split('/')[0] in TOP or not before:
+        return path
+    return '/'.join([*before.split('/')[:2], path]) if '/' in path else os.path.join(os.path.dirname(before), path)
+
+
+def units(text):
+    """The rows of the tables and the paragraphs."""
+    text = re.sub(r'^(\|.*)$', r'\n\1\n', re.sub(r'```.*?```', '', text, flags=re.S), flags=re.M)
+    return [' '.join(unit.split()) for unit in re.split(r'\n\s*\n', text)]
+
+
+def read(unit):
+    """The (names, path) pairs of a row or paragraph, its paths, and the names that stand without one."""
+    pairs, paths, alone, waiting, end, before = [], [], [], [], 0, ''
+    for found in re.finditer(r'`([^`]*)`', unit):
+        token = found[1]
+        if not BESIDE.fullmatch(unit[end : found.start()]):
+            alone, waiting = alone + waiting, []
+        end = found.end()
+        if is_path(token):
+            before = whole(token, before)
+            paths.append(before)
+            pairs += [(waiting, before)] if waiting else []
+            waiting = []
+        elif not QUOTED.fullmatch(token):
+            waiting = waiting + token.split()
+    return pairs, paths, alone + waiting
+
+
+def cited(text):
+    """The (name, file) pairs of a page."""
+    return [(name, file) for unit in units(text) for names, path in read(unit)[0] for name in names for file in expand(path)]
+
+
+def missing_files(text):
+    """The paths of a page, quoted or not, that lead nowhere."""
+    paths = [path for unit in units(text) for path in read(unit)[1]]
+    paths += re.findall(rf'(?<![\w/`])(?:{"|".join(TOP)})/[\w./-]*\w', text)
+    return sorted({file for path in paths for file in expand(path) if not (ROOT / file).exists()})
+
+
+def wrong_names(text):
+    """The names that their file does not declare, and those that are cited with no file on the whole page."""
+    wrong = [f'{name} is not declared in {file}' for name, file in cited(text) if (ROOT / file).is_file() and name not in source(file).blocks]
+    known = {name for name, file in cited(text)} | {path.name for path in (ROOT / 'crates').iterdir()}
+    return wrong + [f'{name} is cited with no file' for unit in units(text) for name in read(unit)[2] if name not in known]
+
+
+def beliefs(text):
+    """Each row of the two tables of what must be believed: its (name, file) pairs, its whole files, its number of lines."""
+    rows = re.findall(r'^\| [^|]* \| ([^|]*) \| (\d+) \|$', text.split(BELIEVED)[1].split(ASSUMED)[0], re.M)
+    return [(cited(files), [] if cited(files) else [file for path in read(files)[1] for file in expand(path)], int(lines)) for files, lines in rows]
+
+
+def wrong_counts(text):
+    """The rows whose number of lines is another."""
+    wrong = []
+    for names, files, lines in beliefs(text):
+        if any(not (ROOT / file).is_file() for file in files + [file for _, file in names]):
+            continue
+        blocks = {(file, declared(block)[0]): len(block) for name, file in names if (block := source(file).blocks.get(name))}
+        count = sum(blocks.values()) + sum(len(source(file).text.splitlines()) for file in files)
+        wrong += [f'{count} lines, not {lines}: {", ".join(files or [name for name, _ in names])}'] if count != lines else []
+    return wrong
+
+
+def unlisted(text):
+    """The definitions that a statement cited on the page rests on and that no table of what must be believed has."""
+    files = {file for _, found, _ in beliefs(text) for file in found}
+    names = {pair for found, _, _ in beliefs(text) for pair in found}
+    rests = collections.defaultdict(set)
+    for name, file in cited(text):
+        if (ROOT / file).is_file() and name in source(file).blocks and name not in SHOWN and file not in files:
+            for other, definition in rests_on(file, name, SHOWN):
+                rests[definition, other].add(name)
+    return [
+        f'{definition} of {file}, on which {", ".join(sorted(rests[definition, file]))} rests, is not listed'
+        for definition, file in sorted(rests)
+        if file not in files and (definition, file) not in names
+    ]
+
+
+def wrong_edits(text):
+    """The must-fail edits that the page leaves out, and those that it names and that are not there."""
+    named = {path for unit in units(text.split(REFUSED)[1]) for path in read(unit)[1] if path.endswith('.edit')}
+    return sorted(named ^ set(glob.glob('crates/*/must-fail/*.edit', root_dir=ROOT)))
+
+
+def faults(text):
+    return missing_files(text) + wrong_names(text) + wrong_counts(text) + unlisted(text) + wrong_edits(text)
+
+
 class Claims(unittest.TestCase):
-    def test_files_are_there(self):
+    maxDiff = None
+
+    def test_claims(self):
+        """A citation, a count or a list of CLAIMS that is not so."""
+        self.assertEqual(faults(page()), [])
+        self.assertGreater(len(cited(page())), 40)
+        self.assertGreater(len(beliefs(page())), 10)
+
+    def test_files_of_the_other_pages(self):
         """A page that names a file that is not there."""
-        for name in ('CLAIMS.md', 'DECISIONS.md', 'PROOF.md', 'STEPS.md', 'LAYOUT.md', 'CHANGES.md'):
-            for path in PATH.findall(page(name)):
-                for file in expand(path):
-                    self.assertTrue((ROOT / file).exists(), f'{name}: {file}')
+        for name in PAGES:
+            self.assertEqual([path for path in missing_files(page(name)) if not glob.glob(f'crates/**/{path}', root_dir=ROOT, recursive=True)], [], name)
 
-    def test_names_are_there(self):
-        """A definition, theorem or function that CLAIMS names and that stands in no crate."""
-        text = '\n'.join((ROOT / file).read_text(encoding='utf-8') for file in glob.glob('crates/**/*.antt', root_dir=ROOT, recursive=True))
-        text += '\n'.join((ROOT / file).read_text(encoding='utf-8') for file in glob.glob('crates/**/*.rt', root_dir=ROOT, recursive=True))
-        known = set(re.findall(r'[^\s(){}\[\];,.:]+', text))
-        words = {'rt', 'ci', 'requires', 'wc', 'io', 'libc', 'main', 'explained', 'unexplained'}
-        for name in re.findall(r'`([A-Za-z][A-Za-z0-9_-]*)`', page('CLAIMS.md')):
-            self.assertTrue(name in known or name in words or (ROOT / 'crates' / name).is_dir(), name)
 
-    def test_line_counts(self):
-        """A count of lines to believe that is not so."""
-        rows = re.findall(r'^\| [^|]* \| ([^|]*) \| (\d+) \|$', page('CLAIMS.md'), re.M)
-        self.assertGreaterEqual(len(rows), 5)
-        for files, lines in rows:
-            count = sum(len((ROOT / file).read_text(encoding='utf-8').splitlines()) for path in PATH.findall(files) for file in expand(path))
-            self.assertEqual(count, int(lines), files)
+class Amended(unittest.TestCase):
+    """That the checks above can fail: each on a page that was made wrong in one place."""
 
-    def test_every_edit_is_named(self):
-        """A must-fail edit that CLAIMS leaves out, or one that it names and that is not there."""
-        table = page('CLAIMS.md').split('## Wrong programs that are refused')[1]
-        named, folder = set(), ''
-        for name in re.findall(r'`([^`]*\.edit)`', table):
-            folder = os.path.dirname(name) or folder
-            named.add(os.path.join(folder, os.path.basename(name)))
-        self.assertEqual(named, set(glob.glob('crates/*/must-fail/*.edit', root_dir=ROOT)))
+    def assert_found(self, old, new, fault):
+        text = page()
+        self.assertIn(old, text)
+        self.assertIn(fault, '\n'.join(faults(text.replace(old, new, 1))))
+
+    def test_misspelt_files(self):
+        self.assert_found('`crates/rules/specs/Range.antt`', '`crates/rules/specs/Rnage.antt`', 'crates/rules/specs/Rnage.antt')
+        self.assert_found('`crates/rules/specs/Range.antt`', '`crate/rules/specs/Range.antt`', 'crate/rules/specs/Range.antt')
+        self.assert_found('Sizes,Cell,Range', 'Sizes,Cel,Range', 'crates/rules/specs/Cel.antt')
+        self.assert_found('`Consumer.antt`', '`Consume.antt`', 'crates/rules/specs/Consume.antt')
+        self.assert_found('tests/intake_model.py', 'tests/intake_modle.py', 'tests/intake_modle.py')
+        self.assert_found('everything_explained.edit', 'everything_explane.edit', 'crates/judge/must-fail/everything_explane.edit')
+
+    def test_misspelt_names(self):
+        self.assert_found('`Demand-3`, `crates', '`Demand-4`, `crates', 'Demand-4 is not declared in crates/ordering/specs/Demand.antt')
+        self.assert_found('`lowest-free-picks`', '`lowest-free-pick`', 'lowest-free-pick is not declared in crates/rules/specs/Pick.antt')
+        self.assert_found('`Demand-3`;', '`Demand-4`;', 'Demand-4 is cited with no file')
+
+    def test_moved_names(self):
+        self.assert_found('`demand-3`, `crates/ordering/specs/Theorem.antt`', '`demand-3`, `crates/ordering/specs/Demand.antt`', 'demand-3 is not declared in')
+        self.assert_found('`admit`, `crates', '`last-line`, `crates', 'last-line is not declared in crates/admission/src/lib.rt')
+
+    def test_wrong_counts(self):
+        row = re.search(r'^\| demand 3 \|.* (\d+) \|$', page(), re.M)
+        self.assert_found(row[0], row[0].replace(row[1], str(int(row[1]) + 1)), f'{row[1]} lines, not {int(row[1]) + 1}')
+
+    def test_unlisted_definitions(self):
+        self.assert_found('`LastLine`', '`Ends`', 'LastLine of crates/session/specs/LastLine.antt, on which last-line rests, is not listed')
+
+    def test_edits_left_out(self):
+        self.assert_found('`tail_not_read.edit`'.replace('`', '/', 1), '/', 'crates/dequeue/must-fail/')
 
 
 if __name__ == '__main__':
