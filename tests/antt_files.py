@@ -58,14 +58,22 @@ def file_of(crate, module):
     return None if module.startswith('declared') else f'crates/{crate}/specs/{module.replace(".", "/")}.antt'
 
 
-def statement(file, name):
+def code(path, name):
+    return [line for line in source(path).blocks[name] if not re.match(r'\s*--', line)]
+
+
+def is_definition(path, name):
+    """Whether a declaration is a definition, and not a theorem or code."""
+    return path.endswith('.antt') and not re.match(r'(?:pub )?[^\s:]+ :', code(path, name)[0])
+
+
+def statement(path, name):
     """What a declaration says: a function's clauses, a theorem's type, a definition whole."""
-    lines = [line for line in file.blocks[name] if not re.match(r'\s*--', line)]
-    text = '\n'.join(lines)
-    if file.path.endswith('.rt'):
-        return ' '.join(re.findall(r'(?:ensures|requires) \{(.*)\}', text))
-    if not re.match(r'(?:pub )?[^\s:]+ :', text):
-        return text
+    lines = code(path, name)
+    if path.endswith('.rt'):
+        return ' '.join(re.findall(r'(?:ensures|requires) \{(.*)\}', '\n'.join(lines)))
+    if is_definition(path, name):
+        return '\n'.join(lines)
     ends = [n for n, line in enumerate(lines) if n and not line.startswith(' ')]
     return '\n'.join(lines[: ends[0]] if ends else lines).split(' :', 1)[1]
 
@@ -76,7 +84,7 @@ def rests_on(path, name, shut=()):
     while todo:
         at, word = todo.pop()
         file = source(at)
-        for token in re.split(r'[\s(){}\[\],;|]+', statement(file, word)):
+        for token in re.split(r'[\s(){}\[\],;|]+', statement(at, word)):
             token = token.lstrip('λ').rstrip('.')
             module, _, last = token.rpartition('.')
             if whole := MODULE.fullmatch(module):

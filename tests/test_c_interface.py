@@ -156,7 +156,7 @@ class Stack(unittest.TestCase):
     @classmethod
     def setUpClass(cls):
         page = (ROOT / 'docs' / 'CLAIMS.md').read_text(encoding='utf-8')
-        rows = re.findall(r'^\| (?:the program |a call of )`?(\w+)`? \| ([\d,]+) KB \|', page, re.M)
+        rows = re.findall(r'^\| (?:the program|a call of) `(\w+)`[^|]* \| ([\d,]+) KB \|', page, re.M)
         cls.most = {name: 1024 * int(number.replace(',', '')) for name, number in rows}
 
     def test_calls(self):

@@ -10,15 +10,15 @@ import os
 import re
 import unittest
 
-from antt_files import ROOT, declared, rests_on, source
+from antt_files import ROOT, declared, is_definition, rests_on, source
 
 PAGES = ('README.md', 'docs/CLAIMS.md', 'docs/DECISIONS.md', 'docs/PROOF.md', 'docs/STEPS.md', 'docs/LAYOUT.md', 'docs/CHANGES.md')
 TOP = ('crates', 'tests', 'docs', 'include', 'host')
 BESIDE = re.compile(r',? (?:and |or |of |in |\()?')
-# what is quoted and is no name: commands, what the programs print, words of the language and of C, libraries of the kit
+# what is quoted and is no name: commands, what the tools and the programs print, words of the language, libraries
 QUOTED = re.compile(
-    r'(?:rt|wc|make|ulimit)(?: .*)?|\.ci/run|(?:bad line|too long|unreadable|explained|unexplained|refused|going|end|empty|item|ok)(?: \w+)*'
-    r'|requires|ensures|main|memset|io|libc|libc::\w+|[≡<≤]|length|take|drop|sets'
+    r'(?:rt|wc|make)(?: .*)?|\.ci/run|rattle-kit-.*|[\w-]+=\S+|requires|main|memset|io|libc|libc::\w+|[≡<]|length|take'
+    r'|(?:bad line|too long|unreadable|explained|unexplained|refused|going|end|empty|item|ok)(?: \w+)*'
 )
 # a computation that a theorem on the page shows to be a definition that is listed: `verdict`
 SHOWN = {'explains'}
@@ -37,7 +37,7 @@ def expand(path):
 
 
 def is_path(token):
-    return '/' in token.replace('.ci/run', '') or re.search(r'\.(?:antt|rt|edit|py|md|h|c)$', token) is not None
+    return not QUOTED.fullmatch(token) and ('/' in token or re.search(r'\.(?:antt|rt|edit|py|md|h|c)$', token) is not None)
 
 
 def whole(path, before):
@@ -76,10 +76,14 @@ def cited(text):
     return [(name, file) for unit in units(text) for names, path in read(unit)[0] for name in names for file in expand(path)]
 
 
+def bare_paths(text):
+    """The paths of a page that stand without quotes."""
+    return re.findall(rf'(?<![\w/`])(?:{"|".join(TOP)})/[\w./-]*\w', text)
+
+
 def missing_files(text):
-    """The paths of a page, quoted or not, that lead nowhere."""
-    paths = [path for unit in units(text) for path in read(unit)[1]]
-    paths += re.findall(rf'(?<![\w/`])(?:{"|".join(TOP)})/[\w./-]*\w', text)
+    """The paths of the page, quoted or not, that lead nowhere."""
+    paths = [path for unit in units(text) for path in read(unit)[1]] + bare_paths(text)
     return sorted({file for path in paths for file in expand(path) if not (ROOT / file).exists()})
 
 
@@ -115,7 +119,7 @@ def unlisted(text):
     rests = collections.defaultdict(set)
     for name, file in cited(text):
         if (ROOT / file).is_file() and name in source(file).blocks and name not in SHOWN and file not in files:
-            for other, definition in rests_on(file, name, SHOWN):
+            for other, definition in rests_on(file, name, SHOWN) | ({(file, name)} if is_definition(file, name) else set()):
                 rests[definition, other].add(name)
     return [
         f'{definition} of {file}, on which {", ".join(sorted(rests[definition, file]))} rests, is not listed'
@@ -144,9 +148,12 @@ class Claims(unittest.TestCase):
         self.assertGreater(len(beliefs(page())), 10)
 
     def test_files_of_the_other_pages(self):
-        """A page that names a file that is not there."""
+        """A page that names a file that is not there. Here a file of a crate may be named by its last parts alone."""
         for name in PAGES:
-            self.assertEqual([path for path in missing_files(page(name)) if not glob.glob(f'crates/**/{path}', root_dir=ROOT, recursive=True)], [], name)
+            text = page(name)
+            paths = bare_paths(text) + [token for unit in units(text) for token in re.findall(r'`([^`]*\.\w+)`', unit) if is_path(token)]
+            for file in (file for path in paths for file in expand(path)):
+                self.assertTrue((ROOT / file).exists() or glob.glob(f'crates/**/{file}', root_dir=ROOT, recursive=True), f'{name}: {file}')
 
 
 class Amended(unittest.TestCase):

@@ -24,12 +24,12 @@ static const struct Contestant *const contestants[] = {&engine CONTESTANTS}; /* 
 static const struct Pass *const passes[] = {PASSES};
 #undef X
 
-enum { CALLED = sizeof contestants / sizeof contestants[0], PASSED = sizeof passes / sizeof passes[0], STORES = 3, ROUNDS = 9 };
+enum { CALLED = sizeof contestants / sizeof contestants[0], PASSED = sizeof passes / sizeof passes[0], STORES = 3, ROUNDS = 30 };
 
 static const struct Size {
     const char *name;
     uint32_t entries, records, producers, calls;
-} sizes[STORES] = {{"smallest", 2, 2, 1, 400000}, {"middle", 16, 16, 8, 100000}, {"largest", 64, 64, 16, 20000}};
+} sizes[STORES] = {{"smallest", 2, 2, 1, 100000}, {"middle", 16, 16, 8, 25000}, {"largest", 64, 64, 16, 6000}};
 
 static uint64_t state;
 static uint32_t draw(uint32_t below) {
