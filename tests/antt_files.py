@@ -78,7 +78,8 @@ def statement(path, name):
     return '\n'.join(lines[: ends[0]] if ends else lines).split(' :', 1)[1]
 
 
-def rests_on(path, name, shut=()):
+@functools.cache
+def rests_on(path, name, shut=frozenset()):
     """The (file, definition) pairs that a statement rests on, itself left out, not through the names that are shut."""
     found, todo = set(), [(path, name)]
     while todo:

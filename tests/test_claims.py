@@ -21,7 +21,7 @@ QUOTED = re.compile(
     r'|(?:bad line|too long|unreadable|explained|unexplained|refused|going|end|empty|item|ok)(?: \w+)*'
 )
 # a computation that a theorem on the page shows to be a definition that is listed: `verdict`
-SHOWN = {'explains'}
+SHOWN = frozenset({'explains'})
 BELIEVED, ASSUMED, REFUSED = '## What must be believed', '## What is assumed and not proved', '## Wrong programs that are refused'
 
 
@@ -159,37 +159,46 @@ class Claims(unittest.TestCase):
 class Amended(unittest.TestCase):
     """That the checks above can fail: each on a page that was made wrong in one place."""
 
+    @classmethod
+    def setUpClass(cls):
+        cls.faults = '\n'.join(faults(page()))
+
     def assert_found(self, old, new, fault):
-        text = page()
-        self.assertIn(old, text)
-        self.assertIn(fault, '\n'.join(faults(text.replace(old, new, 1))))
+        """A page in which the first place of a pattern was amended has a fault that it did not have."""
+        amended = re.sub(old, new, page(), count=1)
+        self.assertNotEqual(amended, page())
+        self.assertNotIn(fault, self.faults)
+        self.assertIn(fault, '\n'.join(faults(amended)))
 
     def test_misspelt_files(self):
         self.assert_found('`crates/rules/specs/Range.antt`', '`crates/rules/specs/Rnage.antt`', 'crates/rules/specs/Rnage.antt')
         self.assert_found('`crates/rules/specs/Range.antt`', '`crate/rules/specs/Range.antt`', 'crate/rules/specs/Range.antt')
-        self.assert_found('Sizes,Cell,Range', 'Sizes,Cel,Range', 'crates/rules/specs/Cel.antt')
         self.assert_found('`Consumer.antt`', '`Consume.antt`', 'crates/rules/specs/Consume.antt')
+        self.assert_found('Sizes,Cell,Range', 'Sizes,Cel,Range', 'crates/rules/specs/Cel.antt')
         self.assert_found('tests/intake_model.py', 'tests/intake_modle.py', 'tests/intake_modle.py')
-        self.assert_found('everything_explained.edit', 'everything_explane.edit', 'crates/judge/must-fail/everything_explane.edit')
 
     def test_misspelt_names(self):
-        self.assert_found('`Demand-3`, `crates', '`Demand-4`, `crates', 'Demand-4 is not declared in crates/ordering/specs/Demand.antt')
+        self.assert_found('`demand-3`, `crates', '`demand-4`, `crates', 'demand-4 is not declared in crates/ordering/specs/Theorem.antt')
         self.assert_found('`lowest-free-picks`', '`lowest-free-pick`', 'lowest-free-pick is not declared in crates/rules/specs/Pick.antt')
         self.assert_found('`Demand-3`;', '`Demand-4`;', 'Demand-4 is cited with no file')
 
     def test_moved_names(self):
-        self.assert_found('`demand-3`, `crates/ordering/specs/Theorem.antt`', '`demand-3`, `crates/ordering/specs/Demand.antt`', 'demand-3 is not declared in')
-        self.assert_found('`admit`, `crates', '`last-line`, `crates', 'last-line is not declared in crates/admission/src/lib.rt')
+        """A name beside the file of another row."""
+        self.assert_found('(?<=`demand-3`, `crates/ordering/specs/)Theorem', 'Demand', 'demand-3 is not declared in crates/ordering/specs/Demand.antt')
+        self.assert_found('`admit`(?=, `crates)', '`last-line`', 'last-line is not declared in crates/admission/src/lib.rt')
 
     def test_wrong_counts(self):
-        row = re.search(r'^\| demand 3 \|.* (\d+) \|$', page(), re.M)
-        self.assert_found(row[0], row[0].replace(row[1], str(int(row[1]) + 1)), f'{row[1]} lines, not {int(row[1]) + 1}')
+        self.assert_found(r'(?<=\{Demand,Choice\}\.antt` \| )\d+', '1', 'lines, not 1: crates/ordering/specs/Demand.antt')
+        self.assert_found(r'(?<=specs/Refusal.antt`\) \| )\d+', '1', 'lines, not 1: refusal')
 
     def test_unlisted_definitions(self):
-        self.assert_found('`LastLine`', '`Ends`', 'LastLine of crates/session/specs/LastLine.antt, on which last-line rests, is not listed')
+        self.assert_found('`Ends`, `LastLine`', '`Ends`', 'LastLine of crates/session/specs/LastLine.antt, on which last-line rests, is not listed')
 
-    def test_edits_left_out(self):
-        self.assert_found('`tail_not_read.edit`'.replace('`', '/', 1), '/', 'crates/dequeue/must-fail/')
+    def test_edits(self):
+        """An edit that is left out, and one that is misspelt."""
+        name = re.search(r', `(\w+)\.edit`', page())[1]
+        self.assert_found(f', `{name}.edit`', '', f'{name}.edit')
+        self.assert_found(f', `{name}.edit`', f', `{name}_.edit`', f'{name}_.edit')
 
 
 if __name__ == '__main__':
