@@ -122,32 +122,35 @@ class Guard(unittest.TestCase):
 
     def test_runs(self):
         """A host that keeps to the guard and meets 8. The same hosts without it do."""
-        self.assertEqual(self.refusals(guarded=True), 0)
-        self.assertGreater(self.refusals(guarded=False), 0)
+        claims, met = self.claims(guarded=True)
+        self.assertGreater(claims, 1000)
+        self.assertEqual(met, 0)
+        self.assertGreater(self.claims(guarded=False)[1], 0)
 
-    def refusals(self, guarded):
-        """How many steps of random runs with few records meet 8, threads stopped for long at random."""
-        rng, library, met = random.Random(34), load(), 0
-        for _ in range(60):
-            P, B = rng.randint(1, 4), rng.randint(2, 4)
-            N = self.library.least_records(B, P) + rng.randint(0, 2)
+    def claims(self, guarded):
+        """How many steps of random runs with few records are in phase 4, and how many of them meet 8; threads stop for long at random."""
+        rng, library, claims, met = random.Random(34), load(), 0, 0
+        for _ in range(150):
+            P, B = rng.randint(2, 8), rng.randint(2, 3)
+            N = self.library.least_records(B, P) + rng.randint(0, 12)
             engine = Engine(library, [0] * im.needed_words(B, N, P))
             self.assertEqual(engine.open((B, N, P, 5000)), 0)
             stopped = [0] * (P + 1)
-            for _ in range(3000):
+            for _ in range(4000):
                 t = rng.randint(0, P) if rng.random() < 0.8 else rng.randint(1, P)
                 if stopped[t]:
                     stopped[t] -= 1
                     continue
                 if rng.random() < 0.02:
                     stopped[t] = rng.randrange(300)
-                if engine.store[16 + 8 * t]:
+                if phase := engine.store[16 + 8 * t]:
+                    claims += t > 0 and phase == 4
                     met += engine.call(('s', t)) == 8
                 elif t == 0:
                     engine.call(('d',))
                 elif not guarded or self.library.has_room(engine.store):
                     engine.call(('e', t, 7))
-        return met
+        return claims, met
 
 
 class Stack(unittest.TestCase):
