@@ -153,6 +153,23 @@ class Guard(unittest.TestCase):
         return claims, met
 
 
+class Damage(unittest.TestCase):
+    def test_a_circle(self):
+        """The header's warning: on a store in range that the engine has not written a call may go on for ever. Here record 0 is next to
+        itself, all its entries are handled, and the cursor stands at its end."""
+        B, N, P, M = 2, 2, 1, 9
+        words = [0] * im.needed_words(B, N, P)
+        im.open_store(words, B, N, P, M)
+        first = 16 + 8 * (P + 1)
+        words[6], words[7] = 5, 2
+        words[16:19] = 3, 1, 2
+        words[first + 1] = 1
+        words[first + 4] = words[first + 7] = 2
+        engine = Engine(load(), words)
+        for _ in range(10000):
+            self.assertEqual(engine.call(('s', 0)), NUMBERS['INTAKE_GOING'])
+
+
 class Stack(unittest.TestCase):
     """What docs/CLAIMS.md says of the stack, in KB."""
 
