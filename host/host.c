@@ -89,6 +89,9 @@ int main(int argc, char **argv) {
             total++;
             break;
         }
+        case INTAKE_REFUSED_NONE_FREE:
+            fail("no record free, although there was room when the enqueue started; producer", thread);
+            break;
         default:
             fail("step", answer);
         }

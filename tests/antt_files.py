@@ -99,8 +99,9 @@ def rests_on(path, name, shut=frozenset()):
             else:
                 continue
             if target[0] and target[1] not in shut:
-                target = target[0], declared(source(target[0]).blocks[target[1]])[0]
+                block = source(target[0]).blocks.get(target[1])
+                target = target[0], declared(block)[0] if block else target[1]
                 if target not in found and target != (path, name):
                     found.add(target)
-                    todo.append(target)
+                    todo += [target] if block else []
     return found

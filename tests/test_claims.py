@@ -171,28 +171,29 @@ class Amended(unittest.TestCase):
         self.assertIn(fault, '\n'.join(faults(amended)))
 
     def test_misspelt_files(self):
-        self.assert_found('`crates/rules/specs/Range.antt`', '`crates/rules/specs/Rnage.antt`', 'crates/rules/specs/Rnage.antt')
-        self.assert_found('`crates/rules/specs/Range.antt`', '`crate/rules/specs/Range.antt`', 'crate/rules/specs/Range.antt')
-        self.assert_found('`Consumer.antt`', '`Consume.antt`', 'crates/rules/specs/Consume.antt')
-        self.assert_found('Sizes,Cell,Range', 'Sizes,Cel,Range', 'crates/rules/specs/Cel.antt')
+        self.assert_found('crates/text/specs/ReadBack', 'crates/text/specs/ReadBak', 'crates/text/specs/ReadBak.antt')
+        self.assert_found('crates/text/specs/ReadBack', 'crate/text/specs/ReadBack', 'crate/text/specs/ReadBack.antt')
+        self.assert_found('Sizes,Cell,', 'Sizes,Cel,', 'crates/rules/specs/Cel.antt')
         self.assert_found('tests/intake_model.py', 'tests/intake_modle.py', 'tests/intake_modle.py')
+        self.assert_found(r'\Z', '\n| a row | `crates/rules/specs/Rule.antt`, `Rang.antt` |\n', 'crates/rules/specs/Rang.antt')
+        self.assert_found(r'\Z', '\n| a row | `crates/rules/src/lib.rt`, `specs/Rang.antt` |\n', 'crates/rules/specs/Rang.antt')
 
     def test_misspelt_names(self):
-        self.assert_found('`demand-3`, `crates', '`demand-4`, `crates', 'demand-4 is not declared in crates/ordering/specs/Theorem.antt')
-        self.assert_found('`lowest-free-picks`', '`lowest-free-pick`', 'lowest-free-pick is not declared in crates/rules/specs/Pick.antt')
-        self.assert_found('`Demand-3`;', '`Demand-4`;', 'Demand-4 is cited with no file')
+        self.assert_found('`reads-back`', '`read-back`', 'read-back is not declared in crates/text/specs/ReadBack.antt')
+        self.assert_found('`refusal`', '`refusals`', 'refusals is not declared in crates/admission/specs/Refusal.antt')
+        self.assert_found('is `Linearizable`', 'is `Linearisable`', 'Linearisable is cited with no file')
 
     def test_moved_names(self):
-        """A name beside the file of another row."""
-        self.assert_found('(?<=`demand-3`, `crates/ordering/specs/)Theorem', 'Demand', 'demand-3 is not declared in crates/ordering/specs/Demand.antt')
-        self.assert_found('`admit`(?=, `crates)', '`last-line`', 'last-line is not declared in crates/admission/src/lib.rt')
+        """A name beside the file of another row, where it is known or not."""
+        self.assert_found(r'(`refusal` \(`)[^`]*', r'\1crates/text/specs/ReadBack.antt', 'refusal is not declared in crates/text/specs/ReadBack.antt')
+        self.assert_found(r'(`explains` \(`)[^`]*', r'\1crates/criterion/specs/Criterion.antt', 'explains is not declared in')
 
     def test_wrong_counts(self):
         self.assert_found(r'(?<=\{Demand,Choice\}\.antt` \| )\d+', '1', 'lines, not 1: crates/ordering/specs/Demand.antt')
         self.assert_found(r'(?<=specs/Refusal.antt`\) \| )\d+', '1', 'lines, not 1: refusal')
 
     def test_unlisted_definitions(self):
-        self.assert_found('`Ends`, `LastLine`', '`Ends`', 'LastLine of crates/session/specs/LastLine.antt, on which last-line rests, is not listed')
+        self.assert_found(r'\| refusals 2 and 3 as one number .*\n', '', 'refusal of crates/admission/specs/Refusal.antt, on which admit rests')
 
     def test_edits(self):
         """An edit that is left out, and one that is misspelt."""
