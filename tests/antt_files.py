@@ -81,11 +81,11 @@ def statement(path, name):
 @functools.cache
 def rests_on(path, name, shut=frozenset()):
     """The (file, definition) pairs that a statement rests on, itself left out, not through the names that are shut."""
-    found, todo = set(), [(path, name)]
+    found, todo = set(), [(path, statement(path, name))]
     while todo:
-        at, word = todo.pop()
+        at, text = todo.pop()
         file = source(at)
-        for token in re.split(r'[\s(){}\[\],;|]+', statement(at, word)):
+        for token in re.split(r'[\s(){}\[\],;|]+', text):
             token = token.lstrip('λ').rstrip('.')
             module, _, last = token.rpartition('.')
             if whole := MODULE.fullmatch(module):
@@ -103,5 +103,5 @@ def rests_on(path, name, shut=frozenset()):
                 target = target[0], declared(block)[0] if block else target[1]
                 if target not in found and target != (path, name):
                     found.add(target)
-                    todo += [target] if block else []
+                    todo += [(target[0], '\n'.join(code(*target)))] if block else []
     return found
