@@ -42,7 +42,7 @@ NUMBERS = {
 }
 
 
-def helper():
+def compiled():
     """c_interface.c with both archives."""
     library = shared([HERE / 'c_interface.c', archive('engine'), archive('judge_c')], 'c_interface', '-O2', '-pthread')
     library.stack_used.restype = ctypes.c_size_t
@@ -78,7 +78,7 @@ class Header(unittest.TestCase):
 
     def test_words(self):
         """A store's size that is not the paper's."""
-        library = helper()
+        library = compiled()
         for sizes in itertools.product((2, 3, 63, 64), (2, 3, 63, 64), (1, 2, 15, 16)):
             self.assertEqual(library.words_of(*sizes), im.needed_words(*sizes))
         self.assertEqual(library.words_of(64, 64, 16), 12696)
@@ -89,7 +89,7 @@ class Guard(unittest.TestCase):
 
     @classmethod
     def setUpClass(cls):
-        cls.library = helper()
+        cls.library = compiled()
 
     def has_room(self, entries, records, producers, tail, head):
         words = (ctypes.c_uint32 * 16)(entries, records, producers)
@@ -182,10 +182,12 @@ class Stack(unittest.TestCase):
 
     def test_calls(self):
         """A call from C that takes more stack than is said."""
-        library = helper()
+        library = compiled()
         itself = library.stack_used(0)
         for which, name in ((1, 'intake_step'), (2, 'judge_history')):
-            self.assertLess(library.stack_used(which) - itself, self.most[name], name)
+            used = library.stack_used(which)
+            self.assertGreater(used, itself, name)
+            self.assertLess(used - itself, self.most[name], name)
 
     def test_programs(self):
         """A program that takes more stack than is said, or far less."""
