@@ -5,10 +5,9 @@
  *
  * Each producer enqueues ITEMS values, its number times 65,536 plus 0, 1, 2, ..; the host picks at random whose step is next, and now and
  * then stops a producer for a while. It prints what the consumer received and checks that each producer's values arrive whole and in the
- * order in which it enqueued them.
+ * order in which it enqueued them. Calls of two producers that overlap have no order between them: call 4 may come out before call 1.
  *
- * It starts no enqueue while the positions from the head to the tail would take more records than can always be had, so that no step
- * meets 8 (see docs/STEPS.md, "Room").
+ * It starts no enqueue where intake_has_room says no, so that no step meets refusal 8 (docs/STEPS.md, "Room").
  */
 #include <stdio.h>
 #include <stdlib.h>
@@ -17,8 +16,7 @@
 
 enum { ENTRIES = 8, RECORDS = 64, PRODUCERS = 16, PRINTED = 12 };
 
-/* the positions that may be open at a time: records that are neither claimed nor held when retired, less three */
-enum { ROOM = ENTRIES * (RECORDS - 2 * PRODUCERS - 3) };
+_Static_assert(RECORDS >= INTAKE_LEAST_RECORDS(ENTRIES, PRODUCERS), "too few records for so many producers");
 
 static uint32_t store[INTAKE_WORDS(ENTRIES, RECORDS, PRODUCERS)];
 static const size_t words = sizeof store / sizeof store[0];
@@ -60,7 +58,7 @@ int main(int argc, char **argv) {
         if (!busy[thread]) {
             if (thread == 0) {
                 answer = intake_start_dequeue(store, words);
-            } else if (sent[thread] == items || store[INTAKE_TAIL] + PRODUCERS - store[INTAKE_HEAD] > ROOM) {
+            } else if (sent[thread] == items || !intake_has_room(store)) {
                 continue;
             } else {
                 answer = intake_start_enqueue(store, words, thread, thread * 65536 + sent[thread]++, reply);
@@ -91,6 +89,9 @@ int main(int argc, char **argv) {
             total++;
             break;
         }
+        case INTAKE_REFUSED_NONE_FREE:
+            fail("no record free, although there was room when the enqueue started; producer", thread);
+            break;
         default:
             fail("step", answer);
         }

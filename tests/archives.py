@@ -18,11 +18,9 @@ def archive(crate):
 
 
 def shared(sources, name, *flags):
-    """A shared library of C sources and archives, kept while the result is referred to."""
-    folder = tempfile.TemporaryDirectory()
-    path = pathlib.Path(folder.name) / f'{name}.so'
-    whole = ['-Wl,--whole-archive', *map(str, sources), '-Wl,--no-whole-archive']
-    subprocess.run(['cc', '-shared', '-fPIC', *flags, '-o', str(path), *whole], check=True)
-    library = ctypes.CDLL(str(path))
-    library.folder = folder
-    return library
+    """A shared library of C sources and archives. Its file may go once it is loaded."""
+    with tempfile.TemporaryDirectory() as folder:
+        path = pathlib.Path(folder) / f'{name}.so'
+        whole = ['-Wl,--whole-archive', *map(str, sources), '-Wl,--no-whole-archive']
+        subprocess.run(['gcc', '-shared', '-fPIC', *flags, '-o', str(path), *whole], check=True)
+        return ctypes.CDLL(str(path))

@@ -1,5 +1,6 @@
-"""Runs every test_*.py beside this file, each in a process of its own, as many at a time as there are processors. Prints what each
-wrote when it has ended, with its seconds; the last line is 'N passed, M failed'."""
+"""Runs every test_*.py beside this file, each in a process of its own, as many at a time as there are processors. Prints a line for each
+that has ended, with its seconds, and what it wrote if a test failed (target/tests has what all wrote); the last line is
+'N passed, M failed'."""
 
 import concurrent.futures
 import os
@@ -10,6 +11,7 @@ import sys
 import time
 
 FOLDER = pathlib.Path(__file__).resolve().parent
+KEPT = FOLDER.parent / 'target' / 'tests'
 LONGEST = ('test_explore', 'test_definitions')
 
 
@@ -18,6 +20,7 @@ def run(name):
     start = time.monotonic()
     done = subprocess.run([sys.executable, '-m', 'unittest', '-v', name], cwd=FOLDER, stdout=subprocess.PIPE, stderr=subprocess.STDOUT,
                           text=True, errors='replace')
+    (KEPT / name).write_text(done.stdout, encoding='utf-8')
     ran = re.findall(r'^Ran (\d+) tests? in ', done.stdout, re.M)
     count = int(ran[-1]) if ran else 0
     last = done.stdout.rstrip().rsplit('\n', 1)[-1]
@@ -29,13 +32,15 @@ def run(name):
 
 def main():
     names = sorted((path.stem for path in FOLDER.glob('test_*.py')), key=lambda name: (name not in LONGEST, name))
-    passed = failed = 0
+    KEPT.mkdir(parents=True, exist_ok=True)
+    passed = failed = ended = 0
     with concurrent.futures.ThreadPoolExecutor(os.cpu_count()) as pool:
         results = {pool.submit(run, name): name for name in names}
         for result in concurrent.futures.as_completed(results):
             text, count, bad, seconds = result.result()
-            passed, failed = passed + count - bad, failed + bad
-            print(f'{text}tests: {results[result]} took {seconds:.0f} s, {count - bad} passed, {bad} failed', flush=True)
+            passed, failed, ended = passed + count - bad, failed + bad, ended + 1
+            print(text if bad else '', end='')
+            print(f'tests: {ended} of {len(names)}: {results[result]} took {seconds:.0f} s, {count - bad} passed, {bad} failed', flush=True)
     print(f'{passed} passed, {failed} failed')
     return 1 if failed or not passed else 0
 

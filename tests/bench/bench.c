@@ -1,14 +1,37 @@
-/* Times a step of the engine beside a step of plain C and a bare pass over the store's words, on a small and on the largest store. Every
- * run goes through both and compares their words first. Prints ns for each and the ratios. */
+/* Times a call of the engine beside the same call in C and a bare pass over the store's words, all in one run: on the smallest, a middle and
+ * the largest store, in rounds in which each contestant has its turn. A contestant's figure is its best round. The calls of each come from
+ * the same draws, and its words must be the engine's at the end of each round. */
 #include <stdio.h>
 #include <stdlib.h>
 #include <string.h>
 #include <time.h>
 
 #include "../../include/intake.h"
-#include "plain.h"
+#include "bench.h"
 
-static uint64_t state = 88172645463325252u;
+#define X(name) extern const struct Contestant name;
+CONTESTANTS
+#undef X
+#define X(name) extern const struct Pass name;
+PASSES
+#undef X
+
+static const struct Contestant engine = {"engine", intake_start_enqueue, intake_start_dequeue, intake_step};
+#define X(name) , &name
+static const struct Contestant *const contestants[] = {&engine CONTESTANTS}; /* the engine is the first */
+#undef X
+#define X(name) &name,
+static const struct Pass *const passes[] = {PASSES};
+#undef X
+
+enum { CALLED = sizeof contestants / sizeof contestants[0], PASSED = sizeof passes / sizeof passes[0], STORES = 3, ROUNDS = 30 };
+
+static const struct Size {
+    const char *name;
+    uint32_t entries, records, producers, calls;
+} sizes[STORES] = {{"smallest", 2, 2, 1, 100000}, {"middle", 16, 16, 8, 25000}, {"largest", 64, 64, 16, 6000}};
+
+static uint64_t state;
 static uint32_t draw(uint32_t below) {
     state ^= state << 13;
     state ^= state >> 7;
@@ -24,62 +47,71 @@ static double now(void) {
 
 static volatile uint32_t sink;
 
-/* the bare pass: every word is looked at once */
-static uint32_t pass(const uint32_t *s, size_t n) {
-    uint32_t most = 0;
-    for (size_t i = 0; i < n; i++) most |= s[i];
-    return most;
-}
-
-typedef uint32_t (*Start)(uint32_t *, size_t, uint32_t, uint32_t, uint32_t[4]);
-typedef uint32_t (*Dequeue)(uint32_t *, size_t);
-typedef uint32_t (*Step)(uint32_t *, size_t, uint32_t, uint32_t[4]);
-
-/* a run of `calls` calls from the same draws; each thread starts when it is idle */
-static double run(uint32_t *s, size_t n, uint32_t producers, uint32_t calls, Start start, Dequeue dequeue, Step step) {
+/* ns a call; each thread starts when it is idle */
+static double time_calls(const struct Contestant *c, uint32_t *s, size_t n, uint32_t producers, uint32_t calls) {
     uint32_t busy[17] = {0}, reply[4] = {0};
     state = 88172645463325252u;
     double begin = now();
     for (uint32_t k = 0; k < calls; k++) {
         uint32_t t = draw(3) ? draw(producers + 1) : 0, answer;
         if (!busy[t]) {
-            answer = t ? start(s, n, t, k, reply) : dequeue(s, n);
-            busy[t] = answer == 0;
+            answer = t ? c->start_enqueue(s, n, t, k, reply) : c->start_dequeue(s, n);
+            busy[t] = answer == INTAKE_OK;
         } else {
-            answer = step(s, n, t, reply);
-            if (answer > 100) busy[t] = 0;
+            answer = c->step(s, n, t, reply);
+            if (answer > INTAKE_GOING) busy[t] = 0;
         }
         sink += answer;
     }
     return (now() - begin) / calls;
 }
 
-static double least(double a, double b) { return a < b ? a : b; }
+static double time_passes(const struct Pass *p, const uint32_t *s, size_t n, uint32_t calls) {
+    double begin = now();
+    for (uint32_t k = 0; k < calls; k++) sink += p->pass(s, n);
+    return (now() - begin) / calls;
+}
 
-static int measure(const char *name, uint32_t B, uint32_t N, uint32_t P, uint32_t calls) {
-    size_t n = INTAKE_WORDS(B, N, P);
+static double of_calls[CALLED][STORES], of_passes[PASSED][STORES];
+
+static void keep_least(double *least, double took) {
+    if (*least == 0 || took < *least) *least = took;
+}
+
+static void measure(int k) {
+    const struct Size z = sizes[k];
+    size_t n = INTAKE_WORDS(z.entries, z.records, z.producers);
     uint32_t *fresh = calloc(n, 4), *a = malloc(n * 4), *b = malloc(n * 4);
-    if (!fresh || !a || !b || intake_open(fresh, n, B, N, P, 1000000) != 0) return 1;
-    double engine = 1e18, plain = 1e18, bare = 1e18;
-    for (int round = 0; round < 7; round++) {
-        memcpy(a, fresh, n * 4);
-        memcpy(b, fresh, n * 4);
-        engine = least(engine, run(a, n, P, calls, intake_start_enqueue, intake_start_dequeue, intake_step));
-        plain = least(plain, run(b, n, P, calls, plain_start_enqueue, plain_start_dequeue, plain_step));
-        if (memcmp(a, b, n * 4) != 0) {
-            printf("%s: the engine and plain C differ\n", name);
-            return 1;
+    if (!fresh || !a || !b || intake_open(fresh, n, z.entries, z.records, z.producers, 1000000) != INTAKE_OK) exit(1);
+    for (int round = 0; round < ROUNDS; round++) {
+        for (int c = 0; c < CALLED; c++) {
+            uint32_t *s = c == 0 ? a : b;
+            memcpy(s, fresh, n * 4);
+            keep_least(&of_calls[c][k], time_calls(contestants[c], s, n, z.producers, z.calls));
+            if (memcmp(a, s, n * 4) != 0) {
+                printf("%s: the engine's words and those of %s differ\n", z.name, contestants[c]->label);
+                exit(1);
+            }
         }
-        double begin = now();
-        for (uint32_t k = 0; k < calls; k++) sink += pass(a, n);
-        bare = least(bare, (now() - begin) / calls);
+        for (int p = 0; p < PASSED; p++) keep_least(&of_passes[p][k], time_passes(passes[p], a, n, z.calls));
     }
-    printf("%-8s %6zu words  engine %9.1f ns  plain C %9.1f ns  bare pass %9.1f ns  engine/plain %5.2f  engine/pass %5.2f\n", name, n, engine, plain,
-           bare, engine / plain, engine / bare);
     free(fresh);
     free(a);
     free(b);
-    return 0;
 }
 
-int main(void) { return measure("smallest", 2, 2, 1, 400000) | measure("middle", 16, 16, 8, 100000) | measure("largest", 64, 64, 16, 20000); }
+static void row(const char *what, const char *label, const double took[STORES]) {
+    printf("%-10s%-34s", what, label);
+    for (int k = 0; k < STORES; k++) printf("%12.1f%8.2f", took[k], of_calls[0][k] / took[k]);
+    printf("\n");
+}
+
+int main(void) {
+    for (int k = 0; k < STORES; k++) measure(k);
+    printf("%-44s", "ns, then engine / this one");
+    for (int k = 0; k < STORES; k++) printf("%12s%8s", sizes[k].name, "ratio");
+    printf("\n");
+    for (int c = 0; c < CALLED; c++) row("call", contestants[c]->label, of_calls[c]);
+    for (int p = 0; p < PASSED; p++) row("bare pass", passes[p]->label, of_passes[p]);
+    return 0;
+}

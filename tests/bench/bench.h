@@ -1,0 +1,18 @@
+/* What is timed: calls on a store, and a bare pass over its words. */
+#ifndef BENCH_H
+#define BENCH_H
+#include <stddef.h>
+#include <stdint.h>
+
+struct Contestant {
+    const char *label;
+    uint32_t (*start_enqueue)(uint32_t *s, size_t words, uint32_t t, uint32_t value, uint32_t reply[4]);
+    uint32_t (*start_dequeue)(uint32_t *s, size_t words);
+    uint32_t (*step)(uint32_t *s, size_t words, uint32_t t, uint32_t reply[4]);
+};
+
+struct Pass {
+    const char *label;
+    uint32_t (*pass)(const uint32_t *s, size_t words);
+};
+#endif

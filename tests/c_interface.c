@@ -1,0 +1,71 @@
+/* What test_c_interface.py calls: the header's guard and macros, and how much stack the proved calls take. */
+#include <pthread.h>
+#include <stdlib.h>
+#include <string.h>
+
+#include "../include/intake.h"
+
+enum { WORDS = INTAKE_MOST_WORDS, EVENTS = 4096, STACK = 4 << 20, PAINT = 0xA5 };
+
+struct call {
+    uint32_t kind, start, end, answer;
+};
+
+uint32_t judge_history(const uint32_t *history, size_t words, struct call *table, size_t entries);
+
+int has_room(const uint32_t *store) { return intake_has_room(store); }
+uint32_t words_of(uint32_t entries, uint32_t records, uint32_t producers) { return INTAKE_WORDS(entries, records, producers); }
+uint32_t least_records(uint32_t entries, uint32_t producers) { return INTAKE_LEAST_RECORDS(entries, producers); }
+
+/* a run of every phase on the largest store, then a refusal */
+static void engine(void) {
+    static uint32_t store[WORDS], reply[4];
+    intake_open(store, WORDS, 64, 64, 16, 1000000);
+    for (uint32_t k = 0; k < 30000; k++) {
+        uint32_t thread = k * 7 % 17;
+        if (intake_step(store, WORDS, thread, reply) != INTAKE_REFUSED_IDLE) continue;
+        if (thread == 0) {
+            intake_start_dequeue(store, WORDS);
+        } else {
+            intake_start_enqueue(store, WORDS, thread, k, reply);
+        }
+    }
+    store[WORDS - 2] = UINT32_MAX;
+    intake_step(store, WORDS, 0, reply);
+}
+
+/* 4,096 events: an enqueue and the dequeue of its item, again and again */
+static void judge(void) {
+    static uint32_t history[4 * EVENTS];
+    static struct call table[EVENTS];
+    for (uint32_t k = 0; k < EVENTS / 4; k++) {
+        const uint32_t n = k + 1, events[16] = {1, 1, n, n, 2, 1, n, n, 3, 0, 0, 0, 4, 0, n, n};
+        memcpy(history + 16 * k, events, sizeof events);
+    }
+    judge_history(history, 4 * EVENTS, table, EVENTS);
+}
+
+static void nothing(void) {}
+
+static void *run(void *which) {
+    static void (*const runs[])(void) = {nothing, engine, judge};
+    runs[*(int *)which]();
+    return NULL;
+}
+
+/* The bytes of a painted stack that a thread has written: 0 by doing nothing, 1 by the engine, 2 by the judge. */
+size_t stack_used(int which) {
+    unsigned char *stack = aligned_alloc(4096, STACK);
+    pthread_attr_t attributes;
+    pthread_t thread;
+    size_t clean = 0;
+    if (!stack) return 0;
+    memset(stack, PAINT, STACK);
+    pthread_attr_init(&attributes);
+    pthread_attr_setstack(&attributes, stack, STACK);
+    if (pthread_create(&thread, &attributes, run, &which) != 0) return 0;
+    pthread_join(thread, NULL);
+    while (clean < STACK && stack[clean] == PAINT) clean++;
+    free(stack);
+    return STACK - clean;
+}
