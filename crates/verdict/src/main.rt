@@ -6,7 +6,7 @@ fn main() {
     // The lines of 8,192 events are at most 360,448 bytes, so a text that is cut off has a line too many or a bad one.
     let mut text = [0u8; 360_449];
     let n = io::read_full(STDIN_FILENO, &mut text);
-    let mut out = [0u8; 19];
+    let mut out = [0u8; 20];
     let printed = recording::report(&text[..n], &mut out);
     io::write_all(STDOUT_FILENO, &out[..printed]);
 }

@@ -25,7 +25,7 @@ report-requires : tie.Need-report-requires
 report-requires c κs = search needs
 
 array-share-prefix-out : tie.Need-array-share-prefix-out
-array-share-prefix-out c = wrote-within (c .report .ensures) (length-replicate {A = ℕ} 19 0) (length-reported _)
+array-share-prefix-out c = wrote-within (c .report .ensures) (length-replicate {A = ℕ} 20 0) (length-reported _)
 
 slice-aggregate-write-all : tie.Need-slice-aggregate-write-all
 slice-aggregate-write-all c = sym (length-take-le _ _ (array-share-prefix-out (c .before)))
