@@ -3,10 +3,10 @@ use libc::STDERR_FILENO;
 use libc::STDIN_FILENO;
 use libc::STDOUT_FILENO;
 ghost use mathlib.Core.Path.{_≡_};
-ghost use Rattle.stdio.specs.Input.{moved, Within};
+ghost use Rattle.stdio.specs.Input.{readAnswer, Within};
 
 // What a call of C's read did: it failed, the input has ended, or it gave so many bytes.
-pub enum Moved {
+pub enum Answer {
     Failed,
     Ended,
     More(usize),
@@ -18,16 +18,18 @@ pub enum Input {
     Bytes(usize),
 }
 
-fn after_read(got: isize) -> Moved
-    ensures { λ r. ⌜ r ≡ moved got ⌝ }
+// What the number that it answered says.
+fn read_answer(got: isize) -> Answer
+    ensures { λ r. ⌜ r ≡ readAnswer got ⌝ }
 {
     if got < 0 {
-        return Moved::Failed;
+        return Answer::Failed;
     }
     if 0 < got {
-        return Moved::More(got as usize);
+        let n = got as usize;
+        return Answer::More(n);
     }
-    Moved::Ended
+    Answer::Ended
 }
 
 // Reads standard input to its end, or until the buffer is full.
@@ -36,15 +38,15 @@ pub fn read_input(buf: &mut [u8]) -> Input
 {
     let mut done = 0;
     while done < buf.len() {
-        let moved = after_read(libc::read(STDIN_FILENO, &mut buf[done..]));
-        match moved {
-            Moved::Failed => {
+        let answer = read_answer(libc::read(STDIN_FILENO, &mut buf[done..]));
+        match answer {
+            Answer::Failed => {
                 return Input::Unreadable;
             }
-            Moved::Ended => {
+            Answer::Ended => {
                 return Input::Bytes(done);
             }
-            Moved::More(n) => {
+            Answer::More(n) => {
                 done += n;
             }
         }

@@ -6,7 +6,7 @@ use lib.ListN.{length, length-take, length-drop}
 use borrow.Author.Needs.{needs}
 use mir.Syntax.{w64}
 use mir.Facts.{toZ-ofZ}
-use Rattle.stdio.specs.Input.{moved}
+use Rattle.stdio.specs.Input.{readAnswer}
 use Rattle.stdio.specs.Laws.{more-within}
 use Rattle.stdio.proofs.read_input.Statement.{statement}
 use Rattle.stdio.proofs.read_input.Tie as tie
@@ -32,8 +32,8 @@ part-read-end c = search needs
 read-requires : tie.Need-read-requires Inv-loop μ-loop
 read-requires c κs = search needs
 
-after-read-requires : tie.Need-after-read-requires Inv-loop μ-loop
-after-read-requires c κs = search needs
+read-answer-requires : tie.Need-read-answer-requires Inv-loop μ-loop
+read-answer-requires c κs = search needs
 
 enum-told : tie.Need-enum-told Inv-loop μ-loop
 enum-told c = search needs
@@ -53,15 +53,15 @@ same-length-2 c = c .before .before .before .before .buf .given .1 ∙ c .before
 returns-2 : tie.Need-returns-2 Inv-loop μ-loop
 returns-2 c = omega (arith, c .before .before .before .before .buf .given .1, c .before .before .before .before .before .before .before .before .loop .inv .1)
 
-enum-known-moved : tie.Need-enum-known-moved Inv-loop μ-loop
-enum-known-moved c = search needs
+enum-known-answer : tie.Need-enum-known-answer Inv-loop μ-loop
+enum-known-answer c = search needs
 
 -- the bytes that the read gave: at least one, and no more than there was room for
-given-within : (c : tie.After-known-told Inv-loop μ-loop) → (0 < c .before .moved .given .0 .0) × (c .before .before .before .before .before .before .before .before .before .loop .done + c .before .moved .given .0 .0 ≤ length (c .before .before .before .before .before .before .before .before .before .loop .buf))
+given-within : (c : tie.After-known-told Inv-loop μ-loop) → (0 < c .before .answer .given .0 .0) × (c .before .before .before .before .before .before .before .before .before .loop .done + c .before .answer .given .0 .0 ≤ length (c .before .before .before .before .before .before .before .before .before .loop .buf))
 given-within c =
     let r = c .before .before .before .before .before .before .read in
-    let e = ap moved (toZ-ofZ {w = w64} {z = r .result} (record { sfits = r .ok })) in
-    let w = more-within (r .result) (r .ensures) (sym (c .before .moved .given .1) ∙ c .before .before .before .after-read .ensures ∙ e) in
+    let e = ap readAnswer (toZ-ofZ {w = w64} {z = r .result} (record { sfits = r .ok })) in
+    let w = more-within (r .result) (r .ensures) (sym (c .before .answer .given .1) ∙ c .before .before .before .read-answer .ensures ∙ e) in
     omega (arith, rw (length-take, length-drop) at w)
 
 add-done : tie.Need-add-done Inv-loop μ-loop
@@ -90,14 +90,14 @@ read-input-spec =
     part-read-start
     part-read-end
     read-requires
-    after-read-requires
+    read-answer-requires
     enum-told
     same-length
     returns
     enum-told-2
     same-length-2
     returns-2
-    enum-known-moved
+    enum-known-answer
     add-done
     loop-less
     loop-again
