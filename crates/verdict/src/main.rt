@@ -2,7 +2,7 @@
 use stdio::Input;
 
 fn main() {
-    // The lines of 8,192 events are at most 360,448 bytes, so a text that is cut off has a line too many or a bad one.
+    // The lines of 8,192 events are at most 360,448 bytes, so a text that is cut off has a line too many, or the first bad line that it had.
     let mut text = [0u8; 360_449];
     let Input::Bytes(n) = stdio::read_input(&mut text) else {
         stdio::print_unreadable();
