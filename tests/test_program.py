@@ -1,6 +1,6 @@
-"""The program `intake` against run files, the limits of its input, and random inputs of every class of
-program_scripts.py, which the independent model and judge answer. Needs target/bin/intake, which `rt check intake`
-builds."""
+"""The program `intake` against run files, the limits of its input, input and output that fail, and random inputs of
+every class of program_scripts.py, which the independent model and judge answer. Needs target/bin/intake, which
+`rt check intake` builds."""
 
 import collections
 import concurrent.futures
@@ -13,7 +13,9 @@ import unittest
 
 import intake_model as im
 import judge_model as jm
+import program_streams
 from program_scripts import CLASSES, MOST_INPUT
+from program_streams import lines_of
 
 HERE = pathlib.Path(__file__).resolve().parent
 PROGRAM = HERE.parent / 'target' / 'bin' / 'intake'
@@ -35,12 +37,6 @@ def parse(line):
             numbers = tuple(int(n) for n in found.groups())
             return (name,) + numbers if max(numbers) <= im.U32 else None
     return None
-
-
-def lines_of(data):
-    """The lines, each ended by a newline, which the last may lack."""
-    lines = data.split(b'\n')
-    return lines[:-1] if lines[-1] == b'' else lines
 
 
 def expected(data):
@@ -139,6 +135,14 @@ class Runs(unittest.TestCase):
             self.assertEqual(expected(data), output)
             for more in (b'\n', b'd', b'\0', b'd\n' * 100_000):
                 self.assertEqual(printed(data + more), b'too long\n')
+
+
+class Streams(program_streams.Streams, unittest.TestCase):
+    """Input that cannot be read and output that cannot be written, by document 01's printed run."""
+
+    program = PROGRAM
+    data = b'open 2 2 1 9\nd\ns 0\ns 0\ne 1 7\ns 1\ns 1\ns 1\ns 1\n'
+    output = b'ok\nok\ngoing\nempty\nok 1\ngoing\ngoing\ngoing\nend\nexplained\n'
 
 
 class Differential(unittest.TestCase):

@@ -2,15 +2,20 @@
 
 import itertools
 import random
+import re
 import subprocess
 import unittest
 
 import judge_library as jl
 import judge_model as jm
+import program_streams
 from judge_model import flatten
+from program_streams import lines_of
 
 DEQ, EMPTY = (3, 0, 0, 0), (5, 0, 0, 0)
 MARK = 0xDEADBEEF
+MOST_EVENTS_READ, MOST_NUMBER = 8_192, 2**32 - 1
+LINE = re.compile(rb'(0|[1-9][0-9]*) (0|[1-9][0-9]*) (0|[1-9][0-9]*) (0|[1-9][0-9]*)')
 
 
 def enq(call, thread=1, value=7):
@@ -33,6 +38,20 @@ def program(text):
     """What the program prints on a text."""
     run = subprocess.run([jl.PROGRAM], input=text.encode() if isinstance(text, str) else text, capture_output=True)
     return run.stdout.decode()
+
+
+def report(text):
+    """What the program must print: its lines are read one by one, and judged if all of them are good."""
+    words = []
+    for number, line in enumerate(lines_of(text), 1):
+        if number > MOST_EVENTS_READ:
+            return 'too long\n'
+        found = LINE.fullmatch(line)
+        numbers = [int(n) for n in found.groups()] if found else [MOST_NUMBER + 1]
+        if max(numbers) > MOST_NUMBER:
+            return f'bad line {number}\n'
+        words += numbers
+    return printed(expected(words, jm.MAX_EVENTS, jm.explained_by_mark)[0])
 
 
 def expected(words, entries, decide):
@@ -144,32 +163,63 @@ class Program(unittest.TestCase):
     def test_largest_number(self):
         """A number that is cut to fewer bits, or one too many taken."""
         self.assertEqual(program('1 16 4294967295 4294967295\n3 0 0 0\n4 0 4294967295 4294967295\n'), 'explained\n')
-        self.assertEqual(program('1 16 4294967296 0\n'), 'bad line\n')
+        self.assertEqual(program('1 16 4294967296 0\n'), 'bad line 1\n')
 
     def test_bad_lines(self):
         """A parser that takes anything but four plain numbers."""
         bad = [
             '\n', ' \n', 'x\n', '1\n', '1 1\n', '1 1 1\n', '1 1 1 7 \n', '1 1 1 7 7\n', ' 1 1 1 7\n', '1  1 1 7\n',
-            '1 1 1 7\n\n', '01 1 1 7\n', '1 00 1 7\n', '1 1 1 07\n', '-1 1 1 7\n', '+1 1 1 7\n', '1 1 1 7.\n', '1,1,1,7\n',
-            '1\t1\t1\t7\n', '1 1 1 7\r\n', '1 1 1 99999999999\n', '1 1 1 42949672950\n', '1 1 1', '1 1 1 ', '1 1 1 7\n1',
-            '1 1 1 7\n1 1 1\n', 'open 2 2 1 9\n', '0x1 1 1 7\n', '1 1 1 7\x00\n', '/ 1 1 7\n', ': 1 1 7\n',
+            '01 1 1 7\n', '1 00 1 7\n', '1 1 1 07\n', '-1 1 1 7\n', '+1 1 1 7\n', '1 1 1 7.\n', '1,1,1,7\n', '1\t1\t1\t7\n',
+            '1 1 1 7\r\n', '1 1 1 99999999999\n', '1 1 1 42949672950\n', '1 1 1', '1 1 1 ', 'open 2 2 1 9\n', '0x1 1 1 7\n',
+            '1 1 1 7\x00\n', '/ 1 1 7\n', ': 1 1 7\n', '\udcff\n',
         ]
-        for text in bad:
-            self.assertEqual(program(text), 'bad line\n', text)
-        self.assertEqual(program(b'\xff\n'), 'bad line\n')
+        for text in (text.encode(errors='surrogateescape') for text in bad):
+            for before, number in ((b'', 1), (b'3 0 0 0\n', 2), (b'9 9 9 9\n' * 16, 17), (b'1 2 3 4\n' * 8_191, 8_192)):
+                self.assertEqual(program(before + text), f'bad line {number}\n', (number, text))
+                self.assertEqual(program(before + text + b'3 0 0 0\n1'), f'bad line {number}\n', (number, text))
+                self.assertEqual(report(before + text), f'bad line {number}\n', 'the model')
 
     def test_bad_line_hides_a_refusal(self):
         """A program that judges before it has read every line."""
-        self.assertEqual(program('9 9 9 9\nx\n'), 'bad line\n')
+        self.assertEqual(program('9 9 9 9\nx\n'), 'bad line 2\n')
+
+    def test_first_bad_line(self):
+        """A line's number that is off, another bad line than the first: texts with a few bytes changed, against the model."""
+        rng, seen = random.Random(4), set()
+        for _ in range(400):
+            text = bytearray(text_of(run_of_calls(rng, rng.randrange(1, 40))).encode())
+            for _ in range(rng.randrange(1, 4)):
+                at = rng.randrange(len(text))
+                text[at : at + rng.randrange(2)] = rng.choice([b'', b' ', b'\n', b'0', b'9', b'x'])
+            word = program(bytes(text))
+            self.assertEqual(word, report(bytes(text)), text)
+            seen.add(word)
+        for number in range(1, 31):
+            self.assertIn(f'bad line {number}\n', seen)
+        self.assertTrue({'explained\n', 'unexplained\n', 'refused 12\n', 'refused 13\n'} < seen, seen)
+
+    def test_long_lines(self):
+        """A line that the program's buffer cuts off: its number is still the text's."""
+        long = '4294967295 4294967295 4294967295 4294967295\n'
+        for text in ('1' * 400_000, ' ' * 400_000 + '\n', long * 8_191 + '1' * 400_000, long * 8_191 + long[:-1] + ' ' * 9, long * 8_192 + '1'):
+            self.assertEqual(program(text), report(text.encode()), text[-50:])
 
     def test_too_long(self):
         """A program that judges a part of its input: 8,192 events are read, short and long lines alike, and no more."""
         for line in ('1 1 1 7\n', '4294967295 4294967295 4294967295 4294967295\n'):
             self.assertEqual(program(line * 8_192), 'refused 10\n')
             self.assertEqual(program(line * 8_191 + line[:-1]), 'refused 10\n')
-            self.assertEqual(program(line * 8_191 + 'x\n'), 'bad line\n')
+            self.assertEqual(program(line * 8_191 + 'x\n'), 'bad line 8192\n')
             for more in ('x', line, line * 40_000):
                 self.assertEqual(program(line * 8_192 + more), 'too long\n')
+
+
+class Streams(program_streams.Streams, unittest.TestCase):
+    """Input that cannot be read and output that cannot be written."""
+
+    program = jl.PROGRAM
+    data = b'1 1 1 7\n2 1 1 7\n3 0 0 0\n4 0 1 7\n'
+    output = b'explained\n'
 
 
 class Differential(unittest.TestCase):

@@ -1,10 +1,11 @@
 -- Laws of reading: each step of the parser, and the count of what it reads.
-use mathlib.Core.Path.{_≡_, refl, ap, sym, _∙_}
+use mathlib.Core.Path.{_≡_, refl, ap, sym, _∙_, subst}
 use mathlib.Core.Bool.{Bool, true, false, cond}
 use mathlib.Core.List.{List, [], _∷_, _++_}
 use Prim.Native.Nat.{ℕ, zero, suc, _+_, _-_, _%_, _≤_, _<_}
 use native.Mathlib.Omega.{arith}
 use native.Mathlib.Numerals.{sub-one}
+use native.Mathlib.Nat.{zero-add}
 use lib.Dec.{leb, eqb}
 use lib.ListN.{length, set, take, drop, getD, length-append}
 use lib.Seq.{sets, length-sets, sets-eq, take-at}
@@ -15,7 +16,7 @@ use Rattle.text.specs.Decimal.{numberAt}
 use Rattle.text.specs.Laws.{sets-append}
 use Rattle.lines.specs.declared.Parsed.{Parsed}
 use Rattle.lines.specs.declared.Parsed.the-variants.{TooLong, BadLine, Numbers}
-use Rattle.lines.specs.Lines.{separator, isParted, ending, Reading, stop, withNumber, numbersFrom, reading, Parses}
+use Rattle.lines.specs.Lines.{separator, isParted, lineAfter, ending, Reading, stop, withNumber, numbersFrom, reading, Parses}
 
 -- A position: the text ends there, there is no room for another number, or a number is read.
 module _ (s : List ℕ) (at : ℕ) (ns : List ℕ) where
@@ -61,8 +62,8 @@ module _ {s before buffer : List ℕ} {at count : ℕ} (g : Going s before buffe
   next-number : withNumber s (g .numbers) (numberAt s at) (numbersFrom (g .room - 1) s) ≡ reading s (length before)
   next-number = sym (one-number s at (g .numbers) (g .room) (omega arith) more) ∙ g .left
 
-  pub no-number : numberAt s at ≡ Bad → Parses s before buffer BadLine
-  no-number e = answers (g .stored) (rw e at next-number)
+  pub no-number : numberAt s at ≡ Bad → Parses s before buffer (BadLine (lineAfter count))
+  no-number e = rw (← g .counted) (answers (g .stored) (rw e at next-number))
 
   module _ {n next : ℕ} (e : numberAt s at ≡ Read n next) where
     counted-more : length (g .numbers ++ (n ∷ [])) ≡ count + 1
@@ -92,51 +93,65 @@ module _ {s before buffer : List ℕ} {at count : ℕ} (g : Going s before buffe
     pub goes-on : next < length s → getD s next 0 ≡ separator (count + 1) → Going s before (set buffer count n) (next + 1) (count + 1)
     goes-on l p = going-on (simp (lt-leb (length s) next l, eq-eqb (getD s next 0) (separator (count + 1)) p))
 
-    pub bad-separator : next < length s → (getD s next 0 ≡ separator (count + 1) → ⊥) → Parses s before (set buffer count n) BadLine
+    pub bad-separator : next < length s → (getD s next 0 ≡ separator (count + 1) → ⊥) → Parses s before (set buffer count n) (BadLine (lineAfter count))
     bad-separator l p =
         let f : isParted s next (count + 1) ≡ false = simp (lt-leb (length s) next l, ne-eqb (getD s next 0) (separator (count + 1)) p) in
-        answers stored-more (rw (e, counted-more, f) at next-number)
+        answers stored-more (ap (λ (k : ℕ). stop (BadLine (lineAfter k)) (g .numbers ++ (n ∷ []))) (sym (g .counted)) ∙ rw (e, counted-more, f) at next-number)
 
--- Where the answer is a count, so many numbers were read, and no more than there is room for.
-abbrev Counts : Reading → (limit : ℕ) → (k : ℕ) → Type 0
-Counts x limit k = x .reply ≡ Numbers k → (length (x .numbers) ≡ k) × (k ≤ limit)
+-- What an answer says of how many numbers were read, with room for so many: a count is theirs, and a bad line is at most the one after
+-- them all.
+abbrev Counts : Parsed → (read limit : ℕ) → Type 0
+Counts TooLong read limit = Unit
+Counts (BadLine line) read limit = line ≤ lineAfter limit
+Counts (Numbers k) read limit = (read ≡ k) × (k ≤ limit)
 
-all-counted : (ns : List ℕ) (room k : ℕ) → Counts (stop (ending (length ns)) ns) (length ns + room) k
-all-counted ns room k = go (eqb (length ns % 4) 0)
+abbrev Counted : Reading → (limit : ℕ) → Type 0
+Counted x limit = Counts (x .reply) (length (x .numbers)) limit
+
+all-counted : (ns : List ℕ) (room : ℕ) → Counted (stop (ending (length ns)) ns) (length ns + room)
+all-counted ns room = go (eqb (length ns % 4) 0)
   where
-    go : (b : Bool) → cond b (Numbers (length ns)) BadLine ≡ Numbers k → (length ns ≡ k) × (k ≤ length ns + room)
-    go true e = let h : length ns ≡ k = cc in (h, omega arith)
-    go false e = let z : _≡_ {A = ℕ} 0 1 = cc in absurd (omega arith)
+    go : (b : Bool) → Counts (cond b (Numbers (length ns)) (BadLine (lineAfter (length ns)))) (length ns) (length ns + room)
+    go true = (refl, omega arith)
+    go false = omega arith
 
-counts : (room : ℕ) (s : List ℕ) (at : ℕ) (ns : List ℕ) {k : ℕ} → Counts (numbersFrom room s at ns) (length ns + room) k
+counts : (room : ℕ) (s : List ℕ) (at : ℕ) (ns : List ℕ) → Counted (numbersFrom room s at ns) (length ns + room)
 unfolding numbersFrom
-counts zero s at ns {k} = go (leb (length s) at)
+counts zero s at ns = go (leb (length s) at)
   where
-    go : (b : Bool) → Counts (cond b (stop (ending (length ns)) ns) (stop TooLong ns)) (length ns + 0) k
-    go true e = all-counted ns 0 k e
-    go false e = let z : _≡_ {A = ℕ} 0 1 = cc in absurd (omega arith)
-counts (suc room) s at ns {k} = go (leb (length s) at) (numberAt s at) (λ next ms. counts room s next ms)
+    go : (b : Bool) → Counted (cond b (stop (ending (length ns)) ns) (stop TooLong ns)) (length ns + 0)
+    go true = all-counted ns 0
+    go false = tt
+counts (suc room) s at ns = go (leb (length s) at) (numberAt s at) (λ next ms. counts room s next ms)
   where
-    go : (b : Bool) (x : Number) → ((next : ℕ) (ms : List ℕ) → Counts (numbersFrom room s next ms) (length ms + room) k)
-        → Counts (cond b (stop (ending (length ns)) ns) (withNumber s ns x (numbersFrom room s))) (length ns + suc room) k
-    go true x f e = all-counted ns (suc room) k e
-    go false Bad f e = let z : _≡_ {A = ℕ} 0 1 = cc in absurd (omega arith)
-    go false (Read n next) f e = parted (isParted s next (length (ns ++ (n ∷ [])))) e
+    go : (b : Bool) (x : Number) → ((next : ℕ) (ms : List ℕ) → Counted (numbersFrom room s next ms) (length ms + room))
+        → Counted (cond b (stop (ending (length ns)) ns) (withNumber s ns x (numbersFrom room s))) (length ns + suc room)
+    go true x f = all-counted ns (suc room)
+    go false Bad f = omega arith
+    go false (Read n next) f = parted (isParted s next (length (ns ++ (n ∷ []))))
       where
-        parted : (b : Bool) → Counts (cond b (numbersFrom room s (next + 1) (ns ++ (n ∷ []))) (stop BadLine (ns ++ (n ∷ [])))) (length ns + suc room) k
-        parted true e = let h = f (next + 1) (ns ++ (n ∷ [])) e in (h .0, omega (arith, h .1, length-append ns (n ∷ [])))
-        parted false e = let z : _≡_ {A = ℕ} 0 1 = cc in absurd (omega arith)
+        parted : (b : Bool) → Counted (cond b (numbersFrom room s (next + 1) (ns ++ (n ∷ []))) (stop (BadLine (lineAfter (length ns))) (ns ++ (n ∷ [])))) (length ns + suc room)
+        parted true =
+            let e : length (ns ++ (n ∷ [])) + room ≡ length ns + suc room = rw length-append (omega arith) in
+            subst (λ (l : ℕ). Counted (numbersFrom room s (next + 1) (ns ++ (n ∷ []))) l) e (f (next + 1) (ns ++ (n ∷ [])))
+        parted false = omega arith
 
--- The numbers that were read stand at the beginning of the buffer.
-module _ {s before after : List ℕ} {r : Parsed} (p : Parses s before after r) {k : ℕ} (e : r ≡ Numbers k) where
-  counted : (length (reading s (length before) .numbers) ≡ k) × (k ≤ 0 + length before)
-  counted = counts (length before) s 0 [] (sym (p .reply-is) ∙ e)
+module _ {s before after : List ℕ} {r : Parsed} (p : Parses s before after r) where
+  counted : {v : Parsed} → r ≡ v → Counts v (length (reading s (length before) .numbers)) (length before)
+  counted e =
+      subst (λ (x : Parsed). Counts x (length (reading s (length before) .numbers)) (length before)) (sym (p .reply-is) ∙ e)
+      (subst (Counted (reading s (length before))) (zero-add (length before)) (counts (length before) s 0 []))
 
-  pub numbers-within : k ≤ length after
-  numbers-within = omega (arith, counted .1, simp length-sets at (ap length (p .after-is)))
+  pub line-within : {line : ℕ} → r ≡ BadLine line → line ≤ lineAfter (length before)
+  line-within e = counted e
 
-  pub numbers-stored : take k after ≡ reading s (length before) .numbers
-  numbers-stored =
-      let ns = reading s (length before) .numbers in
-      ap (take k) (p .after-is ∙ sets-eq ns before 0 (omega (arith, counted)))
-      ∙ take-at ns (drop (0 + length ns) before) k (counted .0)
+  -- The numbers that were read stand at the beginning of the buffer.
+  module _ {k : ℕ} (e : r ≡ Numbers k) where
+    pub numbers-within : k ≤ length after
+    numbers-within = omega (arith, counted e .1, simp length-sets at (ap length (p .after-is)))
+
+    pub numbers-stored : take k after ≡ reading s (length before) .numbers
+    numbers-stored =
+        let ns = reading s (length before) .numbers in
+        ap (take k) (p .after-is ∙ sets-eq ns before 0 (omega (arith, counted e)))
+        ∙ take-at ns (drop (0 + length ns) before) k (counted e .0)

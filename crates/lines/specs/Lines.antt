@@ -3,7 +3,7 @@
 use mathlib.Core.Path.{_≡_}
 use mathlib.Core.Bool.{Bool, _||_, cond}
 use mathlib.Core.List.{List, [], _∷_, _++_}
-use Prim.Native.Nat.{ℕ, zero, suc, _+_, _%_}
+use Prim.Native.Nat.{ℕ, zero, suc, _+_, _/_, _%_}
 use lib.Dec.{leb, eqb}
 use lib.ListN.{length, getD}
 use lib.Seq.{sets}
@@ -21,9 +21,13 @@ separator count = cond (eqb (count % 4) 0) 10 32
 abbrev pub isParted : List ℕ → (at count : ℕ) → Bool
 isParted s at count = leb (length s) at || eqb (getD s at 0) (separator count)
 
+-- The line of the number that follows so many numbers, counted from 1: each line before it has four.
+abbrev pub lineAfter : (count : ℕ) → ℕ
+lineAfter count = count / 4 + 1
+
 -- The answer where the text ends after so many numbers: they are whole lines, or the last line is bad.
 abbrev pub ending : (count : ℕ) → Parsed
-ending count = cond (eqb (count % 4) 0) (Numbers count) BadLine
+ending count = cond (eqb (count % 4) 0) (Numbers count) (BadLine (lineAfter count))
 
 -- An answer, and the numbers that were read before it.
 pub record Reading : Type 0 where
@@ -33,12 +37,12 @@ pub record Reading : Type 0 where
 abbrev pub stop : Parsed → List ℕ → Reading
 stop r ns = record { reply = r; numbers = ns }
 
--- One number after the numbers ns, and what follows it.
+-- One number after the numbers ns, and what follows it; its line is bad where it is none, or where another byte parts it.
 abbrev pub withNumber : List ℕ → List ℕ → Number → (rest : ℕ → List ℕ → Reading) → Reading
-withNumber s ns Bad rest = stop BadLine ns
+withNumber s ns Bad rest = stop (BadLine (lineAfter (length ns))) ns
 withNumber s ns (Read n next) rest =
     let more = ns ++ (n ∷ []) in
-    cond (isParted s next (length more)) (rest (next + 1) more) (stop BadLine more)
+    cond (isParted s next (length more)) (rest (next + 1) more) (stop (BadLine (lineAfter (length ns))) more)
 
 -- The numbers from a position on, after the numbers ns, with room for so many more.
 unfoldable pub numbersFrom : (room : ℕ) → List ℕ → (at : ℕ) → List ℕ → Reading

@@ -1,12 +1,12 @@
 // Lines of four decimal numbers: their meaning is in specs/Lines.antt.
 use text::Number;
 ghost use mathlib.Core.Path.{_≡_};
-ghost use Rattle.lines.specs.Lines.{separator, ending, Parses};
+ghost use Rattle.lines.specs.Lines.{separator, lineAfter, ending, Parses};
 
-// What a text holds: more numbers than the buffer has entries, a bad line, or so many numbers.
+// What a text holds: more numbers than the buffer has entries, a bad line, the first by its number, or so many numbers.
 pub enum Parsed {
     TooLong,
-    BadLine,
+    BadLine(usize),
     Numbers(usize),
 }
 
@@ -20,12 +20,19 @@ fn separator_after(count: usize) -> u8
     32
 }
 
+// The line of the number that follows so many numbers, counted from 1.
+fn line_after(count: usize) -> usize
+    ensures { λ r. ⌜ r ≡ lineAfter count ⌝ }
+{
+    count / 4 + 1
+}
+
 // The answer where the text ends after so many numbers: they are whole lines, or the last line is bad.
 fn end_after(count: usize) -> Parsed
     ensures { λ r. ⌜ r ≡ ending count ⌝ }
 {
     if count % 4 != 0 {
-        return Parsed::BadLine;
+        return Parsed::BadLine(line_after(count));
     }
     Parsed::Numbers(count)
 }
@@ -40,8 +47,9 @@ pub fn parse(s: &[u8], numbers: &mut [u32]) -> Parsed
         if numbers.len() <= count {
             return Parsed::TooLong;
         }
+        let line = line_after(count);
         let Number::Read(n, next) = text::read_number(s, at) else {
-            return Parsed::BadLine;
+            return Parsed::BadLine(line);
         };
         numbers[count] = n;
         count += 1;
@@ -49,7 +57,7 @@ pub fn parse(s: &[u8], numbers: &mut [u32]) -> Parsed
             return end_after(count);
         }
         if s[next] != separator_after(count) {
-            return Parsed::BadLine;
+            return Parsed::BadLine(line);
         }
         at = next + 1;
     }

@@ -22,7 +22,7 @@ use Rattle.lines.specs.Laws.{numbers-stored}
 use Rattle.protocol.specs.Words.{refusedWord, explainedLine, unexplainedLine}
 use Rattle.protocol.specs.Printed.{numbered, printedVerdict}
 use Rattle.protocol.specs.Laws.{length-numbered}
-use Rattle.recording.specs.Report.{printedReading, mostWord, mostNumbers, printedParsed, reported}
+use Rattle.recording.specs.Report.{printedReading, badLineWord, mostWord, mostNumbers, printedParsed, reported}
 
 -- What is read as a history is well-formed.
 abbrev Formed : Reading → Type 0
@@ -90,12 +90,12 @@ length-verdict true = omega arith
 length-verdict false = omega arith
 
 length-word : (x : Reading) → length (printedReading x) ≤ mostWord
-length-word (refused n) = length-numbered refusedWord n
+length-word (refused n) = omega (arith, length-numbered refusedWord n)
 length-word (history h) = omega (arith, length-verdict (explains h))
 
 length-parsed : (r : Parsed) (ns : List ℕ) → length (printedParsed r ns) ≤ mostWord
 length-parsed TooLong ns = omega arith
-length-parsed BadLine ns = omega arith
+length-parsed (BadLine line) ns = length-numbered badLineWord line
 length-parsed (Numbers k) ns = length-word (read mostEvents ns)
 
 pub length-reported : (s : List ℕ) → length (reported s) ≤ mostWord

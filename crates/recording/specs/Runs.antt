@@ -7,8 +7,8 @@ use Rattle.history.specs.Form.{read}
 use Rattle.criterion.specs.Pass.{explains}
 use Rattle.text.specs.Decimal.{digitsFrom, numberAt, digits}
 use Rattle.lines.specs.Lines.{numbersFrom}
-use Rattle.protocol.specs.Words.{space, newline, refusedWord, badLine, explainedLine, unexplainedLine}
-use Rattle.recording.specs.Report.{reported}
+use Rattle.protocol.specs.Words.{space, newline, refusedWord, explainedLine, unexplainedLine}
+use Rattle.recording.specs.Report.{badLineWord, reported}
 
 pub record Sample : Type 0 where
   pub text : List ℕ
@@ -34,6 +34,10 @@ givesItem = event 52 48 49 55
 abbrev pub givesEmpty : List ℕ
 givesEmpty = event 53 48 48 48
 
+-- `bad line NUMBER`, a number of one digit, by its byte
+abbrev pub bad : ℕ → List ℕ
+bad digit = badLineWord ++ (digit ∷ newline ∷ [])
+
 abbrev pub samples : List Sample
 samples =
     -- no event; an item of an enqueue that is under way; empty after an enqueue has ended
@@ -43,10 +47,13 @@ samples =
     -- kind 6; an end without its start
     ∷ record { text = event 54 48 48 48; printed = refusedWord ++ (49 ∷ 50 ∷ newline ∷ []) }
     ∷ record { text = enqueueEnds; printed = refusedWord ++ (49 ∷ 51 ∷ newline ∷ []) }
-    -- three numbers; two spaces; the empty line
-    ∷ record { text = 51 ∷ space ∷ 48 ∷ space ∷ 48 ∷ newline ∷ []; printed = badLine }
-    ∷ record { text = 51 ∷ space ∷ space ∷ 48 ∷ space ∷ 48 ∷ space ∷ 48 ∷ newline ∷ []; printed = badLine }
-    ∷ record { text = newline ∷ []; printed = badLine }
+    -- three numbers; two spaces; the empty line; the same on the second line; a fifth number; no fourth number on the third line
+    ∷ record { text = 51 ∷ space ∷ 48 ∷ space ∷ 48 ∷ newline ∷ []; printed = bad 49 }
+    ∷ record { text = 51 ∷ space ∷ space ∷ 48 ∷ space ∷ 48 ∷ space ∷ 48 ∷ newline ∷ []; printed = bad 49 }
+    ∷ record { text = newline ∷ []; printed = bad 49 }
+    ∷ record { text = dequeueStarts ++ (newline ∷ []); printed = bad 50 }
+    ∷ record { text = dequeueStarts ++ (53 ∷ space ∷ 48 ∷ space ∷ 48 ∷ space ∷ 48 ∷ space ∷ 48 ∷ newline ∷ []); printed = bad 50 }
+    ∷ record { text = dequeueStarts ++ givesEmpty ++ (51 ∷ space ∷ 48 ∷ space ∷ 48 ∷ []); printed = bad 51 }
     ∷ []
 
 -- Every recording of the table prints what the table says.

@@ -26,8 +26,8 @@ pub fn print_verdict(words: &[u32], out: &mut [u8], at: usize) -> usize
     }
 }
 
-// Prints what a text of lines gives: the judge's word on its events, `bad line` or `too long`. The answer is how many bytes.
-pub fn report(text: &[u8], out: &mut [u8; 19]) -> usize
+// Prints what a text of lines gives: the judge's word on its events, `bad line NUMBER` or `too long`. The answer is how many bytes.
+pub fn report(text: &[u8], out: &mut [u8; 20]) -> usize
     ensures { λ r. ⌜ Wrote (now (out .entry)) 0 (reported (now (text .entry))) (now (out .exit)) r ⌝ }
 {
     let mut numbers = [0u32; 32_768];
@@ -36,8 +36,8 @@ pub fn report(text: &[u8], out: &mut [u8; 19]) -> usize
         Parsed::TooLong => {
             return text::write_bytes(out, 0, b"too long\n");
         }
-        Parsed::BadLine => {
-            return text::write_bytes(out, 0, b"bad line\n");
+        Parsed::BadLine(line) => {
+            return protocol::print_numbered(out, 0, b"bad line ", line as u32);
         }
         Parsed::Numbers(count) => {
             return print_verdict(&numbers[..count], out, 0);

@@ -10,11 +10,12 @@ use lib.Dec.{eqb, ltb}
 use lib.ListN.{length, length-append}
 use borrow.Author.Tests.{ltb-false}
 use Rattle.criterion.specs.Pass.{explains}
-use Rattle.protocol.specs.Words.{newline, tooLongLine}
+use Rattle.protocol.specs.Words.{newline, badLine, tooLongLine}
 use Rattle.protocol.specs.Line.{push, linesOf, parseLine}
+use Rattle.protocol.specs.Printed.{printedVerdict}
 use Rattle.protocol.specs.Laws.{length-printed}
 use Rattle.recording.specs.Laws.{length-verdict}
-use Rattle.session.specs.Session.{mostInput, Session, start, Turn, callOf, runLine, runLines, output}
+use Rattle.session.specs.Session.{mostInput, Session, start, Turn, callOf, runLine, runLines, printedRun, output}
 use Rattle.session.specs.Turns.{mostOutput}
 use Rattle.session.specs.LoopLaws.{some-line}
 
@@ -33,22 +34,28 @@ length-lines (b ∷ bs) = go (eqb b newline) (linesOf bs) (length-lines bs)
     go false [] h = omega arith
     go false (l ∷ ls) h = omega arith
 
-length-run : (ls : List (List ℕ)) (x : Session) → 2 * length (runLines ls x) ≤ 27 * bytesOf ls + 24
+length-replies : (ls : List (List ℕ)) (x : Session) → 2 * length (runLines ls x .replies) ≤ 27 * bytesOf ls
 unfolding runLines
-length-run [] x = omega (arith, length-verdict (explains (x .history)))
-length-run (l ∷ ls) x = go (callOf (parseLine l)) refl (λ y. length-run ls y)
+length-replies [] x = omega arith
+length-replies (l ∷ ls) x = go (callOf (parseLine l)) refl (λ y. length-replies ls y)
   where
-    go : (c : Option (Session → Turn)) → callOf (parseLine l) ≡ c → ((y : Session) → 2 * length (runLines ls y) ≤ 27 * bytesOf ls + 24)
-        → 2 * length (runLine c x (runLines ls)) ≤ 27 * (length l + 1 + bytesOf ls) + 24
+    go : (c : Option (Session → Turn)) → callOf (parseLine l) ≡ c → ((y : Session) → 2 * length (runLines ls y .replies) ≤ 27 * bytesOf ls)
+        → 2 * length (runLine c x (runLines ls) .replies) ≤ 27 * (length l + 1 + bytesOf ls)
     go none e rest = omega arith
     go (some call) e rest =
         let y = call x in
         rw length-append (omega (arith, length-printed (y .reply), rest (y .session), some-line l call e))
 
+length-last : (stopped explained : Bool) → length (cond stopped badLine (printedVerdict explained)) ≤ 12
+length-last true explained = omega arith
+length-last false explained = length-verdict explained
+
 pub length-output : (input : List ℕ) → length (output input) ≤ mostOutput
 unfolding output
 length-output input = go (ltb mostInput (length input)) refl
   where
-    go : (b : Bool) → ltb mostInput (length input) ≡ b → length (cond b tooLongLine (runLines (linesOf input) start)) ≤ mostOutput
+    go : (b : Bool) → ltb mostInput (length input) ≡ b → length (cond b tooLongLine (printedRun (runLines (linesOf input) start))) ≤ mostOutput
     go true e = omega arith
-    go false e = omega (arith, length-run (linesOf input) start, length-lines input, ltb-false mostInput (length input) e)
+    go false e =
+        let r = runLines (linesOf input) start in
+        rw length-append (omega (arith, length-replies (linesOf input) start, length-last (r .stopped) (explains (r .session .history)), length-lines input, ltb-false mostInput (length input) e))

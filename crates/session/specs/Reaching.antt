@@ -1,9 +1,8 @@
--- Whatever was reached has a history that is well-formed and explained, by demand 3, and whose enqueues have a producer's
--- thread and a call number.
+-- The history that any lines leave is well-formed, explained and linearizable, by demand 3, and its enqueues have a producer's thread
+-- and a call number.
 use mathlib.Core.Path.{_≡_, refl, ap, sym, _∙_, subst}
 use mathlib.Core.Bool.{Bool, true, false, _&&_, _||_, not, cond, true≢false}
 use mathlib.Core.List.{List, [], _∷_, _++_}
-use mathlib.Core.Option.{some}
 use Prim.Native.Nat.{ℕ, zero, suc, _+_, _≤_}
 use native.Mathlib.Omega.{arith}
 use lib.Dec.{leb, ltb, eqb}
@@ -11,6 +10,7 @@ use lib.ListN.{length, getD, length-replicate}
 use borrow.Author.Tests.{le-ltb, le-leb, ltb-false, leb-true, eqb-false, not-false}
 use Rattle.history.specs.Event.{History, isProducer, enqueueStarted, enqueueEnded, dequeueStarted, gaveItem, gaveEmpty}
 use Rattle.history.specs.Form.{wellFormed}
+use Rattle.history.specs.Linearization.{Linearizable}
 use Rattle.criterion.specs.Explained.{Explained}
 use Rattle.criterion.specs.Criterion.{criterion}
 use Rattle.rules.specs.Sizes.{Sizes, between, sizesInRange, storeWords}
@@ -27,8 +27,8 @@ use Rattle.ordering.specs.Good.{by-cond}
 use Rattle.ordering.specs.Theorem.{demand-3}
 use Rattle.protocol.specs.declared.Line.{Line}
 use Rattle.protocol.specs.declared.Line.the-variants.{Open, Enqueue, Dequeue, Step, Bad}
-use Rattle.session.specs.Session.{blank, Session, start, Turn, reopened, openTurn, callTurn, opening, calling, callOf}
-use Rattle.session.specs.Turns.{Reached, begun, turned}
+use Rattle.protocol.specs.Line.{parseLine}
+use Rattle.session.specs.Session.{blank, Session, start, reopened, openTurn, callTurn, opening, calling, callOf, runLine, runLines}
 use Rattle.session.specs.Reading.{Names, Named}
 
 abbrev picks : ℕ → Picker
@@ -41,7 +41,7 @@ from z m = record { words = open-store z m .words; replies = []; history = [] }
 abbrev after : Sizes → List ℕ → List Request → Played
 after z m qs = play picks qs (from z m)
 
--- What was reached: nothing was opened yet, or some calls followed an accepted open.
+-- What stands: nothing was opened yet, or some calls followed an accepted open.
 data Past : Session → Type 0 where
   unopened : {x : Session} → x .words ≡ blank → x .history ≡ [] → Past x
   played : {x : Session} (z : Sizes) (m : List ℕ) (qs : List Request) → open-store z m .reply ≡ accepted ok → x .words ≡ after z m qs .words → x .history ≡ after z m qs .history → Past x
@@ -92,27 +92,19 @@ open-past z x p = go (sizesInRange z) refl (ltb (length (x .words)) 16 || ltb (l
         let o : open-store z (x .words) ≡ record { reply = accepted ok; words = opened z (x .words) } = rw (e, f) in
         played z (x .words) [] (ap (λ (r : Result). r .reply) o) (sym (ap (λ (r : Result). r .words) o)) refl
 
--- What holds of the beginning, and after every call of what it held of, holds of all that was reached.
-module _ (P : Session → Type 0) (first : P start) (opens : (z : Sizes) (x : Session) → P x → P (opening z x .session)) (calls : (q : Request) (x : Session) → P x → P (calling q x .session)) where
-  by-call : (line : Line) (call : Session → Turn) → callOf line ≡ some call → (x : Session) → P x → P (call x .session)
-  by-call (Open b n p m) call c x h =
-      let z : Sizes = record { B = b; N = n; P = p; M = m } in
-      let e : opening z ≡ call = cc in
-      subst (λ (f : Session → Turn). P (f x .session)) e (opens z x h)
-  by-call (Enqueue t v) call c x h =
-      let e : calling (startEnqueue t v) ≡ call = cc in
-      subst (λ (f : Session → Turn). P (f x .session)) e (calls (startEnqueue t v) x h)
-  by-call Dequeue call c x h =
-      let e : calling startDequeue ≡ call = cc in
-      subst (λ (f : Session → Turn). P (f x .session)) e (calls startDequeue x h)
-  by-call (Step t) call c x h =
-      let e : calling (step t) ≡ call = cc in
-      subst (λ (f : Session → Turn). P (f x .session)) e (calls (step t) x h)
-  by-call Bad call c x h = let z : _≡_ {A = ℕ} 0 1 = cc in absurd (omega arith)
-
-  by-reached : {x : Session} → Reached x → P x
-  by-reached begun = first
-  by-reached (turned {x} r line call c) = by-call line call c x (by-reached r)
+-- What every call keeps holds after any lines, if it held before them.
+module _ (P : Session → Type 0) (opens : (z : Sizes) (x : Session) → P x → P (opening z x .session)) (calls : (q : Request) (x : Session) → P x → P (calling q x .session)) where
+  after-lines : (ls : List (List ℕ)) (x : Session) → P x → P (runLines ls x .session)
+  unfolding runLines
+  after-lines [] x h = h
+  after-lines (l ∷ ls) x h = go (parseLine l) (λ y. after-lines ls y)
+    where
+      go : (k : Line) → ((y : Session) → P y → P (runLines ls y .session)) → P (runLine (callOf k) x (runLines ls) .session)
+      go (Open b n p m) f = let z : Sizes = record { B = b; N = n; P = p; M = m } in f (opening z x .session) (opens z x h)
+      go (Enqueue t v) f = f (calling (startEnqueue t v) x .session) (calls (startEnqueue t v) x h)
+      go Dequeue f = f (calling startDequeue x .session) (calls startDequeue x h)
+      go (Step t) f = f (calling (step t) x .session) (calls (step t) x h)
+      go Bad f = h
 
 -- Demand 3.
 past-formed : (x : Session) → Past x → (wellFormed (x .history) ≡ true) × Explained (x .history)
@@ -121,8 +113,12 @@ past-formed x (played z m qs o w e) =
     let d = demand-3 z m qs picks o (λ k. lowest-free-picks) in
     rw e (d .formed, criterion (after z m qs .history) (d .formed) .1 (d .linearizable))
 
-pub reached-formed : {x : Session} → Reached x → (wellFormed (x .history) ≡ true) × Explained (x .history)
-reached-formed {x} r = past-formed x (by-reached Past (unopened refl refl) open-past call-past r)
+pub lines-formed : (ls : List (List ℕ)) → (wellFormed (runLines ls start .session .history) ≡ true) × Explained (runLines ls start .session .history)
+lines-formed ls = past-formed (runLines ls start .session) (after-lines Past open-past call-past ls start (unopened refl refl))
+
+-- The history that the lines leave is linearizable.
+pub lines-linearizable : (ls : List (List ℕ)) → Linearizable (runLines ls start .session .history)
+lines-linearizable ls = let f = lines-formed ls in criterion (runLines ls start .session .history) (f .0) .0 (f .1)
 
 neither : (a b : Bool) → (a || b) ≡ false → (a ≡ false) × (b ≡ false)
 neither true b e = absurd (true≢false e)
@@ -224,5 +220,5 @@ open-named z x a = go (open-store z (x .words) .reply)
     go (refused n) = a
     go (accepted r) = tt
 
-pub reached-named : {x : Session} → Reached x → Named (x .history)
-reached-named r = by-reached (λ x. Named (x .history)) tt open-named call-named r
+pub lines-named : (ls : List (List ℕ)) → Named (runLines ls start .session .history)
+lines-named ls = after-lines (λ x. Named (x .history)) open-named call-named ls start tt

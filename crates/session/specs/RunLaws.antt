@@ -1,11 +1,11 @@
 -- From the lines to the whole output.
-use mathlib.Core.Path.{_≡_, refl, ap, _∙_, subst}
-use mathlib.Core.List.{List, _++_}
+use mathlib.Core.Path.{_≡_, ap, _∙_}
+use mathlib.Core.List.{List}
 use Prim.Native.Nat.{ℕ, _*_, _≤_, _<_}
 use native.Mathlib.Omega.{arith}
 use lib.ListN.{length, take, replicate}
 use borrow.Author.Tests.{lt-ltb, le-ltb}
-use Rattle.history.specs.Form.{mostEvents, Reading, history, read}
+use Rattle.history.specs.Form.{mostEvents, history, read}
 use Rattle.text.specs.Wrote.{Wrote}
 use Rattle.text.specs.Laws.{wrote-append}
 use Rattle.protocol.specs.Words.{tooLongLine}
@@ -13,34 +13,43 @@ use Rattle.protocol.specs.Line.{linesOf}
 use Rattle.recording.specs.Report.{printedReading}
 use Rattle.session.specs.declared.Place.{Place}
 use Rattle.session.specs.declared.Next.{Next}
-use Rattle.session.specs.Session.{mostInput, mostWords, blank, start, runLines, output}
-use Rattle.session.specs.EventLaws.{none-recorded}
-use Rattle.session.specs.Turns.{begun, Ended, Finishes, Ran}
+use Rattle.session.specs.declared.Next.the-variants.{Stop, On}
+use Rattle.session.specs.Session.{mostInput, mostWords, blank, start, runLines, printedRun, output}
+use Rattle.session.specs.Turns.{mostReplies, Leaves, Ran}
 use Rattle.session.specs.Reading.{words-read}
-use Rattle.session.specs.Reaching.{reached-formed, reached-named}
+use Rattle.session.specs.Reaching.{lines-formed, lines-named}
 
 pub too-long : (input : List ℕ) {out out′ : List ℕ} {r : ℕ} → mostInput < length input → Wrote out 0 tooLongLine out′ r → Wrote out 0 (output input) out′ r
 unfolding output
 too-long input l w = simp (lt-ltb mostInput (length input) l) w
 
-short-output : (input : List ℕ) → length input ≤ mostInput → output input ≡ runLines (linesOf input) start
+short-output : (input : List ℕ) → length input ≤ mostInput → output input ≡ printedRun (runLines (linesOf input) start)
 unfolding output
 short-output input l = simp (le-ltb mostInput (length input) l)
 
--- what the lines leave from the beginning
-pub finishes : {input history out history′ out′ : List ℕ} {r v : Next} → Ran input (replicate mostWords 0) history out history′ out′ r → r ≡ v → length input ≤ mostInput → Finishes (output input) history′ out out′ v
-unfolding blank
-finishes {input} {history} f e l =
-    rw (short-output input l, ← e) (f .finishes start begun (record { words-are = refl; recorded = none-recorded history }))
+-- What the lines leave from the beginning.
+module _ {input out store′ history′ out′ : List ℕ} {r : Next} (f : Ran input (replicate mostWords 0) out store′ history′ out′ r) where
+  leaves : {v : Next} → r ≡ v → Leaves (runLines (linesOf input) start) store′ history′ out out′ v
+  unfolding blank
+  leaves e = rw e at (f .leaves)
 
--- the history that the recorded words are read as
-module _ {p h b o : List ℕ} {at : Place} (e : Ended p h b o at) where
-  last-read : read mostEvents (take (at .events * 4) h) ≡ history (e .last .history)
-  last-read =
-      let f = reached-formed (e .reached) in
-      ap (read mostEvents) (e .recorded .held)
-      ∙ words-read (e .last .history) (f .0) (reached-named (e .reached)) (f .1) (omega (arith, e .recorded .counted, e .few))
+  pub bad-printed : {end : ℕ} → r ≡ Stop end → length input ≤ mostInput → Wrote out 0 (output input) out′ end
+  bad-printed e l = let g = leaves e in rw (short-output input l, g .0) (g .2)
 
-  pub last-printed : {o′ : List ℕ} {r : ℕ} → Wrote o (at .bytes) (printedReading (read mostEvents (take (at .events * 4) h))) o′ r → Wrote b 0 p o′ r
-  last-printed {o′} {r} w =
-      subst (λ (q : List ℕ). Wrote b 0 q o′ r) (ap (λ (x : Reading). e .replies ++ printedReading x) last-read ∙ e .printed) (wrote-append (e .wrote) w)
+  module _ {at : Place} (e : r ≡ On at) where
+    pub few-events : at .events ≤ mostEvents
+    few-events = leaves e .1
+
+    pub short-replies : at .bytes ≤ mostReplies
+    short-replies = leaves e .2
+
+    -- the history that the recorded words are read as
+    last-read : read mostEvents (take (at .events * 4) history′) ≡ history (runLines (linesOf input) start .session .history)
+    last-read =
+        let g = lines-formed (linesOf input) in
+        let w = leaves e .0 .stands .recorded in
+        ap (read mostEvents) (w .held)
+        ∙ words-read (runLines (linesOf input) start .session .history) (g .0) (lines-named (linesOf input)) (g .1) (omega (arith, w .counted, few-events))
+
+    pub last-printed : {o : List ℕ} {n : ℕ} → length input ≤ mostInput → Wrote out′ (at .bytes) (printedReading (read mostEvents (take (at .events * 4) history′))) o n → Wrote out 0 (output input) o n
+    last-printed l w = let g = leaves e .0 in rw (short-output input l, g .good) (wrote-append (g .wrote) (rw last-read at w))

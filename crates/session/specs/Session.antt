@@ -1,5 +1,5 @@
 -- What the program prints, from the bytes that it reads (document 01, "Program").
-use mathlib.Core.Bool.{cond}
+use mathlib.Core.Bool.{Bool, true, false, cond}
 use mathlib.Core.List.{List, [], _∷_, _++_}
 use mathlib.Core.Option.{Option, none, some}
 use Prim.Native.Nat.{ℕ}
@@ -32,12 +32,16 @@ pub record Session : Type 0 where
   pub words : List ℕ
   pub history : History
 
+-- some words and no events
+abbrev pub begun : List ℕ → Session
+begun m = record { words = m; history = [] }
+
 -- Before any open the words are zero.
 unfoldable pub blank : List ℕ
 blank = replicate mostWords 0
 
 abbrev pub start : Session
-start = record { words = blank; history = [] }
+start = begun blank
 
 -- What a call replies, and what stands after it.
 pub record Turn : Type 0 where
@@ -69,16 +73,30 @@ callOf Dequeue = some (calling startDequeue)
 callOf (Step t) = some (calling (step t))
 callOf Bad = none
 
--- A call prints its reply, and the lines after it go on with what stands then. A bad line prints `bad line` and nothing after it.
-abbrev pub runLine : Option (Session → Turn) → Session → (Session → List ℕ) → List ℕ
-runLine none x rest = badLine
-runLine (some call) x rest = printed (call x .reply) ++ rest (call x .session)
+-- What some lines leave: what stands after them, the replies that they printed, and whether one of them was bad.
+pub record Run : Type 0 where
+  pub session : Session
+  pub replies : List ℕ
+  pub stopped : Bool
 
--- The lines in turn; after the last, the judge's word on the history.
-unfoldable pub runLines : List (List ℕ) → Session → List ℕ
-runLines [] x = printedVerdict (explains (x .history))
+-- what lines leave after a printed reply
+abbrev pub after : List ℕ → Run → Run
+after bytes r = record { session = r .session; replies = bytes ++ r .replies; stopped = r .stopped }
+
+-- A call prints its reply, and the lines after it go on with what stands then. No line after a bad one is run.
+abbrev pub runLine : Option (Session → Turn) → Session → (Session → Run) → Run
+runLine none x rest = record { session = x; replies = []; stopped = true }
+runLine (some call) x rest = after (printed (call x .reply)) (rest (call x .session))
+
+-- The lines in turn.
+unfoldable pub runLines : List (List ℕ) → Session → Run
+runLines [] x = record { session = x; replies = []; stopped = false }
 runLines (l ∷ ls) x = runLine (callOf (parseLine l)) x (runLines ls)
+
+-- The replies, and then `bad line`, or else the judge's word on the history.
+abbrev pub printedRun : Run → List ℕ
+printedRun r = r .replies ++ cond (r .stopped) badLine (printedVerdict (explains (r .session .history)))
 
 -- Longer input prints `too long` only.
 unfoldable pub output : List ℕ → List ℕ
-output input = cond (ltb mostInput (length input)) tooLongLine (runLines (linesOf input) start)
+output input = cond (ltb mostInput (length input)) tooLongLine (printedRun (runLines (linesOf input) start))

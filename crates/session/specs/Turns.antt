@@ -1,21 +1,20 @@
 -- What a line leaves in the program's buffers: the words of the store, the words of the history and the printed bytes.
 use mathlib.Core.Path.{_≡_}
+use mathlib.Core.Bool.{true, false}
 use mathlib.Core.List.{List, _++_}
-use mathlib.Core.Option.{none, some}
+use mathlib.Core.Option.{Option, none, some}
 use Prim.Native.Nat.{ℕ, _+_, _*_, _≤_}
-use lib.ListN.{drop}
+use lib.ListN.{length}
 use Rattle.history.specs.Form.{mostEvents}
-use Rattle.history.specs.Linearization.{Linearizable}
-use Rattle.criterion.specs.Pass.{explains}
 use Rattle.text.specs.Wrote.{Wrote}
 use Rattle.protocol.specs.declared.Line.{Line}
 use Rattle.protocol.specs.Words.{badLine}
 use Rattle.protocol.specs.Line.{linesOf}
-use Rattle.protocol.specs.Printed.{printed, mostPrinted, printedVerdict}
+use Rattle.protocol.specs.Printed.{printed, mostPrinted}
 use Rattle.session.specs.declared.Place.{Place}
 use Rattle.session.specs.declared.Next.{Next}
 use Rattle.session.specs.declared.Next.the-variants.{Stop, On}
-use Rattle.session.specs.Session.{Session, start, Turn, callOf, runLines}
+use Rattle.session.specs.Session.{Session, begun, Turn, callOf, Run, runLines}
 use Rattle.session.specs.Events.{Recorded}
 
 -- The buffers hold what stands, the history's first k events.
@@ -30,15 +29,15 @@ pub record Turned (call : Session → Turn) (store history out : List ℕ) (at :
   pub most : next .events ≤ at .events + 1
   pub short : next .bytes ≤ at .bytes + mostPrinted
 
--- What a line does: a bad one stops the run, any other turns as its call does.
-abbrev pub Answers : Line → (store history out : List ℕ) → Place → (store′ history′ out′ : List ℕ) → Next → Type 0
-Answers line s h o at s′ h′ o′ (Stop end) = (callOf line ≡ none) × Wrote o (at .bytes) badLine o′ end
-Answers line s h o at s′ h′ o′ (On next) = (call : Session → Turn) × (callOf line ≡ some call) × Turned call s h o at s′ h′ o′ next
+-- What a line does, by the call that it asks for: a bad one prints `bad line` and stops the run, any other turns as its call does.
+abbrev pub Answered : Option (Session → Turn) → (store history out : List ℕ) → Place → (store′ history′ out′ : List ℕ) → Next → Type 0
+Answered none s h o at s′ h′ o′ (Stop end) = (s′ ≡ s) × (h′ ≡ h) × Wrote o (at .bytes) badLine o′ end
+Answered none s h o at s′ h′ o′ (On next) = ⊥
+Answered (some call) s h o at s′ h′ o′ (Stop end) = ⊥
+Answered (some call) s h o at s′ h′ o′ (On next) = Turned call s h o at s′ h′ o′ next
 
--- What can stand: the beginning, and what a call leaves of what stands.
-pub data Reached : Session → Type 0 where
-  begun : Reached start
-  turned : {x : Session} → Reached x → (line : Line) (call : Session → Turn) → callOf line ≡ some call → Reached (call x .session)
+pub record Answers (line : Line) (store history out : List ℕ) (at : Place) (store′ history′ out′ : List ℕ) (r : Next) : Type 0 where
+  pub answered : Answered (callOf line) store history out at store′ history′ out′ r
 
 -- A bound on the bytes of the replies: 8,192 bytes are at most 4,096 lines that ask for a call, so many as the judge takes events.
 abbrev pub mostReplies : ℕ
@@ -49,32 +48,17 @@ mostReplies = mostEvents * mostPrinted
 abbrev pub mostOutput : ℕ
 mostOutput = 110617
 
--- What all lines leave, where p is what they print with the judge's word: after a bad line all of it is printed; else all but the
--- judge's word, and the recorded history is linearizable.
-pub record Ended (p history before out : List ℕ) (at : Place) : Type 0 where
-  pub last : Session
-  pub reached : Reached last
-  pub recorded : Recorded history (at .events) (last .history)
-  pub linearizable : Linearizable (last .history)
-  pub replies : List ℕ
-  pub wrote : Wrote before 0 replies out (at .bytes)
-  pub printed : replies ++ printedVerdict (explains (last .history)) ≡ p
-  pub few : at .events ≤ mostEvents
-  pub short : at .bytes ≤ mostReplies
+-- The lines were run to the end: the buffers hold what stands after them, and their replies were printed.
+pub record Ended (r : Run) (store history before out : List ℕ) (at : Place) : Type 0 where
+  pub good : r .stopped ≡ false
+  pub stands : Stands (r .session) store history (at .events)
+  pub wrote : Wrote before 0 (r .replies) out (at .bytes)
 
-abbrev pub Finishes : (p history before out : List ℕ) → Next → Type 0
-Finishes p h b o (Stop end) = Wrote b 0 p o end
-Finishes p h b o (On at) = Ended p h b o at
+-- What lines leave in the buffers, and the answer: where the output ends, or where the next event and the next byte go.
+abbrev pub Leaves : Run → (store history before out : List ℕ) → Next → Type 0
+Leaves r s h b o (Stop end) = (r .stopped ≡ true) × Stands (r .session) s h (length (r .session .history)) × Wrote b 0 (r .replies ++ badLine) o end
+Leaves r s h b o (On at) = Ended r s h b o at × (at .events ≤ mostEvents) × (at .bytes ≤ mostReplies)
 
--- Between two lines: what stands, the replies that were printed, and that with what is yet to be printed they are the output.
-pub record Going (x : Session) (input store history before out : List ℕ) (at events bytes : ℕ) : Type 0 where
-  pub last : Session
-  pub reached : Reached last
-  pub stands : Stands last store history events
-  pub replies : List ℕ
-  pub wrote : Wrote before 0 replies out bytes
-  pub printed : replies ++ runLines (linesOf (drop at input)) last ≡ runLines (linesOf input) x
-
--- The lines of the input from any session that was reached and has no events yet.
-pub record Ran (input store history out history′ out′ : List ℕ) (r : Next) : Type 0 where
-  pub finishes : (x : Session) → Reached x → Stands x store history 0 → Finishes (runLines (linesOf input) x) history′ out out′ r
+-- The lines of the input were run, from the words of the store and no events.
+pub record Ran (input store out store′ history′ out′ : List ℕ) (r : Next) : Type 0 where
+  pub leaves : Leaves (runLines (linesOf input) (begun store)) store′ history′ out out′ r

@@ -275,12 +275,12 @@ fn take_turn(store: &mut [u32], history: &mut [u32], out: &mut [u8], at: Place, 
     }
 }
 
-// Runs the lines in turn.
+// Runs the lines in turn, from a store and no events.
 fn run_lines(input: &[u8], store: &mut [u32], history: &mut [u32], out: &mut [u8]) -> Next
     requires { ⌜ length (now input) ≤ mostInput ⌝ }
     requires { ⌜ 16384 ≤ length (now history) ⌝ }
     requires { ⌜ mostOutput ≤ length (now out) ⌝ }
-    ensures { λ r. ⌜ Ran (now (input .entry)) (now (store .entry)) (now (history .entry)) (now (out .entry)) (now (history .exit)) (now (out .exit)) r ⌝ }
+    ensures { λ r. ⌜ Ran (now (input .entry)) (now (store .entry)) (now (out .entry)) (now (store .exit)) (now (history .exit)) (now (out .exit)) r ⌝ }
 {
     let mut at = 0;
     let mut events = 0;

@@ -1,12 +1,14 @@
 // Reads a history from standard input, one event a line, and prints the judge's word on it.
-use libc::STDIN_FILENO;
-use libc::STDOUT_FILENO;
+use stdio::Input;
 
 fn main() {
-    // The lines of 8,192 events are at most 360,448 bytes, so a text that is cut off has a line too many or a bad one.
+    // The lines of 8,192 events are at most 360,448 bytes, so a text that is cut off has a line too many, or the first bad line that it had.
     let mut text = [0u8; 360_449];
-    let n = io::read_full(STDIN_FILENO, &mut text);
-    let mut out = [0u8; 19];
+    let Input::Bytes(n) = stdio::read_input(&mut text) else {
+        stdio::print_unreadable();
+        return;
+    };
+    let mut out = [0u8; 20];
     let printed = recording::report(&text[..n], &mut out);
-    io::write_all(STDOUT_FILENO, &out[..printed]);
+    stdio::print(&out[..printed]);
 }

@@ -24,6 +24,9 @@ same-length c = c .before .before .loop .inv .0
 returns : tie.Need-returns Inv-loop μ-loop
 returns c = too-long (c .before .before .loop .inv .1) (omega arith) (omega arith)
 
+line-after-requires : tie.Need-line-after-requires Inv-loop μ-loop
+line-after-requires c κs = search needs
+
 read-number-requires : tie.Need-read-number-requires Inv-loop μ-loop
 read-number-requires c κs = search needs
 
@@ -34,12 +37,12 @@ enum-told : tie.Need-enum-told Inv-loop μ-loop
 enum-told c = search needs
 
 same-length-2 : tie.Need-same-length-2 Inv-loop μ-loop
-same-length-2 c = c .before .before .before .before .before .loop .inv .0
+same-length-2 c = c .before .before .before .before .before .before .loop .inv .0
 
 returns-2 : tie.Need-returns-2 Inv-loop μ-loop
 returns-2 c =
     let r = c .before .before in
-    no-number (r .before .before .before .loop .inv .1) (omega arith) (omega arith) (sym (r .read-number .ensures) ∙ c .enum-told .given .1)
+    rw (r .before .line-after .ensures) (no-number (r .before .before .before .before .loop .inv .1) (omega arith) (omega arith) (sym (r .read-number .ensures) ∙ c .enum-told .given .1))
 
 mul-numbers : tie.Need-mul-numbers Inv-loop μ-loop
 mul-numbers c = omega arith
@@ -54,14 +57,14 @@ end-after-requires : tie.Need-end-after-requires Inv-loop μ-loop
 end-after-requires c κs = search needs
 
 same-length-3 : tie.Need-same-length-3 Inv-loop μ-loop
-same-length-3 c = simp length-set (c .before .before .before .before .before .before .before .before .loop .inv .0)
+same-length-3 c = simp length-set (c .before .before .before .before .before .before .before .before .before .loop .inv .0)
 
 returns-3 : tie.Need-returns-3 Inv-loop μ-loop
 returns-3 c =
     let n = c .before .before .before in
     let r = n .before .before in
     rw (c .end-after .ensures)
-    (ends-after (r .before .before .before .loop .inv .1) (omega arith) (omega arith) (sym (r .read-number .ensures) ∙ n .n .given .1) (omega arith))
+    (ends-after (r .before .before .before .before .loop .inv .1) (omega arith) (omega arith) (sym (r .read-number .ensures) ∙ n .n .given .1) (omega arith))
 
 shared-slice-read-if3 : tie.Need-shared-slice-read-if3 Inv-loop μ-loop
 shared-slice-read-if3 c = omega arith
@@ -70,14 +73,15 @@ separator-after-requires : tie.Need-separator-after-requires Inv-loop μ-loop
 separator-after-requires c κs = search needs
 
 same-length-4 : tie.Need-same-length-4 Inv-loop μ-loop
-same-length-4 c = simp length-set (c .before .before .before .before .before .before .before .before .before .before .loop .inv .0)
+same-length-4 c = simp length-set (c .before .before .before .before .before .before .before .before .before .before .before .loop .inv .0)
 
 returns-4 : tie.Need-returns-4 Inv-loop μ-loop
 returns-4 c =
     let n = c .before .before .before .before .before in
     let r = n .before .before in
-    bad-separator (r .before .before .before .loop .inv .1) (omega arith) (omega arith) (sym (r .read-number .ensures) ∙ n .n .given .1) (omega arith)
-    (λ e. c .if3 .taken (e ∙ sym (c .before .separator-after .ensures)))
+    rw (r .before .line-after .ensures)
+    (bad-separator (r .before .before .before .before .loop .inv .1) (omega arith) (omega arith) (sym (r .read-number .ensures) ∙ n .n .given .1) (omega arith)
+    (λ e. c .if3 .taken (e ∙ sym (c .before .separator-after .ensures))))
 
 add-at : tie.Need-add-at Inv-loop μ-loop
 add-at c = omega arith
@@ -89,8 +93,8 @@ loop-again : tie.Need-loop-again Inv-loop μ-loop
 loop-again c =
     let n = c .before .before .before .before .before in
     let r = n .before .before in (
-      simp length-set (r .before .before .before .loop .inv .0),
-      goes-on (r .before .before .before .loop .inv .1) (omega arith) (omega arith) (sym (r .read-number .ensures) ∙ n .n .given .1) (omega arith)
+      simp length-set (r .before .before .before .before .loop .inv .0),
+      goes-on (r .before .before .before .before .loop .inv .1) (omega arith) (omega arith) (sym (r .read-number .ensures) ∙ n .n .given .1) (omega arith)
           (c .if3 .left ∙ c .before .separator-after .ensures),
     )
 
@@ -112,6 +116,7 @@ parse-spec =
     loop-holds
     same-length
     returns
+    line-after-requires
     read-number-requires
     enum-known-n
     enum-told

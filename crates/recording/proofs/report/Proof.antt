@@ -1,9 +1,10 @@
 -- `recording::report` meets its contract: what the parsed lines print.
 use mathlib.Core.Path.{sym}
 use Prim.Native.Nat.{ℕ}
+use native.Mathlib.Omega.{arith}
 use lib.ListN.{length-replicate}
 use lib.Seq.{length-take-le}
-use Rattle.lines.specs.Laws.{numbers-within}
+use Rattle.lines.specs.Laws.{line-within, numbers-within}
 use Rattle.recording.specs.Laws.{reported-is, reported-numbers}
 use borrow.Author.Needs.{needs}
 use Rattle.recording.proofs.report.Statement.{statement}
@@ -28,35 +29,39 @@ returns : tie.Need-returns
 returns c =
     rw (reported-is (length-replicate {A = ℕ} 32768 0) (c .before .before .before .before .before .before .parse .ensures) (c .before .before .before .enum-told .given .1)) (c .write-bytes .ensures)
 
-enum-told-2 : tie.Need-enum-told-2
-enum-told-2 c = search needs
-
-slice-aggregate-write-bytes-2 : tie.Need-slice-aggregate-write-bytes-2
-slice-aggregate-write-bytes-2 c = search needs
-
-write-bytes-requires-2 : tie.Need-write-bytes-requires-2
-write-bytes-requires-2 c κs = search needs
-
-returns-2 : tie.Need-returns-2
-returns-2 c =
-    rw (reported-is (length-replicate {A = ℕ} 32768 0) (c .before .before .before .before .before .before .parse .ensures) (c .before .before .before .enum-told2 .given .1)) (c .write-bytes2 .ensures)
-
 enum-known-parsed : tie.Need-enum-known-parsed
 enum-known-parsed c = search needs
 
+slice-aggregate-print-numbered : tie.Need-slice-aggregate-print-numbered
+slice-aggregate-print-numbered c = search needs
+
+cast-print-numbered : tie.Need-cast-print-numbered
+cast-print-numbered c =
+    omega (arith, line-within (c .before .before .before .before .before .before .parse .ensures) (c .before .before .before .parsed .given .1), length-replicate {A = ℕ} 32768 0)
+
+print-numbered-requires : tie.Need-print-numbered-requires
+print-numbered-requires c κs = search needs
+
+returns-2 : tie.Need-returns-2
+returns-2 c =
+    rw (reported-is (length-replicate {A = ℕ} 32768 0) (c .before .before .before .before .before .before .before .parse .ensures) (c .before .before .before .before .parsed .given .1)) (c .print-numbered .ensures)
+
+enum-known-parsed-2 : tie.Need-enum-known-parsed-2
+enum-known-parsed-2 c = search needs
+
 array-share-prefix-numbers : tie.Need-array-share-prefix-numbers
-array-share-prefix-numbers c = numbers-within (c .before .before .before .before .parse .ensures) (c .before .parsed .given .1)
+array-share-prefix-numbers c = numbers-within (c .before .before .before .before .parse .ensures) (c .before .parsed2 .given .1)
 
 slice-aggregate-print-verdict : tie.Need-slice-aggregate-print-verdict
 slice-aggregate-print-verdict c =
-    sym (length-take-le _ _ (numbers-within (c .before .before .before .before .before .parse .ensures) (c .before .before .parsed .given .1)))
+    sym (length-take-le _ _ (numbers-within (c .before .before .before .before .before .parse .ensures) (c .before .before .parsed2 .given .1)))
 
 print-verdict-requires : tie.Need-print-verdict-requires
 print-verdict-requires c κs = search needs
 
 returns-3 : tie.Need-returns-3
 returns-3 c =
-    rw (reported-numbers (length-replicate {A = ℕ} 32768 0) (c .before .before .before .before .before .before .before .parse .ensures) (c .before .before .before .before .parsed .given .1)) (c .print-verdict .ensures)
+    rw (reported-numbers (length-replicate {A = ℕ} 32768 0) (c .before .before .before .before .before .before .before .parse .ensures) (c .before .before .before .before .parsed2 .given .1)) (c .print-verdict .ensures)
 
 pub report-spec : {M : Type 1} → statement M
 report-spec =
@@ -68,11 +73,12 @@ report-spec =
     slice-aggregate-write-bytes
     write-bytes-requires
     returns
-    enum-told-2
-    slice-aggregate-write-bytes-2
-    write-bytes-requires-2
-    returns-2
     enum-known-parsed
+    slice-aggregate-print-numbered
+    cast-print-numbered
+    print-numbered-requires
+    returns-2
+    enum-known-parsed-2
     array-share-prefix-numbers
     slice-aggregate-print-verdict
     print-verdict-requires

@@ -4,7 +4,7 @@ use Prim.Native.Nat.{ℕ}
 use native.Mathlib.Omega.{arith}
 use lib.ListN.{length-replicate}
 use lib.Seq.{length-take-le}
-use Rattle.session.specs.RunLaws.{too-long, finishes, last-printed}
+use Rattle.session.specs.RunLaws.{too-long, bad-printed, few-events, short-replies, last-printed}
 use borrow.Author.Needs.{needs}
 use Rattle.session.proofs.run.Statement.{statement}
 use Rattle.session.proofs.run.Tie as tie
@@ -31,31 +31,31 @@ enum-known-next : tie.Need-enum-known-next
 enum-known-next c = search needs
 
 returns-2 : tie.Need-returns-2
-returns-2 c = finishes (c .before .before .before .before .before .run-lines .ensures) (c .before .next .given .1) (c .before .before .before .before .before .before .before .before .before .if1 .left)
+returns-2 c = bad-printed (c .before .before .before .before .before .run-lines .ensures) (c .before .next .given .1) (c .before .before .before .before .before .before .before .before .before .if1 .left)
 
 enum-known-next-2 : tie.Need-enum-known-next-2
 enum-known-next-2 c = search needs
 
 mul-words : tie.Need-mul-words
 mul-words c =
-    let e = finishes (c .before .before .before .before .before .before .run-lines .ensures) (c .before .before .next2 .given .1) (c .before .before .before .before .before .before .before .before .before .before .if1 .left) in
-    omega (arith, e .few)
+    let e = few-events (c .before .before .before .before .before .before .run-lines .ensures) (c .before .before .next2 .given .1) in
+    omega (arith, e)
 
 array-share-prefix-history : tie.Need-array-share-prefix-history
 array-share-prefix-history c =
-    let e = finishes (c .before .before .before .before .before .before .run-lines .ensures) (c .before .before .next2 .given .1) (c .before .before .before .before .before .before .before .before .before .before .if1 .left) in
-    omega (arith, e .few, c .before .before .before .before .before .before .run-lines .kept .1 .1 .0, length-replicate {A = ℕ} 16384 0)
+    let e = few-events (c .before .before .before .before .before .before .run-lines .ensures) (c .before .before .next2 .given .1) in
+    omega (arith, e, c .before .before .before .before .before .before .run-lines .kept .1 .1 .0, length-replicate {A = ℕ} 16384 0)
 
 slice-aggregate-print-verdict : tie.Need-slice-aggregate-print-verdict
 slice-aggregate-print-verdict c = sym (length-take-le _ _ (array-share-prefix-history (c .before)))
 
 print-verdict-requires : tie.Need-print-verdict-requires
 print-verdict-requires c κs =
-    let e = finishes (c .before .before .before .before .before .before .before .before .run-lines .ensures) (c .before .before .before .before .next2 .given .1) (c .before .before .before .before .before .before .before .before .before .before .before .before .if1 .left) in
-    omega (arith, e .short)
+    let e = short-replies (c .before .before .before .before .before .before .before .before .run-lines .ensures) (c .before .before .before .before .next2 .given .1) in
+    omega (arith, e)
 
 returns-3 : tie.Need-returns-3
-returns-3 c = last-printed (finishes (c .before .before .before .before .before .before .before .before .before .run-lines .ensures) (c .before .before .before .before .before .next2 .given .1) (c .before .before .before .before .before .before .before .before .before .before .before .before .before .if1 .left)) (c .print-verdict .ensures)
+returns-3 c = last-printed (c .before .before .before .before .before .before .before .before .before .run-lines .ensures) (c .before .before .before .before .before .next2 .given .1) (c .before .before .before .before .before .before .before .before .before .before .before .before .before .if1 .left) (c .print-verdict .ensures)
 
 pub run-spec : {M : Type 1} → statement M
 run-spec =

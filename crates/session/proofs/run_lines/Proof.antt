@@ -1,15 +1,12 @@
--- `session::run_lines` meets its contract. The loop's invariant: what was printed, with what the lines that are left print, is
--- the output. Each line has two bytes, which bounds the events and the printed bytes.
+-- `session::run_lines` meets its contract. The loop's invariant: the buffers hold what the lines before `at` leave. Each line has two
+-- bytes, which bounds the events and the printed bytes.
 use borrow.Author.Needs.{needs}
-use mathlib.Core.Path.{_≡_, refl, ap, sym, _∙_}
-use mathlib.Core.List.{[]}
+use mathlib.Core.Path.{_≡_, refl, _∙_}
 use Prim.Native.Nat.{_+_, _-_, _*_, _/_, _≤_}
 use native.Mathlib.Omega.{arith}
 use lib.ListN.{length, take, drop, length-take}
-use Rattle.session.specs.Session.{Session, callOf}
-use Rattle.session.specs.Turns.{Stands, Reached, Going}
-use Rattle.session.specs.LastLine.{reached-linearizable}
-use Rattle.session.specs.LoopLaws.{line-within, some-line, going-on, going-stops, going-ends}
+use Rattle.session.specs.Session.{begun}
+use Rattle.session.specs.LoopLaws.{line-within, answered-short, Going, going-begins, going-on, going-stops, going-ends}
 use Rattle.session.proofs.run_lines.Statement.{statement}
 use Rattle.session.proofs.run_lines.Tie as tie
 
@@ -21,13 +18,13 @@ Inv-loop input store₀ history₀ out₀ at₀ events₀ bytes₀ store history
     × (length store ≡ length store₀)
     × (length history ≡ length history₀)
     × (length out ≡ length out₀)
-    × ((x : Session) → Reached x → Stands x store₀ history₀ 0 → Going x input store history out₀ out at events bytes)
+    × Going (begun store₀) input store history out₀ out at events bytes
 
 abbrev μ-loop : tie.MeasureT-loop
 μ-loop input store₀ history₀ out₀ at₀ events₀ bytes₀ store history out at events bytes = length input + 1 - at
 
 loop-holds : tie.Need-loop-holds Inv-loop μ-loop
-loop-holds c = (omega arith, omega arith, omega arith, refl, refl, refl, λ x r s. record { last = x; reached = r; stands = s; replies = []; wrote = record { next-is = refl; after-is = refl }; printed = refl })
+loop-holds c = (omega arith, omega arith, omega arith, refl, refl, refl, going-begins _ _ _ _)
 
 line-end-requires : tie.Need-line-end-requires Inv-loop μ-loop
 line-end-requires c κs = tt
@@ -65,9 +62,8 @@ returns c =
     let a = c .before .before .before .before .before .before .before .before .before .before .before .before .before .before .before .before .before in
     let i = c .before .before .before .before .before .before .before .before .before .before .before .before .before .before .before .before .before .before .before .before .before .before .args .input .now in
     let e = c .before .before .before .before .before .before .before .before .before .before .before .before .before .before .before .line-end in
-    let w = rw (c .before .next .given .1) at (c .before .before .before .before .before .before .before .before .before .take-turn .ensures) in
-    let l = rw (c .before .before .before .before .before .before .before .before .before .before .before .before .before .parse-line .ensures) at (w .0) in
-    record { finishes = λ x r s. going-stops i (a .loop .at) (e .result) (omega arith) (e .ensures) (a .loop .inv .6 x r s) l (w .1) }
+    let w = rw (c .before .next .given .1, c .before .before .before .before .before .before .before .before .before .before .before .before .before .parse-line .ensures) at (c .before .before .before .before .before .before .before .before .before .take-turn .ensures) in
+    record { leaves = going-stops i (a .loop .at) (e .result) (omega arith) (e .ensures) (a .loop .inv .6) w }
 
 enum-known-next-2 : tie.Need-enum-known-next-2 Inv-loop μ-loop
 enum-known-next-2 c = search needs
@@ -84,17 +80,17 @@ loop-again c =
     let a = c .before .before .before .before .before .before .before .before .before .before .before .before .before .before .before .before .before in
     let i = c .before .before .before .before .before .before .before .before .before .before .before .before .before .before .before .before .before .before .before .before .before .before .args .input .now in
     let e = c .before .before .before .before .before .before .before .before .before .before .before .before .before .before .before .line-end in
-    let w = rw (c .before .next2 .given .1) at (c .before .before .before .before .before .before .before .before .before .take-turn .ensures) in
-    let l = ap callOf (sym (c .before .before .before .before .before .before .before .before .before .before .before .before .before .parse-line .ensures)) ∙ w .1 in
-    let n = rw length-take at (some-line (take (e .result - a .loop .at) (drop (a .loop .at) i)) (w .0) l) in
+    let w = rw (c .before .next2 .given .1, c .before .before .before .before .before .before .before .before .before .before .before .before .before .parse-line .ensures) at (c .before .before .before .before .before .before .before .before .before .take-turn .ensures) in
+    let s = answered-short (take (e .result - a .loop .at) (drop (a .loop .at) i)) w in
+    let n = rw length-take at (s .0) in
     let k = line-within i (a .loop .at) (omega arith) in (
       omega arith,
-      omega (arith, w .2 .most),
-      omega (arith, w .2 .short),
+      omega (arith, s .1),
+      omega (arith, s .2),
       c .before .before .before .before .before .before .before .before .before .take-turn .kept .0 ∙ a .loop .inv .3,
       c .before .before .before .before .before .before .before .before .before .take-turn .kept .1 .0 ∙ a .loop .inv .4,
       c .before .before .before .before .before .before .before .before .before .take-turn .kept .1 .1 .0 ∙ a .loop .inv .5,
-      λ x r s. going-on i (a .loop .at) (e .result) (omega arith) (e .ensures) (a .loop .inv .6 x r s) (w .0) l (w .2),
+      going-on i (a .loop .at) (e .result) (omega arith) (e .ensures) (a .loop .inv .6) w,
     )
 
 same-length-4 : tie.Need-same-length-4 Inv-loop μ-loop
@@ -107,23 +103,7 @@ same-length-6 : tie.Need-same-length-6 Inv-loop μ-loop
 same-length-6 c = c .before .loop .inv .5
 
 returns-2 : tie.Need-returns-2 Inv-loop μ-loop
-returns-2 c =
-    let a = c .before in
-    record {
-      finishes =
-          λ x r s. let g = a .loop .inv .6 x r s in
-          record {
-            last = g .last;
-            reached = g .reached;
-            recorded = g .stands .recorded;
-            linearizable = reached-linearizable (g .reached);
-            replies = g .replies;
-            wrote = g .wrote;
-            printed = going-ends (c .loop-test .left) g;
-            few = omega arith;
-            short = omega arith;
-          };
-    }
+returns-2 c = record { leaves = (going-ends (c .loop-test .left) (c .before .loop .inv .6), omega arith, omega arith) }
 
 pub run-lines-spec : {M : Type 1} → statement M
 run-lines-spec =

@@ -1,6 +1,5 @@
 -- `session::take_turn` meets its contract: in each case the turn of that line.
-use Rattle.rules.specs.Request.{startEnqueue, startDequeue, step}
-use Rattle.session.specs.Session.{opening, calling}
+use mathlib.Core.Path.{refl}
 use borrow.Author.Needs.{needs}
 use Rattle.session.proofs.take_turn.Statement.{statement}
 use Rattle.session.proofs.take_turn.Tie as tie
@@ -18,9 +17,7 @@ same-length-2 : tie.Need-same-length-2
 same-length-2 c = search needs
 
 returns : tie.Need-returns
-returns c =
-    let g = c .before .before .before .before .before .before .before .before .line .given .0 in
-    (opening (record { B = g .0; N = g .1 .0; P = g .1 .1 .0; M = g .1 .1 .1 .0 }), rw (c .before .before .before .before .before .before .before .before .line .given .1), c .before .before .before .before .open-turn .ensures (c .before .before .before .before .before .before .before .before .before .before .before .before .before .args .history .now))
+returns c = record { answered = rw (c .before .before .before .before .before .before .before .before .line .given .1) (c .before .before .before .before .open-turn .ensures (c .before .before .before .before .before .before .before .before .before .before .before .before .before .args .history .now)) }
 
 enum-known-line-2 : tie.Need-enum-known-line-2
 enum-known-line-2 c = search needs
@@ -38,9 +35,7 @@ same-length-5 : tie.Need-same-length-5
 same-length-5 c = search needs
 
 returns-2 : tie.Need-returns-2
-returns-2 c =
-    let g = c .before .before .before .before .before .before .before .before .before .before .before .line2 .given .0 in
-    (calling (startEnqueue (g .0) (g .1 .0)), rw (c .before .before .before .before .before .before .before .before .before .before .before .line2 .given .1), c .before .before .before .before .before .before .enqueue-turn .ensures)
+returns-2 c = record { answered = rw (c .before .before .before .before .before .before .before .before .before .before .before .line2 .given .1) (c .before .before .before .before .before .before .enqueue-turn .ensures) }
 
 enum-told : tie.Need-enum-told
 enum-told c = search needs
@@ -58,7 +53,7 @@ same-length-8 : tie.Need-same-length-8
 same-length-8 c = search needs
 
 returns-3 : tie.Need-returns-3
-returns-3 c = (calling startDequeue, rw (c .before .before .before .before .before .before .before .before .before .before .enum-told .given .1), c .before .before .before .before .before .before .dequeue-turn .ensures)
+returns-3 c = record { answered = rw (c .before .before .before .before .before .before .before .before .before .before .enum-told .given .1) (c .before .before .before .before .before .before .dequeue-turn .ensures) }
 
 enum-known-line-3 : tie.Need-enum-known-line-3
 enum-known-line-3 c = search needs
@@ -76,8 +71,7 @@ same-length-11 : tie.Need-same-length-11
 same-length-11 c = search needs
 
 returns-4 : tie.Need-returns-4
-returns-4 c =
-    (calling (step (c .before .before .before .before .before .before .before .before .before .before .before .line3 .given .0 .0)), rw (c .before .before .before .before .before .before .before .before .before .before .before .line3 .given .1), c .before .before .before .before .before .before .step-turn .ensures)
+returns-4 c = record { answered = rw (c .before .before .before .before .before .before .before .before .before .before .before .line3 .given .1) (c .before .before .before .before .before .before .step-turn .ensures) }
 
 enum-told-2 : tie.Need-enum-told-2
 enum-told-2 c = search needs
@@ -92,7 +86,7 @@ same-length-12 : tie.Need-same-length-12
 same-length-12 c = search needs
 
 returns-5 : tie.Need-returns-5
-returns-5 c = (rw (c .before .before .before .before .before .enum-told2 .given .1), c .before .before .write-bytes .ensures)
+returns-5 c = record { answered = rw (c .before .before .before .before .before .enum-told2 .given .1) (refl, refl, c .before .before .write-bytes .ensures) }
 
 pub take-turn-spec : {M : Type 1} → statement M
 take-turn-spec =
