@@ -13,7 +13,7 @@ use Rattle.rules.specs.Cell.{Reader, reader}
 use Rattle.rules.specs.Range.{inRange}
 use Rattle.rules.specs.Rule.{Answer, refuse}
 use Rattle.rules.specs.Request.{sizesOf, admitted}
-use Rattle.rules.specs.Address.{both}
+use Rattle.rules.specs.Update.{both}
 use Rattle.rules.specs.InRange.{range-has}
 use Rattle.store.specs.Store.{Room, Admitted}
 use Rattle.admission.specs.Refusal.{refusal}

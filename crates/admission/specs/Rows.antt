@@ -10,8 +10,7 @@ use borrow.Author.Tests.{eq-eqb, ne-eqb, le-leb, lt-leb}
 use Rattle.rules.specs.Sizes.{Sizes}
 use Rattle.rules.specs.Cell.{reader, content, consumer, producer}
 use Rattle.rules.specs.Range.{Sort, unused, exactly, number, link, record-number, most, any, ofSort, ofSorts, every, threadInRange, producerInRange, consumerInRange, contentSorts, producerSorts, consumerSorts, idleSorts, placedSorts, cursorSorts}
-use Rattle.rules.specs.Address.{both}
-use Rattle.rules.specs.Readback.{true-false}
+use Rattle.rules.specs.Update.{both, true-false}
 use Rattle.rules.specs.Request.{sizesOf}
 use Rattle.store.specs.Caps.{cap, mostWord}
 use Rattle.store.specs.Words.{word-at}

@@ -9,7 +9,7 @@ use Rattle.rules.specs.Cell.{Reader, reader, Write, write, writes, _:=_, clearP
 use Rattle.rules.specs.Rule.{Answer, Reply, refuse, reply, going, ended}
 use Rattle.rules.specs.Producer.{linked, linkClaimed, linkAhead}
 use Rattle.rules.specs.Request.{applied}
-use Rattle.rules.specs.Readback.{true-false}
+use Rattle.rules.specs.Update.{true-false}
 use Rattle.store.specs.Outcome.{left}
 use Rattle.store.specs.declared.Reply.the-variants.{Refused, Going, Ended}
 

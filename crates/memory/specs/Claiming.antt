@@ -1,71 +1,32 @@
--- Claiming a free record keeps the records' invariant: nothing that anyone can reach changes.
+-- Claiming a loose record keeps the records' invariant: nothing that anyone can reach changes.
 use mathlib.Core.Path.{_≡_, refl, ap, sym, _∙_}
-use mathlib.Core.Logic.{_⊎_, inl, inr, ⊎-elim, _≢_}
-use mathlib.Core.Bool.{Bool, true, false, not, or-true, and-false}
+use mathlib.Core.Logic.{_≢_}
+use mathlib.Core.Bool.{true, and-false}
 use mathlib.Core.List.{List, [], _∷_}
 use Prim.Native.Nat.{ℕ, zero, suc, _≤_, _<_}
-use native.Mathlib.Decide.{decLe, ℕ-discrete}
+use native.Mathlib.Decide.{ℕ-discrete}
 use native.Mathlib.Omega.{arith}
 use lib.Dec.{eqb}
-use borrow.Author.Tests.{eq-eqb, ne-eqb, eqb-true}
+use borrow.Author.Tests.{eq-eqb, ne-eqb}
 use Rattle.history.specs.Lists.{All}
 use Rattle.rules.specs.Sizes.{Sizes}
-use Rattle.rules.specs.Cell.{Reader, Write, _:=_, wipe, cursorRecord, foundRecord, place, next, prev, used, claimed, phase, state, held, after}
-use Rattle.rules.specs.Range.{every}
-use Rattle.rules.specs.Free.{free, holds}
-use Rattle.rules.specs.Address.{both}
-use Rattle.rules.specs.Readback.{true-false}
-use Rattle.rules.specs.InRange.{InSort, every-at}
+use Rattle.rules.specs.Cell.{Reader, Write, _:=_, wipe, cursorRecord, foundRecord, place, next, prev, used, claimed, phase, state, held}
+use Rattle.rules.specs.Update.{after}
+use Rattle.rules.specs.InRange.{InSort}
 use Rattle.memory.specs.Chain.{chain-kept}
-use Rattle.memory.specs.Memory.{ChainShape, Holdable, Blank, ThreadOk, rowOf, Linked, Memory, claimed-is, held-is}
+use Rattle.memory.specs.Memory.{ChainShape, Holdable, Blank, ThreadOk, rowOf, Linked, Memory, claimed-is}
+use Rattle.memory.specs.Loose.{Loose}
 use Rattle.memory.specs.Frames.{held-kept, thread-kept, Untouched, holdable-kept, blank-kept, OthersKept, others-kept, every-row, outside-kept}
 
 -- What a claim by thread t writes, on its way to phase p.
 abbrev pub claimWrites : (t r p : ℕ) → List Write
 claimWrites t r p = wipe r ∷ used r := 1 ∷ claimed t := suc r ∷ phase t := p ∷ []
 
--- a free record is of use 0, or of use 3 and no producer holds it
-pub free-has : (z : Sizes) (σ : Reader) (r : ℕ) → free z σ r ≡ true
-    → (σ (used r) ≡ 0) ⊎ (σ (used r) ≡ 3) × ((t : ℕ) → 1 ≤ t → t ≤ z .P → (σ (held t) ≡ suc r → ⊥) × (σ (claimed t) ≡ suc r → ⊥))
-unfolding free
-free-has z σ r e = go (eqb (σ (used r)) 0) refl
-  where
-    unheld : every (z .P) (λ t. not (holds σ (suc t) r)) ≡ true → (t : ℕ) → 1 ≤ t → t ≤ z .P → (σ (held t) ≡ suc r → ⊥) × (σ (claimed t) ≡ suc r → ⊥)
-    unheld q zero a b = absurd (omega arith)
-    unheld q (suc t) a b =
-        let n = every-at (z .P) (λ t. not (holds σ (suc t) r)) q t b in
-        (λ h. true-false n (rw (eq-eqb (σ (held (suc t))) (suc r) h) refl), λ h. true-false n (rw (eq-eqb (σ (claimed (suc t))) (suc r) h, or-true) refl))
-
-    go : (b : Bool) → eqb (σ (used r)) 0 ≡ b
-        → (σ (used r) ≡ 0) ⊎ (σ (used r) ≡ 3) × ((t : ℕ) → 1 ≤ t → t ≤ z .P → (σ (held t) ≡ suc r → ⊥) × (σ (claimed t) ≡ suc r → ⊥))
-    go true q = inl (eqb-true (σ (used r)) 0 q)
-    go false q =
-        let p = both (eqb (σ (used r)) 3) (every (z .P) (λ t. not (holds σ (suc t) r))) (rw q at e) in
-        inr (eqb-true (σ (used r)) 3 (p .0), unheld (p .1))
-
 module _ (z : Sizes) (σ : Reader) (g : ChainShape) (m : Memory z σ g) (t r p : ℕ)
-    (a-producer : (1 ≤ t) × (t ≤ z .P)) (fits : r < z .N) (is-free : free z σ r ≡ true)
+    (a-producer : (1 ≤ t) × (t ≤ z .P)) (fits : r < z .N) (loose : Loose σ r)
     (holds-one : σ (held t) ≢ 0) where
   abbrev σ′ : Reader
   σ′ = after σ (claimWrites t r p)
-
-  not-linked : σ (used r) ≡ 2 → ⊥
-  not-linked e = ⊎-elim (λ u. omega arith) (λ u. omega arith) (free-has z σ r is-free)
-
-  not-claimed : σ (used r) ≡ 1 → ⊥
-  not-claimed e = ⊎-elim (λ u. omega arith) (λ u. omega arith) (free-has z σ r is-free)
-
-  -- no producer holds it
-  pub not-held : (u : ℕ) → σ (held u) ≡ suc r → ⊥
-  not-held u e = go (decLe 1 u) (decLe u (z .P)) (free-has z σ r is-free)
-    where
-      go : Dec (1 ≤ u) → Dec (u ≤ z .P)
-          → (σ (used r) ≡ 0) ⊎ (σ (used r) ≡ 3) × ((t : ℕ) → 1 ≤ t → t ≤ z .P → (σ (held t) ≡ suc r → ⊥) × (σ (claimed t) ≡ suc r → ⊥))
-          → ⊥
-      go (yes a) (yes b) (inl f) = ⊎-elim (λ h. omega arith) (λ h. omega arith) (held-is m u r e)
-      go (yes a) (yes b) (inr f) = f .1 u a b .0 e
-      go (no a) b f = let q = m .outside u 4 (λ h. a (h .0)) in omega arith
-      go (yes a) (no b) f = let q = m .outside u 4 (λ h. b (h .1)) in omega arith
 
   others : (x : ℕ) → (r ≡ x → ⊥) → Untouched σ σ′ x
   others x n = ((λ k. rw (ne-eqb r x n, and-false (eqb 3 k)) refl), (λ i k. rw (ne-eqb r x n) refl))
@@ -77,10 +38,10 @@ module _ (z : Sizes) (σ : Reader) (g : ChainShape) (m : Memory z σ g) (t r p :
   kept = others-kept z t σ (claimWrites t r p) in-sort
 
   held-others : (u x : ℕ) → σ (held u) ≡ suc x → Holdable (g .lo) σ x → Holdable (g .lo) σ′ x
-  held-others u x e h = holdable-kept (g .lo) σ σ′ x (others x (λ q. not-held u (rw q e)) .0) h
+  held-others u x e h = holdable-kept (g .lo) σ σ′ x (others x (λ q. loose .not-held u (rw q e)) .0) h
 
   blank-others : (x : ℕ) → Blank (z .N) σ x → Blank (z .N) σ′ x
-  blank-others x b = blank-kept (z .N) σ σ′ x (others x (λ q. not-claimed (rw q (b .claimed-use)))) b
+  blank-others x b = blank-kept (z .N) σ σ′ x (others x (λ q. loose .not-claimed (rw q (b .claimed-use)))) b
 
   new-blank : Blank (z .N) σ′ r
   new-blank =
@@ -112,7 +73,7 @@ module _ (z : Sizes) (σ : Reader) (g : ChainShape) (m : Memory z σ g) (t r p :
 
   linked-kept : (x : ℕ) → Linked σ x → Linked σ′ x
   linked-kept zero l = l
-  linked-kept (suc x) l = others x (λ q. not-linked (rw q l)) .0 3 ∙ l
+  linked-kept (suc x) l = others x (λ q. loose .not-linked (rw q l)) .0 3 ∙ l
 
   used-word : (x : ℕ) → σ′ (used x) ≡ 2 → σ (used x) ≡ 2
   used-word x e = go (ℕ-discrete r x)
@@ -132,7 +93,7 @@ module _ (z : Sizes) (σ : Reader) (g : ChainShape) (m : Memory z σ g) (t r p :
             (λ x. σ′ (next x))
             (λ x. σ′ (prev x))
             (λ x. σ′ (used x))
-            (λ x l. let o = others x (λ q. not-linked (rw q l)) in (o .0 0, o .0 1, o .0 2, o .0 3 ∙ l))
+            (λ x l. let o = others x (λ q. loose .not-linked (rw q l)) in (o .0 0, o .0 1, o .0 2, o .0 3 ∙ l))
             used-word;
         tail-is = m .tail-is;
         head-is = m .head-is;
@@ -150,7 +111,7 @@ module _ (z : Sizes) (σ : Reader) (g : ChainShape) (m : Memory z σ g) (t r p :
           omega (arith, claimed-word)
 
       not-another : (u x : ℕ) → (t ≡ u → ⊥) → rowOf σ′ u 5 ≡ suc x → r ≡ x → ⊥
-      not-another u x n e q = not-claimed (rw q (claimed-is m u x (sym (kept u n 5) ∙ e) .claimed-use))
+      not-another u x n e q = loose .not-claimed (rw q (claimed-is m u x (sym (kept u n 5) ∙ e) .claimed-use))
 
       alone : (u v x : ℕ) → rowOf σ′ u 5 ≡ suc x → rowOf σ′ v 5 ≡ suc x → Dec (t ≡ u) → Dec (t ≡ v) → u ≡ v
       alone u v x e f (yes p) (yes q) = sym p ∙ q

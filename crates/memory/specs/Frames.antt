@@ -7,8 +7,9 @@ use native.Mathlib.Decide.{ℕ-discrete}
 use native.Mathlib.Omega.{arith}
 use Rattle.history.specs.Lists.{All}
 use Rattle.rules.specs.Sizes.{Sizes}
-use Rattle.rules.specs.Cell.{Reader, Write, producer, part, entry, after}
-use Rattle.rules.specs.InRange.{InSort, producer-untouched}
+use Rattle.rules.specs.Cell.{Reader, Write, producer, part, entry}
+use Rattle.rules.specs.Update.{after}
+use Rattle.rules.specs.InRange.{InSort, others-untouched}
 use Rattle.memory.specs.Memory.{Holdable, Held, Blank, Claimed, ThreadOk, rowOf}
 
 module _ (N lo lo′ : ℕ) (σ σ′ : Reader) where
@@ -57,7 +58,7 @@ abbrev pub OthersKept : ℕ → Reader → Reader → Type 0
 OthersKept t σ σ′ = (u : ℕ) → (t ≡ u → ⊥) → (k : ℕ) → rowOf σ′ u k ≡ rowOf σ u k
 
 pub others-kept : (z : Sizes) (t : ℕ) (σ : Reader) (ws : List Write) → All (InSort z t) ws → OthersKept t σ (after σ ws)
-others-kept z t σ ws h u n k = producer-untouched z t σ ws h u n k
+others-kept z t σ ws h u n k = others-untouched z t σ ws h (producer u k) n
 
 -- What holds of every row holds after a call of thread t, if it holds of t's row then and goes on to hold of the others.
 pub every-row : (t : ℕ) (σ σ′ : Reader) → OthersKept t σ σ′ → (Q : ℕ → (ℕ → ℕ) → Type 0)

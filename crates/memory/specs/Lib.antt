@@ -2,6 +2,7 @@ pub mod Chain
 pub mod Memory
 pub mod Ends
 pub mod Frames
+pub mod Loose
 pub mod Claiming
 pub mod Linking
 pub mod Retiring

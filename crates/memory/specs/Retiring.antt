@@ -7,7 +7,8 @@ use native.Mathlib.Decide.{ℕ-discrete}
 use native.Mathlib.Omega.{arith}
 use borrow.Author.Tests.{eq-eqb, ne-eqb}
 use Rattle.rules.specs.Sizes.{Sizes}
-use Rattle.rules.specs.Cell.{Reader, Write, _:=_, headRecord, headPosition, cursorRecord, foundRecord, place, next, used, state, after}
+use Rattle.rules.specs.Cell.{Reader, Write, _:=_, headRecord, headPosition, cursorRecord, foundRecord, place, next, used, state}
+use Rattle.rules.specs.Update.{after}
 use Rattle.memory.specs.Chain.{chain-shrinks}
 use Rattle.memory.specs.Memory.{ChainShape, Holdable, Blank, rowOf, Memory}
 use Rattle.memory.specs.Frames.{thread-kept}

@@ -5,9 +5,9 @@ use mathlib.Core.Logic.{_⊎_, ⊎-elim}
 use mathlib.Core.Bool.{Bool, true, false, cond}
 use mathlib.Core.List.{List, [], _∷_}
 use Prim.Native.Nat.{ℕ, zero, suc}
-use Rattle.rules.specs.Cell.{Cell, content, consumer, producer, part, entry, Reader, Write, _:=_, clearConsumer, clearProducer, wipe, same, ofConsumer, ofProducer, ofRecord, update, after, place, next, used, held}
-use Rattle.rules.specs.Readback.{same-eq}
-use Rattle.ordering.specs.Renaming.{Renaming, eqb-to, renamed, isLink, seen, cellTo, writeTo, writesTo}
+use Rattle.rules.specs.Cell.{Cell, content, consumer, producer, part, entry, Reader, Area, contents, ofConsumer, ofProducer, ofRecord, Write, _:=_, clear, place, next, used, held}
+use Rattle.rules.specs.Update.{areaOf, sameArea, same, update, after, same-eq, same-cell, same-area, same-area-eq}
+use Rattle.ordering.specs.Renaming.{Renaming, renamed, isLink, seen, cellTo, areaTo, writeTo, writesTo}
 
 -- Every cell but a record's.
 abbrev pub NoRecord : Cell → Type 0
@@ -76,53 +76,49 @@ module _ {N : ℕ} (ρ : Renaming N) where
   abbrev f : ℕ → ℕ
   f = ρ .to
 
+  -- a cell and an area are renamed back
+  cell-back : (c : Cell) → cellTo (ρ .from) (cellTo f c) ≡ c
+  cell-back (content k) = refl
+  cell-back (consumer k) = refl
+  cell-back (producer t k) = refl
+  cell-back (part r k) = ap (λ (x : ℕ). part x k) (ρ .from-to r)
+  cell-back (entry r i k) = ap (λ (x : ℕ). entry x i k) (ρ .from-to r)
+
+  area-back : (a : Area) → areaTo (ρ .from) (areaTo f a) ≡ a
+  area-back contents = refl
+  area-back ofConsumer = refl
+  area-back (ofProducer t) = refl
+  area-back (ofRecord r) = ap ofRecord (ρ .from-to r)
+
+  area-to : (d : Cell) → areaOf (cellTo f d) ≡ areaTo f (areaOf d)
+  area-to (content k) = refl
+  area-to (consumer k) = refl
+  area-to (producer t k) = refl
+  area-to (part r k) = refl
+  area-to (entry r i k) = refl
+
+  -- two tests that come out alike
+  tests-alike : (a b : Bool) → (a ≡ true → b ≡ true) → (b ≡ true → a ≡ true) → a ≡ b
+  tests-alike true b f g = sym (f refl)
+  tests-alike false true f g = g refl
+  tests-alike false false f g = refl
+
   same-to : (c d : Cell) → same (cellTo f c) (cellTo f d) ≡ same c d
-  same-to (content k) (content l) = refl
-  same-to (content k) (consumer l) = refl
-  same-to (content k) (producer u l) = refl
-  same-to (content k) (part s l) = refl
-  same-to (content k) (entry s j l) = refl
-  same-to (consumer k) (content l) = refl
-  same-to (consumer k) (consumer l) = refl
-  same-to (consumer k) (producer u l) = refl
-  same-to (consumer k) (part s l) = refl
-  same-to (consumer k) (entry s j l) = refl
-  same-to (producer t k) (content l) = refl
-  same-to (producer t k) (consumer l) = refl
-  same-to (producer t k) (producer u l) = refl
-  same-to (producer t k) (part s l) = refl
-  same-to (producer t k) (entry s j l) = refl
-  same-to (part r k) (content l) = refl
-  same-to (part r k) (consumer l) = refl
-  same-to (part r k) (producer u l) = refl
-  same-to (part r k) (part s l) = rw (eqb-to ρ r s) refl
-  same-to (part r k) (entry s j l) = refl
-  same-to (entry r i k) (content l) = refl
-  same-to (entry r i k) (consumer l) = refl
-  same-to (entry r i k) (producer u l) = refl
-  same-to (entry r i k) (part s l) = refl
-  same-to (entry r i k) (entry s j l) = rw (eqb-to ρ r s) refl
+  same-to c d =
+      tests-alike (same (cellTo f c) (cellTo f d)) (same c d)
+      (λ e.
+      let q : c ≡ d = sym (cell-back c) ∙ ap (cellTo (ρ .from)) (same-eq (cellTo f c) (cellTo f d) e) ∙ cell-back d in
+      rw q (same-cell d))
+      (λ e. rw (same-eq c d e) (same-cell (cellTo f d)))
 
-  consumer-to : (d : Cell) → ofConsumer (cellTo f d) ≡ ofConsumer d
-  consumer-to (content k) = refl
-  consumer-to (consumer k) = refl
-  consumer-to (producer t k) = refl
-  consumer-to (part r k) = refl
-  consumer-to (entry r i k) = refl
-
-  producer-to : (t : ℕ) (d : Cell) → ofProducer t (cellTo f d) ≡ ofProducer t d
-  producer-to t (content k) = refl
-  producer-to t (consumer k) = refl
-  producer-to t (producer u k) = refl
-  producer-to t (part r k) = refl
-  producer-to t (entry r i k) = refl
-
-  record-to : (s : ℕ) (d : Cell) → ofRecord (f s) (cellTo f d) ≡ ofRecord s d
-  record-to s (content k) = refl
-  record-to s (consumer k) = refl
-  record-to s (producer u k) = refl
-  record-to s (part r k) = eqb-to ρ s r
-  record-to s (entry r i k) = eqb-to ρ s r
+  touched-to : (a : Area) (d : Cell) → sameArea (areaTo f a) (areaOf (cellTo f d)) ≡ sameArea a (areaOf d)
+  touched-to a d =
+      rw (area-to d)
+      (tests-alike (sameArea (areaTo f a) (areaTo f (areaOf d))) (sameArea a (areaOf d))
+      (λ e.
+      let q : a ≡ areaOf d = sym (area-back a) ∙ ap (areaTo (ρ .from)) (same-area-eq (areaTo f a) (areaTo f (areaOf d)) e) ∙ area-back (areaOf d) in
+      rw q (same-area (areaOf d)))
+      (λ e. rw (same-area-eq a (areaOf d) e) (same-area (areaTo f (areaOf d)))))
 
   seen-zero : (d : Cell) → 0 ≡ seen f d 0
   seen-zero d = go (isLink d)
@@ -144,12 +140,8 @@ module _ {N : ℕ} (ρ : Renaming N) where
       go : (b : Bool) → same c d ≡ b → cond b (seen f c v) (τ (cellTo f d)) ≡ cond b (seen f d v) (τ (cellTo f d))
       go true e = ap (λ (x : Cell). seen f x v) (same-eq c d e)
       go false e = refl
-  puts σ τ clearConsumer d =
-      record { hit = ofConsumer d; what = 0; left = refl; right = rw (consumer-to d, ← seen-zero d) refl }
-  puts σ τ (clearProducer t) d =
-      record { hit = ofProducer t d; what = 0; left = refl; right = rw (producer-to t d, ← seen-zero d) refl }
-  puts σ τ (wipe s) d =
-      record { hit = ofRecord s d; what = 0; left = refl; right = rw (record-to s d, ← seen-zero d) refl }
+  puts σ τ (clear a) d =
+      record { hit = sameArea a (areaOf d); what = 0; left = refl; right = rw (touched-to a d, ← seen-zero d) refl }
 
   same-after : (σ τ : Reader) (ws : List Write) (d : Cell) → Same f σ τ d → Same f (after σ ws) (after τ (writesTo f ws)) d
   same-after σ τ [] d e = e

@@ -8,7 +8,8 @@ use Prim.Native.Nat.{ℕ, zero, suc, _*_}
 use native.Mathlib.Omega.{arith}
 use lib.Dec.{leb}
 use Rattle.rules.specs.Sizes.{Sizes}
-use Rattle.rules.specs.Cell.{Reader, Write, after, place, next, used, held}
+use Rattle.rules.specs.Cell.{Reader, Write, place, next, used, held}
+use Rattle.rules.specs.Update.{after}
 use Rattle.rules.specs.Rule.{Reply, Answer, refuse, reply, need, upTo, within, index, inside, cross}
 use Rattle.ordering.specs.Renaming.{Renaming, renamed, writesTo}
 use Rattle.ordering.specs.Alike.{Alike, LinksSame, HoldsSame, alike-after}

@@ -15,10 +15,11 @@ use Rattle.rules.specs.Range.{most}
 use Rattle.rules.specs.Free.{free, holds, Choice}
 use Rattle.rules.specs.Rule.{going, ended}
 use Rattle.rules.specs.Producer.{claim, claimRecord, claimAhead}
-use Rattle.rules.specs.Readback.{true-false}
+use Rattle.rules.specs.Update.{true-false}
 use Rattle.rules.specs.InRange.{every-of}
-use Rattle.memory.specs.Memory.{ChainShape, Memory, held-is, claimed-is}
-use Rattle.memory.specs.Claiming.{claimWrites, free-has}
+use Rattle.memory.specs.Memory.{ChainShape, Memory}
+use Rattle.memory.specs.Loose.{Loose, free-use, free-loose}
+use Rattle.memory.specs.Claiming.{claimWrites}
 use Rattle.ordering.specs.Rows.{has-sort}
 use Rattle.ordering.specs.Renaming.{Renaming, to-apart, renamed, renamed-is, isLink, seen, exchanged, by-exchanged}
 use Rattle.ordering.specs.Alike.{NoRecord, kind, Same, Body, Alike}
@@ -52,41 +53,29 @@ free-of z σ r (inr e) =
     unheld t = rw (ne-eqb (σ (held (suc t))) (suc r) (e .1 (suc t) .0), ne-eqb (σ (claimed (suc t))) (suc r) (e .1 (suc t) .1)) refl
 
 pub free-kind : (z : Sizes) (σ : Reader) (r : ℕ) → free z σ r ≡ true → kind (σ (used r)) ≡ 0
-free-kind z σ r e = ⊎-elim (λ u. ap kind u) (λ u. ap kind (u .0)) (free-has z σ r e)
+free-kind z σ r e = ⊎-elim (λ u. ap kind u) (λ u. ap kind u) (free-use z σ r e)
 
 module _ {z : Sizes} {σ : Reader} {g : ChainShape} (m : Memory z σ g) where
-  -- A free record is held and claimed by nobody.
-  free-held : (r : ℕ) → free z σ r ≡ true → (t : ℕ) → (σ (held t) ≡ suc r → ⊥) × (σ (claimed t) ≡ suc r → ⊥)
-  free-held r e t = go (free-has z σ r e) (decLe 1 t) (decLe t (z .P))
-    where
-      go : (σ (used r) ≡ 0) ⊎ (σ (used r) ≡ 3) × ((t : ℕ) → 1 ≤ t → t ≤ z .P → (σ (held t) ≡ suc r → ⊥) × (σ (claimed t) ≡ suc r → ⊥))
-          → Dec (1 ≤ t) → Dec (t ≤ z .P) → (σ (held t) ≡ suc r → ⊥) × (σ (claimed t) ≡ suc r → ⊥)
-      go (inl u) a b =
-          (λ q. ⊎-elim (λ (w : σ (used r) ≡ 2). omega arith) (λ w. omega arith) (held-is m t r q), λ q. omega (arith, claimed-is m t r q .claimed-use))
-      go (inr u) (yes a) (yes b) = u .1 t a b
-      go (inr u) (yes a) (no b) = (λ q. omega (arith, m .outside t 4 (λ h. b (h .1))), λ q. omega (arith, m .outside t 5 (λ h. b (h .1))))
-      go (inr u) (no a) b = (λ q. omega (arith, m .outside t 4 (λ h. a (h .0))), λ q. omega (arith, m .outside t 5 (λ h. a (h .0))))
-
-  -- Neither is it linked, nor anything that a link leads to.
-  free-linked : (r : ℕ) → free z σ r ≡ true → σ (used r) ≡ 2 → ⊥
-  free-linked r e u = let k : kind (σ (used r)) ≡ 2 = ap kind u in omega (arith, free-kind z σ r e)
+  -- a free record is loose
+  free-is : (r : ℕ) → free z σ r ≡ true → Loose σ r
+  free-is r = free-loose z σ r m
 
   -- the records that threads and contents name
   link-words : (c : Cell) → NoRecord c → isLink c ≡ true → (r : ℕ) → σ c ≡ suc r → free z σ r ≡ true → ⊥
   link-words (content k) n l r e is-free =
       ⊎-elim
-      (λ q. free-linked r is-free (tail-linked m r (ap (λ (x : ℕ). σ (content x)) (sym q) ∙ e)))
-      (λ q. free-linked r is-free (head-linked m r (ap (λ (x : ℕ). σ (content x)) (sym q) ∙ e)))
+      (λ q. free-is r is-free .not-linked (tail-linked m r (ap (λ (x : ℕ). σ (content x)) (sym q) ∙ e)))
+      (λ q. free-is r is-free .not-linked (head-linked m r (ap (λ (x : ℕ). σ (content x)) (sym q) ∙ e)))
       (either k 7 8 l)
   link-words (consumer k) n l r e is-free =
       ⊎-elim
-      (λ q. free-linked r is-free (cursor-linked m r (ap (λ (x : ℕ). σ (consumer x)) (sym q) ∙ e)))
-      (λ q. free-linked r is-free (found-linked m r (ap (λ (x : ℕ). σ (consumer x)) (sym q) ∙ e)))
+      (λ q. free-is r is-free .not-linked (cursor-linked m r (ap (λ (x : ℕ). σ (consumer x)) (sym q) ∙ e)))
+      (λ q. free-is r is-free .not-linked (found-linked m r (ap (λ (x : ℕ). σ (consumer x)) (sym q) ∙ e)))
       (either k 1 3 l)
   link-words (producer t k) n l r e is-free =
       ⊎-elim
-      (λ q. free-held r is-free t .0 (ap (λ (x : ℕ). σ (producer t x)) (sym q) ∙ e))
-      (λ q. free-held r is-free t .1 (ap (λ (x : ℕ). σ (producer t x)) (sym q) ∙ e))
+      (λ q. free-is r is-free .not-held t (ap (λ (x : ℕ). σ (producer t x)) (sym q) ∙ e))
+      (λ q. free-is r is-free .nobodys-claim t (ap (λ (x : ℕ). σ (producer t x)) (sym q) ∙ e))
       (either k 4 5 l)
   link-words (part s k) n l r e is-free = absurd n
   link-words (entry s i k) n l r e is-free = absurd n
@@ -98,7 +87,7 @@ free-passes : {z : Sizes} {σ : Reader} {g : ChainShape} (m : Memory z σ g) (τ
 free-passes {z} {σ} m τ r s k l back e = free-of z τ s (⊎-elim inl (λ u. inr (u, unheld)) (loose (τ (used s)) l (k ∙ free-kind z σ r e)))
   where
     unheld : (t : ℕ) → (τ (held t) ≡ suc s → ⊥) × (τ (claimed t) ≡ suc s → ⊥)
-    unheld t = let n = free-held m r e t in ((λ q. n .0 (back t .0 q)), (λ q. n .1 (back t .1 q)))
+    unheld t = let n = free-is m r e in ((λ q. n .not-held t (back t .0 q)), (λ q. n .nobodys-claim t (back t .1 q)))
 
 module _ {z : Sizes} {σ τ : Reader} (pair : Twins z σ τ) where
   abbrev ρ : Renaming (z .N)
@@ -183,14 +172,14 @@ module _ {z : Sizes} {σ τ : Reader} (pair : Twins z σ τ) where
 
     body-kept : (x : ℕ) → σ (used x) ≡ 2 → Body f′ σ τ x
     body-kept x u =
-        let is : f′ x ≡ f x = keeps x (λ e. free-linked m x e u) in
+        let is : f′ x ≡ f x = keeps x (λ e. free-is m x e .not-linked u) in
         let b : Body f σ τ x = a .linked x u in
         record {
           placed = ap (λ (y : ℕ). τ (place y)) is ∙ b .placed;
           onward =
               ap (λ (y : ℕ). τ (next y)) is
               ∙ b .onward
-              ∙ renamed-kept (σ (next x)) (λ y e w. free-linked m y w (next-linked m x u y e .0));
+              ∙ renamed-kept (σ (next x)) (λ y e w. free-is m y w .not-linked (next-linked m x u y e .0));
           entries = λ i k. ap (λ (y : ℕ). τ (entry y i k)) is ∙ b .entries i k;
         }
 
@@ -202,7 +191,7 @@ module _ {z : Sizes} {σ τ : Reader} (pair : Twins z σ τ) where
           linked = body-kept;
           holding =
               λ t x e.
-              ap (λ (y : ℕ). τ (place y)) (keeps x (λ w. free-held m x w t .0 e)) ∙ a .holding t x e;
+              ap (λ (y : ℕ). τ (place y)) (keeps x (λ w. free-is m x w .not-held t e)) ∙ a .holding t x e;
         }
 
     claim-alike : (t p : ℕ) → Like z σ τ (claim z σ t r p) (claim z τ t s p)

@@ -6,7 +6,8 @@ use Prim.Native.Nat.{ℕ, zero, suc}
 use native.Mathlib.Omega.{arith}
 use lib.Dec.{eqb}
 use Rattle.rules.specs.Sizes.{Sizes}
-use Rattle.rules.specs.Cell.{Reader, Write, _:=_, clearConsumer, after, held, tail, tailRecord, headRecord, headPosition, consumerPhase, cursorRecord, cursorPosition, foundRecord, foundPosition, itemNumber, itemValue, place, used, state, entryNumber, entryValue}
+use Rattle.rules.specs.Cell.{Reader, Write, _:=_, clearConsumer, held, tail, tailRecord, headRecord, headPosition, consumerPhase, cursorRecord, cursorPosition, foundRecord, foundPosition, itemNumber, itemValue, place, used, state, entryNumber, entryValue}
+use Rattle.rules.specs.Update.{after}
 use Rattle.rules.specs.Rule.{Answer, going, empty, item, reply, goes, atEnd, cross}
 use Rattle.rules.specs.Consumer.{byState, endsEmpty, front, readTail, scan, readEntry, rescanned, rescan, readItem, markHandled}
 use Rattle.memory.specs.Memory.{Memory}

@@ -9,7 +9,8 @@ use native.Mathlib.Omega.{arith}
 use lib.Dec.{eqb}
 use borrow.Author.Tests.{eqb-true}
 use Rattle.rules.specs.Sizes.{Sizes, mostPlace}
-use Rattle.rules.specs.Cell.{Reader, Write, _:=_, clearProducer, after, tail, tailRecord, phase, call, value, position, held, claimed, backed, place, next, prev, used, state, entryNumber, entryValue}
+use Rattle.rules.specs.Cell.{Reader, Write, _:=_, clearProducer, tail, tailRecord, phase, call, value, position, held, claimed, backed, place, next, prev, used, state, entryNumber, entryValue}
+use Rattle.rules.specs.Update.{after}
 use Rattle.rules.specs.Rule.{Reply, going, ended, reply}
 use Rattle.rules.specs.Producer.{choose, takePosition, loadTail, lookNext, linked, linkClaimed, shiftTail, goBack, writeEntry, setEntry, linkAhead}
 use Rattle.memory.specs.Memory.{Memory}

@@ -11,7 +11,8 @@ use borrow.Author.Tests.{eq-eqb, ne-eqb}
 use Rattle.history.specs.Lists.{All}
 use Rattle.history.specs.Event.{enqueueEnded}
 use Rattle.rules.specs.Sizes.{Sizes}
-use Rattle.rules.specs.Cell.{Reader, Write, clearProducer, after, place, used, phase, call, value, position, held, producer}
+use Rattle.rules.specs.Cell.{Reader, Write, clearProducer, place, used, phase, call, value, position, held, producer}
+use Rattle.rules.specs.Update.{after}
 use Rattle.rules.specs.Range.{producerSorts}
 use Rattle.rules.specs.Free.{free, Choice}
 use Rattle.rules.specs.Rule.{going, ended}
@@ -22,7 +23,8 @@ use Rattle.model.specs.State.{idle, callOf}
 use Rattle.model.specs.Enqueues.{finish-keeps}
 use Rattle.memory.specs.Memory.{rowOf, Memory}
 use Rattle.memory.specs.Frames.{others-kept}
-use Rattle.memory.specs.Claiming.{claimWrites, free-has, claim-keeps, not-held}
+use Rattle.memory.specs.Loose.{Loose, free-loose}
+use Rattle.memory.specs.Claiming.{claimWrites, claim-keeps}
 use Rattle.ordering.specs.View.{Ghost, placesOf, placeOf, producerAt, producersOf, view, cellOf}
 use Rattle.ordering.specs.Good.{Good, Goes, Fine}
 use Rattle.ordering.specs.Rows.{OfSorts, row-of}
@@ -36,22 +38,22 @@ module _ (z : Sizes) (σ : Reader) (γ : Ghost) (good : Good z σ γ) (t : ℕ) 
   self = eq-eqb t t refl
 
   -- The claim of record r in phase p, on the way to p′, in which the producer is seen as before.
-  claims : (p p′ r : ℕ) → σ (phase t) ≡ p → 3 ≤ p → r < z .N → free z σ r ≡ true
+  claims : (p p′ r : ℕ) → σ (phase t) ≡ p → 3 ≤ p → r < z .N → Loose σ r
       → ((n v L k : ℕ) → producerAt p′ n v L k ≡ producerAt p n v L k)
       → p′ ≤ 11 → OfSorts z (rowOf (after σ (claimWrites t r p′)) t) 1 (getD producerSorts p′ [])
       → Goes z σ γ (step t) going (claimWrites t r p′)
-  claims p p′ r e past fits is-free same-seen l row =
+  claims p p′ r e past fits loose same-seen l row =
       record-goes z σ γ good t a-producer (step t) going ws γ in-sort
       (fits, ((fits, omega arith), ((a-producer .0, a-producer .1, omega arith), ((a-producer .0, a-producer .1, omega arith), tt))))
       (row-of z 11 producerSorts (rowOf σ′ t) p′ new-phase l row)
-      (claim-keeps z σ (γ .shape) m t r p′ a-producer fits is-free holds-one)
+      (claim-keeps z σ (γ .shape) m t r p′ a-producer fits loose holds-one)
       (agrees-kept (z .B) (γ .shape .lo) (γ .shape .hi) (γ .shape .at) (γ .entry) (γ .content) (cellOf σ) (cellOf σ′)
-      (λ k i j a b. rw (ne-eqb r (γ .shape .at (suc k)) (λ q. unlinked (rw q (m .chain .linked (suc k) a b)))) refl)
+      (λ k i j a b. rw (ne-eqb r (γ .shape .at (suc k)) (λ q. loose .not-linked (rw q (m .chain .linked (suc k) a b)))) refl)
       (good .agrees))
       (seen-as (goes-on-same (z .B) (view σ γ) t _ seen (good .model)) refl refl refl
       (producers-after t σ σ′ (others-kept z t σ ws in-sort)
-      (λ u n. place-same σ σ′ r places (σ (held u)) (not-held z σ (γ .shape) m t r p′ a-producer fits is-free holds-one u)) _ seen′)
-      (sym (consumer-same σ σ′ r (λ k. refl) places unlinked (m .cursor) (m .found))))
+      (λ u n. place-same σ σ′ r places (σ (held u)) (loose .not-held u)) _ seen′)
+      (sym (consumer-same σ σ′ r (λ k. refl) places (loose .not-linked) (m .cursor) (m .found))))
       (good .formed)
       refl
     where
@@ -70,9 +72,6 @@ module _ (z : Sizes) (σ : Reader) (γ : Ghost) (good : Good z σ γ) (t : ℕ) 
       holds-one : σ (held t) ≢ 0
       holds-one = m .threads t .has-held (omega arith)
 
-      unlinked : σ (used r) ≡ 2 → ⊥
-      unlinked q = ⊎-elim (λ u. omega arith) (λ u. omega arith) (free-has z σ r is-free)
-
       places : (y : ℕ) → (y ≡ r → ⊥) → σ′ (place y) ≡ σ (place y)
       places y n = rw (ne-eqb r y (λ q. n (sym q))) refl
 
@@ -90,7 +89,7 @@ module _ (z : Sizes) (σ : Reader) (γ : Ghost) (good : Good z σ γ) (t : ℕ) 
           ap (λ (x : ℕ). producerAt x (σ (call t)) (σ (value t)) (σ (position t)) (placeOf (placesOf σ′) (σ (held t)))) new-phase
           ∙ same-seen (σ (call t)) (σ (value t)) (σ (position t)) (placeOf (placesOf σ′) (σ (held t)))
           ∙ ap (producerAt p (σ (call t)) (σ (value t)) (σ (position t)))
-          (place-same σ σ′ r places (σ (held t)) (not-held z σ (γ .shape) m t r p′ a-producer fits is-free holds-one t))
+          (place-same σ σ′ r places (σ (held t)) (loose .not-held t))
 
   -- 4. Claim a record; to 5. Refusal 8: no record free.
   pub claim-record-fine : σ (phase t) ≡ 4 → (c : ℕ) → Choice z σ c → Fine z σ γ (step t) (claimRecord z σ t c)
@@ -98,7 +97,7 @@ module _ (z : Sizes) (σ : Reader) (γ : Ghost) (good : Good z σ γ) (t : ℕ) 
   claim-record-fine e zero none = ((λ q. omega arith), (λ q. omega arith))
   claim-record-fine e (suc r) one =
       let old = own-words z σ γ good t a-producer 4 e in
-      claims 4 5 r e (omega arith) (one .0) (one .1) (λ n v L k. refl) (omega arith)
+      claims 4 5 r e (omega arith) (one .0) (free-loose z σ r (good .memory) (one .1)) (λ n v L k. refl) (omega arith)
       (old .0, (tt, (old .1 .1 .0, (old .1 .1 .1 .0, (rw self (one .0), (old .1 .1 .1 .1 .1 .0, (old .1 .1 .1 .1 .1 .1 .0, tt)))))))
 
   -- 10. If none is free, end; else claim; to 11.
@@ -109,7 +108,7 @@ module _ (z : Sizes) (σ : Reader) (γ : Ghost) (good : Good z σ γ) (t : ℕ) 
       let seen = seen-at z σ γ good t a-producer 10 e in
       let is = ap callOf seen in
       producer-own z σ γ good t a-producer ended (clearProducer t ∷ []) idle (enqueueEnded t (σ (call t)) (σ (value t)) ∷ γ .history)
-      (refl, tt)
+      ((refl, omega arith), tt)
       (idle-in-range z (γ .shape .lo) σ (rowOf (after σ (clearProducer t ∷ [])) t) row)
       (idle-thread z (γ .shape .lo) σ (rowOf (after σ (clearProducer t ∷ [])) t) row)
       (row 5)
@@ -119,5 +118,5 @@ module _ (z : Sizes) (σ : Reader) (γ : Ghost) (good : Good z σ γ) (t : ℕ) 
       (end-adds z σ γ good t _ is)
   claim-ahead-fine e (suc r) one =
       let old = own-words z σ γ good t a-producer 10 e in
-      claims 10 11 r e (omega arith) (one .0) (one .1) (λ n v L k. refl) (omega arith)
+      claims 10 11 r e (omega arith) (one .0) (free-loose z σ r (good .memory) (one .1)) (λ n v L k. refl) (omega arith)
       (old .0, (tt, (old .1 .1 .0, (old .1 .1 .1 .0, (rw self (one .0), (old .1 .1 .1 .1 .1 .0, (old .1 .1 .1 .1 .1 .1 .0, tt)))))))

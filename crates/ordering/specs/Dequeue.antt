@@ -13,7 +13,8 @@ use Rattle.history.specs.Event.{History, gaveEmpty}
 use Rattle.history.specs.Form.{wellFormed}
 use Rattle.criterion.specs.Growth.{dequeue-may-be-empty}
 use Rattle.rules.specs.Sizes.{Sizes}
-use Rattle.rules.specs.Cell.{Reader, Write, clearConsumer, after, consumer, consumerPhase, cursorRecord, cursorPosition, foundRecord, foundPosition, itemNumber, itemValue, tail, tailRecord, headRecord, place, next, used}
+use Rattle.rules.specs.Cell.{Reader, Write, clearConsumer, consumer, consumerPhase, cursorRecord, cursorPosition, foundRecord, foundPosition, itemNumber, itemValue, tail, tailRecord, headRecord, place, next, used, ofConsumer}
+use Rattle.rules.specs.Update.{after, Own}
 use Rattle.rules.specs.Range.{number, consumerSorts, consumerInRange}
 use Rattle.rules.specs.Rule.{Answer, Reply, going, empty, cross}
 use Rattle.rules.specs.Consumer.{byState, endsEmpty}
@@ -29,7 +30,7 @@ use Rattle.memory.specs.Light.{Light, consumer-keeps}
 use Rattle.ordering.specs.View.{Ghost, placesOf, placeOf, consumerAt, consumerOf, view, codeOf, AgreesWith}
 use Rattle.ordering.specs.Good.{Good, Goes, Fine, by-need, by-up-to}
 use Rattle.ordering.specs.Rows.{OfSorts, has-sort, row-has, row-of}
-use Rattle.ordering.specs.Own.{OfConsumer, consumer-own}
+use Rattle.ordering.specs.Own.{consumer-own}
 
 -- an entry's state by cases
 pub by-state : (P : Answer → Type 0) (x : ℕ) (e : Entry) (a b c : Answer) → x ≡ codeOf e
@@ -117,7 +118,7 @@ module _ (z : Sizes) (σ : Reader) (γ : Ghost) (good : Good z σ γ) where
   -- The dequeue answers empty.
   pub answers-empty : dequeues (view σ γ .consumer) ≡ true → Invariant (z .B) (answerEmpty (view σ γ)) → Fine z σ γ (step 0) endsEmpty
   answers-empty busy model =
-      consumer-own z σ γ good (step 0) empty (clearConsumer ∷ []) resting (gaveEmpty ∷ γ .history) (tt, tt)
+      consumer-own z σ γ good (step 0) empty (clearConsumer ∷ []) resting (gaveEmpty ∷ γ .history) ((refl, omega arith), tt)
       (resting-in-range (after σ (clearConsumer ∷ [])) (λ k. refl))
       (tt, tt)
       refl
@@ -126,7 +127,7 @@ module _ (z : Sizes) (σ : Reader) (γ : Ghost) (good : Good z σ γ) where
       refl
 
   -- A step of the consumer that writes its own words alone, and goes on to phase p.
-  pub consumer-goes : (ws : List Write) (p : ℕ) (x : Consumer) → All OfConsumer ws → after σ ws consumerPhase ≡ p → p ≤ 7
+  pub consumer-goes : (ws : List Write) (p : ℕ) (x : Consumer) → All (Own ofConsumer) ws → after σ ws consumerPhase ≡ p → p ≤ 7
       → OfSorts z (λ k. after σ ws (consumer k)) 1 (getD consumerSorts p [])
       → Linked σ (after σ ws cursorRecord) × Linked σ (after σ ws foundRecord)
       → consumerOf (after σ ws) ≡ x

@@ -1,18 +1,19 @@
 -- The entry at a position: where it stands, and what a write of it leaves alone.
 use mathlib.Core.Path.{_≡_, refl, ap, sym, _∙_}
 use mathlib.Core.Bool.{true, false, _&&_, and-false}
-use Prim.Native.Nat.{ℕ, zero, suc, _+_, _*_, _≤_, _<_}
+use Prim.Native.Nat.{ℕ, zero, suc, _+_, _*_, _/_, _≤_, _<_}
 use native.Mathlib.Nat.{mul-comm, mul-le-mul-left}
 use native.Mathlib.Decide.{ℕ-discrete}
 use native.Mathlib.Omega.{arith}
+use lib.Arith.{digits-div}
 use lib.Dec.{eqb}
 use borrow.Author.Tests.{lt-ltb, le-leb, ne-eqb}
 use Rattle.history.specs.Linearization.{Item}
 use Rattle.rules.specs.Sizes.{Sizes}
 use Rattle.rules.specs.Cell
 use Rattle.rules.specs.Cell.{Reader, place, used}
+use Rattle.rules.specs.Update.{and-true}
 use Rattle.rules.specs.Rule.{Answer, within, index, inside}
-use Rattle.rules.specs.Address.{and-true, same-row}
 use Rattle.model.specs.State.{Entry}
 use Rattle.model.specs.Invariant.{Inside}
 use Rattle.memory.specs.Memory.{ChainShape, ChainOf}
@@ -21,7 +22,8 @@ use Rattle.ordering.specs.View.{Ghost, codeOf, Agrees, AgreesWith, cellO
 -- Positions in records: each is one index of one record.
 pub position-apart : (B k j a b : ℕ) → a < B → b < B → B * k + a ≡ B * j + b → (k ≡ j) × (a ≡ b)
 position-apart B k j a b ha hb e =
-    let p : k ≡ j = same-row B k j a b ha hb (omega (arith, mul-comm B k, mul-comm B j)) in
+    let w : k * B + a ≡ j * B + b = omega (arith, mul-comm B k, mul-comm B j) in
+    let p : k ≡ j = sym (digits-div k ha) ∙ ap (λ (x : ℕ). x / B) w ∙ digits-div j hb in
     let q : B * k ≡ B * j = ap (λ (x : ℕ). B * x) p in
     (p, omega arith)
 
@@ -86,12 +88,12 @@ pub other-record : (σ : Reader) (h : ℕ) → σ (used h) ≡ 2 → (x : ℕ) �
 other-record σ h u x n = ne-eqb h x (λ e. n (rw e at u))
 
 -- A cell of another entry.
-pub other-entry : (h i x a : ℕ) → (x ≡ h → a ≡ i → ⊥) → (eqb h x && eqb i a) ≡ false
+pub other-entry : (h i x a : ℕ) → (x ≡ h → a ≡ i → ⊥) → (eqb i a && eqb h x) ≡ false
 other-entry h i x a n = go (ℕ-discrete x h)
   where
-    go : Dec (x ≡ h) → (eqb h x && eqb i a) ≡ false
-    go (yes e) = rw (ne-eqb i a (λ q. n e (sym q)), and-false (eqb h x)) refl
-    go (no m) = rw (ne-eqb h x (λ q. m (sym q))) refl
+    go : Dec (x ≡ h) → (eqb i a && eqb h x) ≡ false
+    go (yes e) = rw (ne-eqb i a (λ q. n e (sym q))) refl
+    go (no m) = rw (ne-eqb h x (λ q. m (sym q)), and-false (eqb i a)) refl
 
 -- The entry at position p, inside a record r that is linked: where it stands, on the chain and in the record.
 pub record Slot (z : Sizes) (σ : Reader) (g : ChainShape) (r p : ℕ) : Type 0 where

@@ -42,7 +42,7 @@ module _ (z : Sizes) (σ : Reader) (γ : Ghost) (good : Good z σ γ) where
       let room : suc (σ headPosition) ≤ z .M = omega (arith, read-head-below-tail (z .B) (view σ γ) (good .model) n, tail-fits z σ γ good) in
       by-up-to (Fine z σ γ (step 0)) (z .M) (suc (σ headPosition)) _ room
       (consumer-goes z σ γ good (cursorRecord := σ headRecord ∷ cursorPosition := suc (σ headPosition) ∷ consumerPhase := 3 ∷ []) 3 _
-      (omega arith, (omega arith, (omega arith, tt)))
+      ((refl, omega arith), ((refl, omega arith), ((refl, omega arith), tt)))
       refl
       (omega arith)
       (has-sort z record-number (σ headRecord) (good .range .words headRecord (omega arith)) .1, (room, consumer-words z σ γ good 2 e .1 .1))
@@ -110,11 +110,11 @@ module _ (z : Sizes) (σ : Reader) (γ : Ghost) (good : Good z σ γ) where
         (upTo (z .M) (suc (σ headPosition)) (goes (headPosition := suc (σ headPosition) ∷ [])))
         (slot-state z σ γ h (σ headPosition) s (good .agrees))
         (λ b.
-        consumer-goes z σ γ good (consumerPhase := 2 ∷ []) 2 _ (omega arith, tt) refl (omega arith) idle-words (m .cursor, m .found) refl
+        consumer-goes z σ γ good (consumerPhase := 2 ∷ []) 2 _ ((refl, omega arith), tt) refl (omega arith) idle-words (m .cursor, m .found) refl
         (front-blank (z .B) (view σ γ) (good .model) seen-front n b))
         (λ b.
         consumer-goes z σ γ good (foundRecord := suc h ∷ foundPosition := σ headPosition ∷ consumerPhase := 6 ∷ []) 6 _
-        (omega arith, (omega arith, (omega arith, tt)))
+        ((refl, omega arith), ((refl, omega arith), ((refl, omega arith), tt)))
         refl
         (omega arith)
         (idle-words .0, (idle-words .1 .0, (head-fits, (position-fits, idle-words .1 .1 .1 .1))))

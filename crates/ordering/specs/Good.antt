@@ -9,7 +9,8 @@ use borrow.Author.Tests.{le-leb}
 use Rattle.history.specs.Lists.{All}
 use Rattle.history.specs.Form.{wellFormed}
 use Rattle.rules.specs.Sizes.{Sizes, sizesInRange}
-use Rattle.rules.specs.Cell.{Reader, Write, after}
+use Rattle.rules.specs.Cell.{Reader, Write}
+use Rattle.rules.specs.Update.{after}
 use Rattle.rules.specs.Rule.{Answer, refuse, reply, need, upTo}
 use Rattle.rules.specs.Request.{Request}
 use Rattle.rules.specs.Play.{replyEvents}

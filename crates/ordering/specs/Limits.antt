@@ -7,7 +7,7 @@ use native.Mathlib.Omega.{arith}
 use lib.Dec.{leb}
 use borrow.Author.Tests.{leb-true}
 use Rattle.rules.specs.Sizes.{Sizes, between, sizesInRange, mostPlace}
-use Rattle.rules.specs.Address.{both}
+use Rattle.rules.specs.Update.{both}
 
 pub record Limits (z : Sizes) : Type 0 where
   pub two-entries : 2 ≤ z .B

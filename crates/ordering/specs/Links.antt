@@ -13,7 +13,8 @@ use Rattle.history.specs.Lists.{All}
 use Rattle.history.specs.Event.{History, enqueueEnded}
 use Rattle.history.specs.Form.{wellFormed}
 use Rattle.rules.specs.Sizes.{Sizes, mostPlace}
-use Rattle.rules.specs.Cell.{Cell, Reader, Write, _:=_, clearProducer, update, after, tail, headPosition, starts, producer, part, entry, consumer, place, next, prev, used, phase, call, value, position, held, claimed, tailRecord, headRecord, cursorRecord, foundRecord}
+use Rattle.rules.specs.Cell.{Cell, Reader, Write, _:=_, clearProducer, tail, headPosition, starts, producer, part, entry, consumer, place, next, prev, used, phase, call, value, position, held, claimed, tailRecord, headRecord, cursorRecord, foundRecord, ofProducer}
+use Rattle.rules.specs.Update.{after, update, areaOf, Apart, Own, own-leaves}
 use Rattle.rules.specs.Range.{number, link, most, producerSorts, producerInRange}
 use Rattle.rules.specs.Rule.{Reply, Answer, going, ended, goes, reply}
 use Rattle.rules.specs.Producer.{linked, linkClaimed, linkAhead}
@@ -36,7 +37,7 @@ use Rattle.ordering.specs.Good.{Good, Goes, Fine, by-need, by-cond, by-u
 use Rattle.ordering.specs.Rows.{of-sort, has-sort, row-of}
 use Rattle.ordering.specs.Limits.{limits, place-fits}
 use Rattle.ordering.specs.Steps.{producers-after, own-words, seen-at}
-use Rattle.ordering.specs.Own.{OfProducer, NoProducer, producer-writes, producer-sorted, all-map, withHistory, later}
+use Rattle.ordering.specs.Own.{of-producer, own-in-sort, own-there, withHistory, later}
 use Rattle.ordering.specs.Records.{record-goes, place-same, consumer-same, seen-as, agrees-kept, agrees-grows}
 use Rattle.ordering.specs.Ends.{end-formed, end-adds, idle-in-range, idle-seen}
 
@@ -66,7 +67,7 @@ module _ (z : Sizes) (σ : Reader) (γ : Ghost) (good : Good z σ γ) (t : ℕ) 
       (place-same σ σ′ c places (rowOf σ′ t 4) (λ e. ⊎-elim (λ q. not-held t (sym q ∙ e)) (λ q. omega arith) (let-go .holds-on)))
 
   -- How the step goes on: what thread t writes of its own words, what it replies, how it is seen then, and the history.
-  module _ (rest : List Write) (own : All (OfProducer t) rest) (r : Reply) (x : Producer) (H : History)
+  module _ (rest : List Write) (own : All (Own (ofProducer t)) rest) (r : Reply) (x : Producer) (H : History)
       (formed : wellFormed H ≡ true) (grown : H ≡ replyEvents (step t) (γ .history) r ++ γ .history) where
     -- giving it back
     abbrev pub giveWrites : List Write
@@ -77,10 +78,10 @@ module _ (z : Sizes) (σ : Reader) (γ : Ghost) (good : Good z σ γ) (t : ℕ) 
     linkWrites = next h := suc c ∷ used c := 2 ∷ prev c := suc h ∷ place c := suc (σ (place h)) ∷ rest
 
     rest-sorted : All (InSort z t) rest
-    rest-sorted = all-map (OfProducer t) (InSort z t) (λ w q. producer-sorted z t a-producer w q .0) rest own
+    rest-sorted = own-in-sort z t (ofProducer t) (of-producer z t a-producer) rest own
 
     rest-there : All (WriteThere z) rest
-    rest-there = all-map (OfProducer t) (WriteThere z) (λ w q. producer-sorted z t a-producer w q .1) rest own
+    rest-there = own-there z t (ofProducer t) (of-producer z t a-producer) rest own
 
     module _ (in-row : producerInRange z (after σ giveWrites) t ≡ true) (let-go : LetGo σ (after σ giveWrites) t)
         (seen : producerOf (placesOf σ) (rowOf (after σ giveWrites) t) ≡ x)
@@ -89,26 +90,26 @@ module _ (z : Sizes) (σ : Reader) (γ : Ghost) (good : Good z σ γ) (t : ℕ) 
       gives =
           record-goes z σ γ good t a-producer (step t) r giveWrites (later γ H) in-sort ((c-blank .fits, omega arith), rest-there) in-row
           (give-back-keeps z σ σ′ (γ .shape) m t h c a-producer holds claims kept let-go
-          (same tailRecord tt)
-          (same headRecord tt)
-          (same cursorRecord tt)
-          (same foundRecord tt)
-          (same (used c) tt ∙ rw (eq-eqb c c refl) refl)
-          (λ i k. same (entry c i k) tt)
+          (same tailRecord refl)
+          (same headRecord refl)
+          (same cursorRecord refl)
+          (same foundRecord refl)
+          (same (used c) refl ∙ rw (eq-eqb c c refl) refl)
+          (λ i k. same (entry c i k) refl)
           others)
           (agrees-kept (z .B) (γ .shape .lo) (γ .shape .hi) (γ .shape .at) (γ .entry) (γ .content) (cellOf σ) (cellOf σ′)
-          (λ k i j l b. same (entry (γ .shape .at (suc k)) i j) tt) (good .agrees))
-          (seen-as model (sym (same tail tt)) (sym (same headPosition tt)) (sym (same starts tt))
+          (λ k i j l b. same (entry (γ .shape .at (suc k)) i j) refl) (good .agrees))
+          (seen-as model (sym (same tail refl)) (sym (same headPosition refl)) (sym (same starts refl))
           (producers-after t σ σ′ kept (λ u n. place-same σ σ′ c places (σ (held u)) (not-held u)) x (own-seen σ′ places let-go ∙ seen))
-          (sym (consumer-same σ σ′ c (λ k. same (consumer k) tt) places not-linked (m .cursor) (m .found))))
+          (sym (consumer-same σ σ′ c (λ k. same (consumer k) refl) places not-linked (m .cursor) (m .found))))
           formed
           grown
         where
           σ′ : Reader
           σ′ = after σ giveWrites
 
-          same : (d : Cell) → NoProducer d → σ′ d ≡ update σ (used c := 0) d
-          same = producer-writes t (update σ (used c := 0)) rest own
+          same : (d : Cell) → Apart (ofProducer t) (areaOf d) → σ′ d ≡ update σ (used c := 0) d
+          same = own-leaves (ofProducer t) (update σ (used c := 0)) rest own
 
           in-sort : All (InSort z t) giveWrites
           in-sort = (refl, rest-sorted)
@@ -118,7 +119,7 @@ module _ (z : Sizes) (σ : Reader) (γ : Ghost) (good : Good z σ γ) (t : ℕ) 
 
           others : (y : ℕ) → (y ≡ c → ⊥) → Untouched σ σ′ y
           others y n =
-              ((λ k. same (part y k) tt ∙ rw (ne-eqb c y (λ e. n (sym e)), and-false (eqb 3 k)) refl), (λ i k. same (entry y i k) tt))
+              ((λ k. same (part y k) refl ∙ rw (ne-eqb c y (λ e. n (sym e)), and-false (eqb 3 k)) refl), (λ i k. same (entry y i k) refl))
 
           places : (y : ℕ) → (y ≡ c → ⊥) → σ′ (place y) ≡ σ (place y)
           places y n = others y n .0 0
@@ -144,9 +145,9 @@ module _ (z : Sizes) (σ : Reader) (γ : Ghost) (good : Good z σ γ) (t : ℕ) 
       σ′ : Reader
       σ′ = after σ linkWrites
 
-      same : (d : Cell) → NoProducer d → σ′ d ≡ τ d
+      same : (d : Cell) → Apart (ofProducer t) (areaOf d) → σ′ d ≡ τ d
       unfolding σ′ τ
-      same = producer-writes t τ rest own
+      same = own-leaves (ofProducer t) τ rest own
 
       last : (σ (used h) ≡ 2) × (σ (place h) ≡ γ .shape .hi) × (γ .shape .at (γ .shape .hi) ≡ h)
       last = held-last m t h holds none
@@ -173,18 +174,18 @@ module _ (z : Sizes) (σ : Reader) (γ : Ghost) (good : Good z σ γ) (t : ℕ) 
       unfolding τ
       others y n =
           let e : eqb c y ≡ false = ne-eqb c y (λ q. n (sym q)) in
-          (same (place y) tt ∙ rw e refl, same (prev y) tt ∙ rw e refl, same (used y) tt ∙ rw e refl)
+          (same (place y) refl ∙ rw e refl, same (prev y) refl ∙ rw e refl, same (used y) refl ∙ rw e refl)
 
       nexts : (y : ℕ) → (y ≡ c → ⊥) → (y ≡ h → ⊥) → σ′ (next y) ≡ σ (next y)
       unfolding τ
-      nexts y n k = same (next y) tt ∙ rw (ne-eqb h y (λ q. k (sym q))) refl
+      nexts y n k = same (next y) refl ∙ rw (ne-eqb h y (λ q. k (sym q))) refl
 
       places : (y : ℕ) → (y ≡ c → ⊥) → σ′ (place y) ≡ σ (place y)
       places y n = others y n .0
 
       cells : (y i k : ℕ) → σ′ (entry y i k) ≡ σ (entry y i k)
       unfolding τ
-      cells y i k = same (entry y i k) tt
+      cells y i k = same (entry y i k) refl
 
       -- nothing is set or handled past the last record
       blanks : (p : ℕ) → z .B * γ .shape .hi ≤ p → γ .entry p ≡ blank
@@ -195,24 +196,24 @@ module _ (z : Sizes) (σ : Reader) (γ : Ghost) (good : Good z σ γ) (t : ℕ) 
       links =
           record-goes z σ γ good t a-producer (step t) r linkWrites linkedGhost in-sort there in-row
           (link-keeps z σ σ′ (γ .shape) m t h c a-producer holds claims kept let-go
-          (same tailRecord tt)
-          (same headRecord tt)
-          (same cursorRecord tt)
-          (same foundRecord tt)
+          (same tailRecord refl)
+          (same headRecord refl)
+          (same cursorRecord refl)
+          (same foundRecord refl)
           none
-          (same (place c) tt ∙ rw self refl)
-          (same (next c) tt ∙ rw (ne-eqb h c h-not-c) refl)
-          (same (prev c) tt ∙ rw self refl)
-          (same (used c) tt ∙ rw self refl)
-          (same (next h) tt ∙ rw (eq-eqb h h refl) refl)
+          (same (place c) refl ∙ rw self refl)
+          (same (next c) refl ∙ rw (ne-eqb h c h-not-c) refl)
+          (same (prev c) refl ∙ rw self refl)
+          (same (used c) refl ∙ rw self refl)
+          (same (next h) refl ∙ rw (eq-eqb h h refl) refl)
           others
           nexts
           cells)
           (agrees-grows (z .B) (γ .shape .lo) (γ .shape .hi) (γ .shape .at) (γ .entry) (γ .content) (cellOf σ) (cellOf σ′) c cells
           (c-blank .no-entry) blanks (good .agrees))
-          (seen-as model (sym (same tail tt)) (sym (same headPosition tt)) (sym (same starts tt))
+          (seen-as model (sym (same tail refl)) (sym (same headPosition refl)) (sym (same starts refl))
           (producers-after t σ σ′ kept (λ u n. place-same σ σ′ c places (σ (held u)) (not-held u)) x (own-seen σ′ places let-go ∙ seen))
-          (sym (consumer-same σ σ′ c (λ k. same (consumer k) tt) places not-linked (m .cursor) (m .found))))
+          (sym (consumer-same σ σ′ c (λ k. same (consumer k) refl) places not-linked (m .cursor) (m .found))))
           formed
           grown
         where
@@ -300,7 +301,7 @@ module _ (z : Sizes) (σ : Reader) (γ : Ghost) (good : Good z σ γ) (t : ℕ) 
       let o = producer-clause (z .B) (view σ γ) (good .model) t _ seen in
       place-fits z (limits z (good .sizes)) (σ (place h)) (σ (position t)) (omega (arith, ap (λ (x : ℕ). z .B * placeOf (placesOf σ) x) q, o .2)) (taken-below (σ (position t)) (o .0 .taken)))
     where
-      own : All (OfProducer t) onward
+      own : All (Own (ofProducer t)) onward
       own = ((refl, omega arith), ((refl, omega arith), tt))
 
       seen : view σ γ .producer t ≡ ahead (σ (call t)) (σ (value t)) (σ (position t)) (placeOf (placesOf σ) (σ (held t)))
@@ -340,8 +341,8 @@ module _ (z : Sizes) (σ : Reader) (γ : Ghost) (good : Good z σ γ) (t : ℕ) 
       let o = producer-clause (z .B) (view σ γ) (good .model) t _ seen in
       place-fits z (limits z (good .sizes)) (σ (place h)) (σ (position t)) (omega (arith, ap (λ (x : ℕ). z .B * placeOf (placesOf σ) x) q, o .4 .1)) (taken-below (σ (position t)) (o .1)))
     where
-      own : All (OfProducer t) idling
-      own = (refl, tt)
+      own : All (Own (ofProducer t)) idling
+      own = ((refl, omega arith), tt)
 
       seen : view σ γ .producer t ≡ done (σ (call t)) (σ (value t)) (σ (position t)) (placeOf (placesOf σ) (σ (held t)))
       seen = seen-at z σ γ good t a-producer 11 e

@@ -10,7 +10,8 @@ use lib.ListN.{length, getD, drop, replicate, length-append, length-replicate, g
 use borrow.Author.Tests.{eqb-true}
 use Rattle.history.specs.Lists.{All}
 use Rattle.rules.specs.Sizes.{Sizes, sizesInRange, mostPlace, storeWords}
-use Rattle.rules.specs.Cell.{Cell, content, consumer, producer, part, entry, Reader, reader, there, address, after, used}
+use Rattle.rules.specs.Cell.{Cell, content, consumer, producer, part, entry, Reader, reader, there, address, used}
+use Rattle.rules.specs.Update.{after}
 use Rattle.rules.specs.Range.{number, link, most, any, ofSort, contentSorts, partSorts, entrySorts}
 use Rattle.rules.specs.Request.{openWrites, opened}
 use Rattle.rules.specs.Address.{There, there-has, address-below}

@@ -1,5 +1,5 @@
 -- A step that writes its own thread's words alone: what is left to show of it is that thread's.
-use mathlib.Core.Path.{_≡_, refl, ap, ap₂, sym, _∙_, subst, fun-ext}
+use mathlib.Core.Path.{_≡_, refl, ap, ap₂, sym, _∙_, subst, subst⁻¹, fun-ext}
 use mathlib.Core.Bool.{true}
 use mathlib.Core.List.{List, [], _∷_, _++_}
 use Prim.Native.Nat.{ℕ, _≤_, _<_}
@@ -8,7 +8,9 @@ use Rattle.history.specs.Lists.{All}
 use Rattle.history.specs.Event.{History}
 use Rattle.history.specs.Form.{wellFormed}
 use Rattle.rules.specs.Sizes.{Sizes}
-use Rattle.rules.specs.Cell.{Cell, content, consumer, producer, part, entry, Reader, Write, _:=_, clearConsumer, clearProducer, wipe, update, after, tailRecord, headRecord, cursorRecord, foundRecord, tail, headPosition, starts}
+use Rattle.rules.specs.Cell.{Cell, content, consumer, producer, part, entry, Reader, Area, contents, ofConsumer, ofProducer, ofRecord, Write, _:=_, clear, tailRecord, headRecord, cursorRecord, foundRecord, tail, headPosition, starts}
+use Rattle.rules.specs.Update.{areaOf, after, Apart, kinds-apart, Own, own-leaves}
+use Rattle.rules.specs.Address.{AreaThere}
 use Rattle.rules.specs.Range.{producerInRange, consumerInRange}
 use Rattle.rules.specs.Rule.{Reply}
 use Rattle.rules.specs.Request.{Request, step}
@@ -25,112 +27,41 @@ use Rattle.ordering.specs.View.{Ghost, placesOf, placeOf, producerOf, pr
 use Rattle.ordering.specs.Good.{Good, Goes}
 use Rattle.ordering.specs.Steps.{producers-after, producer-goes}
 
--- A write of one of producer t's words.
-abbrev pub OfProducer : ℕ → Write → Type 0
-OfProducer t (content k := v) = ⊥
-OfProducer t (consumer k := v) = ⊥
-OfProducer t (producer u k := v) = (t ≡ u) × (k < 8)
-OfProducer t (part r k := v) = ⊥
-OfProducer t (entry r i k := v) = ⊥
-OfProducer t clearConsumer = ⊥
-OfProducer t (clearProducer u) = t ≡ u
-OfProducer t (wipe r) = ⊥
+-- An area that a call of thread t may write as it likes: its own.
+pub record Thread (z : Sizes) (t : ℕ) (a : Area) : Type 0 where
+  pub in-sort : InSort z t (clear a)
+  pub is-there : AreaThere z a
+  pub no-contents : Apart contents a
+  pub no-record : (r : ℕ) → Apart (ofRecord r) a
 
--- A write of one of the consumer's words.
-abbrev pub OfConsumer : Write → Type 0
-OfConsumer (content k := v) = ⊥
-OfConsumer (consumer k := v) = k < 8
-OfConsumer (producer u k := v) = ⊥
-OfConsumer (part r k := v) = ⊥
-OfConsumer (entry r i k := v) = ⊥
-OfConsumer clearConsumer = Unit
-OfConsumer (clearProducer u) = ⊥
-OfConsumer (wipe r) = ⊥
+pub a-consumer : (z : Sizes) → Thread z 0 ofConsumer
+a-consumer z = record { in-sort = refl; is-there = tt; no-contents = refl; no-record = λ r. refl }
 
--- Every cell but a producer's, and every cell but the consumer's.
-abbrev pub NoProducer : Cell → Type 0
-NoProducer (content k) = Unit
-NoProducer (consumer k) = Unit
-NoProducer (producer u k) = ⊥
-NoProducer (part r k) = Unit
-NoProducer (entry r i k) = Unit
+pub of-producer : (z : Sizes) (t : ℕ) → (1 ≤ t) × (t ≤ z .P) → Thread z t (ofProducer t)
+of-producer z t h = record { in-sort = refl; is-there = h; no-contents = refl; no-record = λ r. refl }
 
-abbrev pub NoConsumer : Cell → Type 0
-NoConsumer (content k) = Unit
-NoConsumer (consumer k) = ⊥
-NoConsumer (producer u k) = Unit
-NoConsumer (part r k) = Unit
-NoConsumer (entry r i k) = Unit
+-- Its words are in range and there.
+pub own-sorted : (z : Sizes) (t : ℕ) (a : Area) → Thread z t a → (w : Write) → Own a w → InSort z t w × WriteThere z w
+own-sorted z t a th (content k := v) h = absurd (kinds-apart contents a (th .no-contents) (h .0))
+own-sorted z t a th (consumer k := v) h = (subst⁻¹ (λ (b : Area). InSort z t (clear b)) (h .0) (th .in-sort), h .1)
+own-sorted z t a th (producer u k := v) h =
+    let is : AreaThere z (ofProducer u) = subst⁻¹ (AreaThere z) (h .0) (th .is-there) in
+    (subst⁻¹ (λ (b : Area). InSort z t (clear b)) (h .0) (th .in-sort), (is .0, is .1, h .1))
+own-sorted z t a th (part r k := v) h = absurd (kinds-apart (ofRecord r) a (th .no-record r) (h .0))
+own-sorted z t a th (entry r i k := v) h = absurd (kinds-apart (ofRecord r) a (th .no-record r) (h .0))
+own-sorted z t a th (clear b) h =
+    (subst⁻¹ (λ (x : Area). InSort z t (clear x)) (h .0) (th .in-sort), subst⁻¹ (AreaThere z) (h .0) (th .is-there))
 
-producer-write : (t : ℕ) (σ : Reader) (w : Write) → OfProducer t w → (c : Cell) → NoProducer c → update σ w c ≡ σ c
-producer-write t σ (content l := v) h c n = absurd h
-producer-write t σ (consumer l := v) h c n = absurd h
-producer-write t σ (producer u l := v) h (content k) n = refl
-producer-write t σ (producer u l := v) h (consumer k) n = refl
-producer-write t σ (producer u l := v) h (producer x k) n = absurd n
-producer-write t σ (producer u l := v) h (part r k) n = refl
-producer-write t σ (producer u l := v) h (entry r i k) n = refl
-producer-write t σ (part r l := v) h c n = absurd h
-producer-write t σ (entry r i l := v) h c n = absurd h
-producer-write t σ clearConsumer h c n = absurd h
-producer-write t σ (clearProducer u) h (content k) n = refl
-producer-write t σ (clearProducer u) h (consumer k) n = refl
-producer-write t σ (clearProducer u) h (producer x k) n = absurd n
-producer-write t σ (clearProducer u) h (part r k) n = refl
-producer-write t σ (clearProducer u) h (entry r i k) n = refl
-producer-write t σ (wipe r) h c n = absurd h
-
-consumer-write : (σ : Reader) (w : Write) → OfConsumer w → (c : Cell) → NoConsumer c → update σ w c ≡ σ c
-consumer-write σ (content l := v) h c n = absurd h
-consumer-write σ (consumer l := v) h (content k) n = refl
-consumer-write σ (consumer l := v) h (consumer k) n = absurd n
-consumer-write σ (consumer l := v) h (producer x k) n = refl
-consumer-write σ (consumer l := v) h (part r k) n = refl
-consumer-write σ (consumer l := v) h (entry r i k) n = refl
-consumer-write σ (producer u l := v) h c n = absurd h
-consumer-write σ (part r l := v) h c n = absurd h
-consumer-write σ (entry r i l := v) h c n = absurd h
-consumer-write σ clearConsumer h (content k) n = refl
-consumer-write σ clearConsumer h (consumer k) n = absurd n
-consumer-write σ clearConsumer h (producer x k) n = refl
-consumer-write σ clearConsumer h (part r k) n = refl
-consumer-write σ clearConsumer h (entry r i k) n = refl
-consumer-write σ (clearProducer u) h c n = absurd h
-consumer-write σ (wipe r) h c n = absurd h
-
-pub producer-writes : (t : ℕ) (σ : Reader) (ws : List Write) → All (OfProducer t) ws → (c : Cell) → NoProducer c → after σ ws c ≡ σ c
-producer-writes t σ [] h c n = refl
-producer-writes t σ (w ∷ ws) h c n = producer-writes t (update σ w) ws (h .1) c n ∙ producer-write t σ w (h .0) c n
-
-pub consumer-writes : (σ : Reader) (ws : List Write) → All OfConsumer ws → (c : Cell) → NoConsumer c → after σ ws c ≡ σ c
-consumer-writes σ [] h c n = refl
-consumer-writes σ (w ∷ ws) h c n = consumer-writes (update σ w) ws (h .1) c n ∙ consumer-write σ w (h .0) c n
-
--- Such writes are in range and there.
-pub producer-sorted : (z : Sizes) (t : ℕ) → (1 ≤ t) × (t ≤ z .P) → (w : Write) → OfProducer t w → InSort z t w × WriteThere z w
-producer-sorted z t a (content k := v) h = absurd h
-producer-sorted z t a (consumer k := v) h = absurd h
-producer-sorted z t a (producer u k := v) h =
-    (h .0, subst (λ (x : ℕ). (1 ≤ x) × (x ≤ z .P) × (k < 8)) (h .0) (a .0, a .1, h .1))
-producer-sorted z t a (part r k := v) h = absurd h
-producer-sorted z t a (entry r i k := v) h = absurd h
-producer-sorted z t a clearConsumer h = absurd h
-producer-sorted z t a (clearProducer u) h = (h, subst (λ (x : ℕ). (1 ≤ x) × (x ≤ z .P)) h a)
-producer-sorted z t a (wipe r) h = absurd h
-
-pub consumer-sorted : (z : Sizes) (w : Write) → OfConsumer w → InSort z 0 w × WriteThere z w
-consumer-sorted z (content k := v) h = absurd h
-consumer-sorted z (consumer k := v) h = (refl, h)
-consumer-sorted z (producer u k := v) h = absurd h
-consumer-sorted z (part r k := v) h = absurd h
-consumer-sorted z (entry r i k := v) h = absurd h
-consumer-sorted z clearConsumer h = (refl, tt)
-consumer-sorted z (clearProducer u) h = absurd h
-consumer-sorted z (wipe r) h = absurd h
-
-pub all-map : {A : Type 0} (P Q : A → Type 0) → ((x : A) → P x → Q x) → (xs : List A) → All P xs → All Q xs
+all-map : {A : Type 0} (P Q : A → Type 0) → ((x : A) → P x → Q x) → (xs : List A) → All P xs → All Q xs
 all-map P Q f [] h = tt
 all-map P Q f (x ∷ xs) h = (f x (h .0), all-map P Q f xs (h .1))
+
+-- the same of a list
+pub own-in-sort : (z : Sizes) (t : ℕ) (a : Area) → Thread z t a → (ws : List Write) → All (Own a) ws → All (InSort z t) ws
+own-in-sort z t a th ws = all-map (Own a) (InSort z t) (λ w h. own-sorted z t a th w h .0) ws
+
+pub own-there : (z : Sizes) (t : ℕ) (a : Area) → Thread z t a → (ws : List Write) → All (Own a) ws → All (WriteThere z) ws
+own-there z t a th ws = all-map (Own a) (WriteThere z) (λ w h. own-sorted z t a th w h .1) ws
 
 -- a state with another history
 abbrev pub withHistory : State → History → State
@@ -164,7 +95,7 @@ module _ (z : Sizes) (σ : Reader) (γ : Ghost) (good : Good z σ γ) where
 
   -- A step of producer t that writes its own words alone.
   pub producer-own : (t : ℕ) → (1 ≤ t) × (t ≤ z .P) → (r : Reply) (ws : List Write) (x : Producer) (h : History)
-      → All (OfProducer t) ws
+      → All (Own (ofProducer t)) ws
       → producerInRange z (after σ ws) t ≡ true
       → ThreadOk (z .N) (γ .shape .lo) σ (rowOf (after σ ws) t)
       → rowOf (after σ ws) t 5 ≡ 0
@@ -175,14 +106,14 @@ module _ (z : Sizes) (σ : Reader) (γ : Ghost) (good : Good z σ γ) where
       → Goes z σ γ (step t) r ws
   producer-own t a r ws x h own in-row thread none seen model formed grown =
       producer-goes z σ γ good t a r ws (γ .shape .tp) (γ .entry) (γ .owner) (γ .content) h in-sort
-      (all-map (OfProducer t) (WriteThere z) (λ w q. producer-sorted z t a w q .1) ws own)
-      (record { parts = λ y k. same (part y k) tt; entries = λ y n i k. same (entry y i k) tt })
-      (same headRecord tt, same cursorRecord tt, same foundRecord tt)
+      (own-there z t (ofProducer t) (of-producer z t a) ws own)
+      (record { parts = λ y k. same (part y k) refl; entries = λ y n i k. same (entry y i k) refl })
+      (same headRecord refl, same cursorRecord refl, same foundRecord refl)
       in-row
       thread
       none
-      (good .memory .head-tail, good .memory .tail-last, same tailRecord tt ∙ good .memory .tail-is)
-      (subst (Agrees (z .B) (γ .shape .lo) (γ .shape .hi) (γ .shape .at) (γ .entry) (γ .content)) (cells-same σ′ (λ y i k. same (entry y i k) tt)) (good .agrees))
+      (good .memory .head-tail, good .memory .tail-last, same tailRecord refl ∙ good .memory .tail-is)
+      (subst (Agrees (z .B) (γ .shape .lo) (γ .shape .hi) (γ .shape .at) (γ .entry) (γ .content)) (cells-same σ′ (λ y i k. same (entry y i k) refl)) (good .agrees))
       (subst (Invariant (z .B)) moves model)
       formed
       grown
@@ -190,34 +121,34 @@ module _ (z : Sizes) (σ : Reader) (γ : Ghost) (good : Good z σ γ) where
       σ′ : Reader
       σ′ = after σ ws
 
-      same : (c : Cell) → NoProducer c → σ′ c ≡ σ c
-      same = producer-writes t σ ws own
+      same : (c : Cell) → Apart (ofProducer t) (areaOf c) → σ′ c ≡ σ c
+      same = own-leaves (ofProducer t) σ ws own
 
       in-sort : All (InSort z t) ws
-      in-sort = all-map (OfProducer t) (InSort z t) (λ w q. producer-sorted z t a w q .0) ws own
+      in-sort = own-in-sort z t (ofProducer t) (of-producer z t a) ws own
 
       moves : withHistory (withProducer (view σ γ) t x) h ≡ view (after σ ws) (later γ h)
       moves =
           λ i. record {
-            tail = sym (same tail tt) i;
-            hp = sym (same headPosition tt) i;
+            tail = sym (same tail refl) i;
+            hp = sym (same headPosition refl) i;
             lo = γ .shape .lo;
             tp = γ .shape .tp;
             hi = γ .shape .hi;
-            starts = sym (same starts tt) i;
+            starts = sym (same starts refl) i;
             entry = γ .entry;
             owner = γ .owner;
             content = γ .content;
             producer =
                 producers-after t σ σ′ (others-kept z t σ ws in-sort)
-                (λ u n. ap (λ (f : ℕ → ℕ). placeOf f (rowOf σ u 4)) (places-same σ′ (λ y k. same (part y k) tt))) x seen i;
-            consumer = ap₂ consumerFrom (sym (places-same σ′ (λ y k. same (part y k) tt))) (fun-ext (λ k. sym (same (consumer k) tt))) i;
+                (λ u n. ap (λ (f : ℕ → ℕ). placeOf f (rowOf σ u 4)) (places-same σ′ (λ y k. same (part y k) refl))) x seen i;
+            consumer = ap₂ consumerFrom (sym (places-same σ′ (λ y k. same (part y k) refl))) (fun-ext (λ k. sym (same (consumer k) refl))) i;
             history = h;
           }
 
   -- A step of the consumer that writes its own words alone.
   pub consumer-own : (q : Request) (r : Reply) (ws : List Write) (x : Consumer) (h : History)
-      → All OfConsumer ws
+      → All (Own ofConsumer) ws
       → consumerInRange z (after σ ws) ≡ true
       → Linked σ (after σ ws cursorRecord) × Linked σ (after σ ws foundRecord)
       → consumerOf (after σ ws) ≡ x
@@ -227,7 +158,7 @@ module _ (z : Sizes) (σ : Reader) (γ : Ghost) (good : Good z σ γ) where
       → Goes z σ γ q r ws
   consumer-own q r ws x h own in-row linked seen model formed grown =
       record {
-        there = all-map OfConsumer (WriteThere z) (λ w o. consumer-sorted z w o .1) ws own;
+        there = own-there z 0 ofConsumer (a-consumer z) ws own;
         next = later γ h;
         good =
             record {
@@ -235,13 +166,13 @@ module _ (z : Sizes) (σ : Reader) (γ : Ghost) (good : Good z σ γ) where
               range = writes-keep-range z 0 σ ws in-sort (good .range) (λ e. in-row) (λ l. absurd (omega arith));
               memory =
                   consumer-keeps z σ σ′ (γ .shape) (good .memory)
-                  (record { parts = λ y k. same (part y k) tt; entries = λ y n i k. same (entry y i k) tt })
-                  (λ u k. same (producer u k) tt)
-                  (same tailRecord tt)
-                  (same headRecord tt)
+                  (record { parts = λ y k. same (part y k) refl; entries = λ y n i k. same (entry y i k) refl })
+                  (λ u k. same (producer u k) refl)
+                  (same tailRecord refl)
+                  (same headRecord refl)
                   (linked .0)
                   (linked .1);
-              agrees = subst (Agrees (z .B) (γ .shape .lo) (γ .shape .hi) (γ .shape .at) (γ .entry) (γ .content)) (cells-same σ′ (λ y i k. same (entry y i k) tt)) (good .agrees);
+              agrees = subst (Agrees (z .B) (γ .shape .lo) (γ .shape .hi) (γ .shape .at) (γ .entry) (γ .content)) (cells-same σ′ (λ y i k. same (entry y i k) refl)) (good .agrees);
               model = subst (Invariant (z .B)) moves model;
               formed = formed;
             };
@@ -251,25 +182,25 @@ module _ (z : Sizes) (σ : Reader) (γ : Ghost) (good : Good z σ γ) where
       σ′ : Reader
       σ′ = after σ ws
 
-      same : (c : Cell) → NoConsumer c → σ′ c ≡ σ c
-      same = consumer-writes σ ws own
+      same : (c : Cell) → Apart ofConsumer (areaOf c) → σ′ c ≡ σ c
+      same = own-leaves ofConsumer σ ws own
 
       in-sort : All (InSort z 0) ws
-      in-sort = all-map OfConsumer (InSort z 0) (λ w o. consumer-sorted z w o .0) ws own
+      in-sort = own-in-sort z 0 ofConsumer (a-consumer z) ws own
 
       moves : withHistory (withConsumer (view σ γ) x) h ≡ view (after σ ws) (later γ h)
       moves =
           λ i. record {
-            tail = sym (same tail tt) i;
-            hp = sym (same headPosition tt) i;
+            tail = sym (same tail refl) i;
+            hp = sym (same headPosition refl) i;
             lo = γ .shape .lo;
             tp = γ .shape .tp;
             hi = γ .shape .hi;
-            starts = sym (same starts tt) i;
+            starts = sym (same starts refl) i;
             entry = γ .entry;
             owner = γ .owner;
             content = γ .content;
-            producer = λ u. ap₂ producerOf (sym (places-same σ′ (λ y k. same (part y k) tt))) (fun-ext (λ k. sym (same (producer u k) tt))) i;
+            producer = λ u. ap₂ producerOf (sym (places-same σ′ (λ y k. same (part y k) refl))) (fun-ext (λ k. sym (same (producer u k) refl))) i;
             consumer = sym seen i;
             history = h;
           }

@@ -13,8 +13,8 @@ use Rattle.history.specs.Event.{History, enqueueEnded}
 use Rattle.history.specs.Form.{wellFormed}
 use Rattle.history.specs.Linearization.{Item}
 use Rattle.rules.specs.Sizes.{Sizes}
-use Rattle.rules.specs.Address.{both}
-use Rattle.rules.specs.Cell.{Cell, Reader, Write, _:=_, clearProducer, update, after, tail, tailRecord, headRecord, headPosition, starts, cursorRecord, foundRecord, consumer, producer, part, entry, place, used, state, entryNumber, entryValue, phase, call, value, position, held, backed}
+use Rattle.rules.specs.Update.{after, both, update, areaOf, Apart, Own, own-leaves}
+use Rattle.rules.specs.Cell.{Cell, Reader, Write, _:=_, clearProducer, tail, tailRecord, headRecord, headPosition, starts, cursorRecord, foundRecord, consumer, producer, part, entry, place, used, state, entryNumber, entryValue, phase, call, value, position, held, backed, ofProducer}
 use Rattle.rules.specs.Range.{number, startedSorts, placedSorts, producerSorts, producerInRange}
 use Rattle.rules.specs.Rule.{Reply, going, ended, goes, reply, index}
 use Rattle.rules.specs.Producer.{takePosition, writeEntry, setEntry}
@@ -36,7 +36,7 @@ use Rattle.ordering.specs.View.{Ghost, placesOf, placeOf, producersOf, c
 use Rattle.ordering.specs.Good.{Good, Goes, Fine, by-need, by-cond, by-up-to}
 use Rattle.ordering.specs.Rows.{OfSorts, of-sort, has-sort, row-of}
 use Rattle.ordering.specs.Steps.{as-seen, at-twice, producers-after, unclaimed, own-words, seen-at, producer-goes}
-use Rattle.ordering.specs.Own.{OfProducer, NoProducer, producer-writes, producer-sorted, all-map, withHistory}
+use Rattle.ordering.specs.Own.{of-producer, own-in-sort, own-there, withHistory}
 use Rattle.ordering.specs.Records.{seen-as}
 use Rattle.ordering.specs.Ends.{end-formed, end-adds, idle-in-range, idle-thread, idle-seen}
 use Rattle.ordering.specs.Entries.{other-record, other-entry, by-inside, Slot, slot, slot-changes, slot-state, slot-number, slot-value}
@@ -127,7 +127,7 @@ module _ (z : Sizes) (σ : Reader) (γ : Ghost) (good : Good z σ γ) (t : ℕ) 
           producer-goes z σ γ good t a-producer going ws (γ .shape .tp) (γ .entry) (γ .owner) (at (γ .content) (σ (position t)) what) (γ .history)
           in-sort
           ((s .fits, s .here .below, omega arith), ((s .fits, s .here .below, omega arith), ((a-producer .0, a-producer .1, omega arith), tt)))
-          (record { parts = λ x j. refl; entries = λ x n b j. rw (other-record σ h (s .linked) x n, and-false (eqb 2 j), and-false (eqb 1 j)) refl })
+          (record { parts = λ x j. refl; entries = λ x n b j. rw (other-record σ h (s .linked) x n, and-false (eqb (index z σ h (σ (position t))) b), and-false (eqb 2 j), and-false (eqb 1 j)) refl })
           (refl, refl, refl)
           (row-of z 11 producerSorts (rowOf σ′ t) 9 nine (omega arith) old)
           (unclaimed (z .N) (γ .shape .lo) σ (rowOf σ′ t) (good .memory .threads t .holding) (old .1 .1 .1 .1 .0)
@@ -176,7 +176,7 @@ module _ (z : Sizes) (σ : Reader) (γ : Ghost) (good : Good z σ γ) (t : ℕ) 
     setting-words = own-words z σ γ good t a-producer 9 e
 
     -- the rest of the step, of t's own words
-    sets : (rest : List Write) (r : Reply) (x : Producer) (H : History) → All (OfProducer t) rest
+    sets : (rest : List Write) (r : Reply) (x : Producer) (H : History) → All (Own (ofProducer t)) rest
         → producerInRange z (after σ (state h i := 1 ∷ rest)) t ≡ true
         → ThreadOk (z .N) (γ .shape .lo) σ (rowOf (after σ (state h i := 1 ∷ rest)) t)
         → rowOf (after σ (state h i := 1 ∷ rest)) t 5 ≡ 0
@@ -189,26 +189,26 @@ module _ (z : Sizes) (σ : Reader) (γ : Ghost) (good : Good z σ γ) (t : ℕ) 
     sets rest r x H own in-row thread none seen model formed grown =
         producer-goes z σ γ good t a-producer r ws (γ .shape .tp) (at (γ .entry) (σ (position t)) put) (γ .owner) (γ .content) H
         in-sort
-        ((s .fits, s .here .below, omega arith), all-map (OfProducer t) (WriteThere z) (λ w q. producer-sorted z t a-producer w q .1) rest own)
+        ((s .fits, s .here .below, omega arith), own-there z t (ofProducer t) (of-producer z t a-producer) rest own)
         (record {
-          parts = λ y j. same (part y j) tt;
-          entries = λ y n a j. same (entry y a j) tt ∙ rw (other-record σ h (s .linked) y n, and-false (eqb 0 j)) refl;
+          parts = λ y j. same (part y j) refl;
+          entries = λ y n a j. same (entry y a j) refl ∙ rw (other-record σ h (s .linked) y n, and-false (eqb i a), and-false (eqb 0 j)) refl;
         })
-        (same headRecord tt, same cursorRecord tt, same foundRecord tt)
+        (same headRecord refl, same cursorRecord refl, same foundRecord refl)
         in-row
         thread
         none
-        (good .memory .head-tail, good .memory .tail-last, same tailRecord tt ∙ good .memory .tail-is)
+        (good .memory .head-tail, good .memory .tail-last, same tailRecord refl ∙ good .memory .tail-is)
         (slot-changes z σ σ′ (γ .shape) (good .memory .chain) h (σ (position t)) s (γ .entry) (at (γ .entry) (σ (position t)) put) (γ .content) (γ .content)
         (λ p n. (at-other (γ .entry) (σ (position t)) put p n, refl))
-        (λ y a j n. same (entry y a j) tt ∙ rw (other-entry h i y a n, and-false (eqb 0 j)) refl)
-        (same (entry h i 0) tt ∙ rw (at-same (γ .entry) (σ (position t)) put, eq-eqb h h refl, eq-eqb i i refl) refl)
-        (same (entry h i 1) tt ∙ slot-number z σ γ h (σ (position t)) s (good .agrees))
-        (same (entry h i 2) tt ∙ slot-value z σ γ h (σ (position t)) s (good .agrees))
+        (λ y a j n. same (entry y a j) refl ∙ rw (other-entry h i y a n, and-false (eqb 0 j)) refl)
+        (same (entry h i 0) refl ∙ rw (at-same (γ .entry) (σ (position t)) put, eq-eqb h h refl, eq-eqb i i refl) refl)
+        (same (entry h i 1) refl ∙ slot-number z σ γ h (σ (position t)) s (good .agrees))
+        (same (entry h i 2) refl ∙ slot-value z σ γ h (σ (position t)) s (good .agrees))
         (good .agrees))
-        (seen-as model (sym (same tail tt)) (sym (same headPosition tt)) (sym (same starts tt))
+        (seen-as model (sym (same tail refl)) (sym (same headPosition refl)) (sym (same starts refl))
         (producers-after t σ σ′ (others-kept z t σ ws in-sort) (λ u n. ap (λ (f : ℕ → ℕ). placeOf f (rowOf σ u 4)) places) x seen)
-        (ap₂ consumerFrom (sym places) (fun-ext (λ k. sym (same (consumer k) tt)))))
+        (ap₂ consumerFrom (sym places) (fun-ext (λ k. sym (same (consumer k) refl)))))
         formed
         grown
       where
@@ -218,14 +218,14 @@ module _ (z : Sizes) (σ : Reader) (γ : Ghost) (good : Good z σ γ) (t : ℕ) 
         σ′ : Reader
         σ′ = after σ ws
 
-        same : (d : Cell) → NoProducer d → σ′ d ≡ update σ (state h i := 1) d
-        same = producer-writes t (update σ (state h i := 1)) rest own
+        same : (d : Cell) → Apart (ofProducer t) (areaOf d) → σ′ d ≡ update σ (state h i := 1) d
+        same = own-leaves (ofProducer t) (update σ (state h i := 1)) rest own
 
         places : placesOf σ′ ≡ placesOf σ
-        places = fun-ext (λ y. same (place y) tt)
+        places = fun-ext (λ y. same (place y) refl)
 
         in-sort : All (InSort z t) ws
-        in-sort = (refl, all-map (OfProducer t) (InSort z t) (λ w q. producer-sorted z t a-producer w q .0) rest own)
+        in-sort = (refl, own-in-sort z t (ofProducer t) (of-producer z t a-producer) rest own)
 
     -- to phase 10
     goes-ahead : σ (backed t) ≡ 0 → Goes z σ γ (step t) going (state h i := 1 ∷ phase t := 10 ∷ [])
@@ -252,7 +252,7 @@ module _ (z : Sizes) (σ : Reader) (γ : Ghost) (good : Good z σ γ) (t : ℕ) 
     ends : Goes z σ γ (step t) ended (state h i := 1 ∷ clearProducer t ∷ [])
     unfolding i
     ends =
-        sets (clearProducer t ∷ []) ended idle (enqueueEnded t (σ (call t)) (σ (value t)) ∷ γ .history) (refl, tt)
+        sets (clearProducer t ∷ []) ended idle (enqueueEnded t (σ (call t)) (σ (value t)) ∷ γ .history) ((refl, omega arith), tt)
         (idle-in-range z (γ .shape .lo) σ (rowOf σ′ t) row)
         (idle-thread z (γ .shape .lo) σ (rowOf σ′ t) row)
         (row 5)

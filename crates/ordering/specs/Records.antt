@@ -9,7 +9,8 @@ use Rattle.history.specs.Lists.{All}
 use Rattle.history.specs.Form.{wellFormed}
 use Rattle.history.specs.Linearization.{Item}
 use Rattle.rules.specs.Sizes.{Sizes}
-use Rattle.rules.specs.Cell.{Reader, Write, after, consumer, place, used, cursorRecord, foundRecord}
+use Rattle.rules.specs.Cell.{Reader, Write, consumer, place, used, cursorRecord, foundRecord}
+use Rattle.rules.specs.Update.{after}
 use Rattle.rules.specs.Range.{producerInRange}
 use Rattle.rules.specs.Rule.{Reply}
 use Rattle.rules.specs.Request.{Request}

@@ -9,7 +9,7 @@ use native.Mathlib.Decide.{ℕ-discrete}
 use native.Mathlib.Omega.{arith}
 use lib.Dec.{eqb}
 use borrow.Author.Tests.{eq-eqb, ne-eqb}
-use Rattle.rules.specs.Cell.{Cell, content, consumer, producer, part, entry, Write, _:=_, clearConsumer, clearProducer, wipe}
+use Rattle.rules.specs.Cell.{Cell, content, consumer, producer, part, entry, Area, contents, ofConsumer, ofProducer, ofRecord, Write, _:=_, clear}
 
 -- One number for each record, another for each, and the way back.
 pub record Renaming (N : ℕ) : Type 0 where
@@ -69,11 +69,15 @@ cellTo f (producer t k) = producer t k
 cellTo f (part r k) = part (f r) k
 cellTo f (entry r i k) = entry (f r) i k
 
+abbrev pub areaTo : (ℕ → ℕ) → Area → Area
+areaTo f contents = contents
+areaTo f ofConsumer = ofConsumer
+areaTo f (ofProducer t) = ofProducer t
+areaTo f (ofRecord r) = ofRecord (f r)
+
 abbrev pub writeTo : (ℕ → ℕ) → Write → Write
 writeTo f (c := v) = cellTo f c := seen f c v
-writeTo f clearConsumer = clearConsumer
-writeTo f (clearProducer t) = clearProducer t
-writeTo f (wipe r) = wipe (f r)
+writeTo f (clear a) = clear (areaTo f a)
 
 abbrev pub writesTo : (ℕ → ℕ) → List Write → List Write
 writesTo f [] = []

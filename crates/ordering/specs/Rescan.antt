@@ -67,7 +67,7 @@ module _ (z : Sizes) (σ : Reader) (γ : Ghost) (good : Good z σ γ) (e : σ co
       (λ b. absurd (omega (arith, before-found, eqb-true (z .B * σ (place r)) (σ foundPosition) b)))
       (λ b.
       consumer-goes z σ γ good (cursorRecord := suc n ∷ cursorPosition := z .B * σ (place r) ∷ []) 5 _
-      (omega arith, (omega arith, tt))
+      ((refl, omega arith), ((refl, omega arith), tt))
       e
       (omega arith)
       (linked-most z σ γ good n u, (omega (arith, room), words .1 .1))
@@ -89,7 +89,7 @@ module _ (z : Sizes) (σ : Reader) (γ : Ghost) (good : Good z σ γ) (e : σ co
       (foundRecord := suc r ∷ foundPosition := σ cursorPosition ∷ cursorRecord := 0 ∷ cursorPosition := 0 ∷ consumerPhase := 6 ∷ [])
       6
       _
-      (omega arith, (omega arith, (omega arith, (omega arith, (omega arith, tt)))))
+      ((refl, omega arith), ((refl, omega arith), ((refl, omega arith), ((refl, omega arith), ((refl, omega arith), tt)))))
       refl
       (omega arith)
       (refl, (refl, (linked-most z σ γ good r (linked z σ γ good r q), (words .1 .0, words .1 .1 .1 .1))))
@@ -101,7 +101,7 @@ module _ (z : Sizes) (σ : Reader) (γ : Ghost) (good : Good z σ γ) (e : σ co
       (foundRecord := suc r ∷ foundPosition := σ cursorPosition ∷ cursorRecord := σ headRecord ∷ cursorPosition := σ headPosition ∷ [])
       5
       _
-      (omega arith, (omega arith, (omega arith, (omega arith, tt))))
+      ((refl, omega arith), ((refl, omega arith), ((refl, omega arith), ((refl, omega arith), tt))))
       e
       (omega arith)
       (head-most z σ γ good, (position-most z σ γ good, (linked-most z σ γ good r (linked z σ γ good r q), (words .1 .0, words .1 .1 .1 .1))))
@@ -120,7 +120,7 @@ module _ (z : Sizes) (σ : Reader) (γ : Ghost) (good : Good z σ γ) (e : σ co
       (by-cond (Fine z σ γ (step 0)) (eqb (suc (σ cursorPosition)) (σ foundPosition)) _ _
       (λ b.
       consumer-goes z σ γ good (cursorRecord := 0 ∷ cursorPosition := 0 ∷ consumerPhase := 6 ∷ []) 6 _
-      (omega arith, (omega arith, (omega arith, tt)))
+      ((refl, omega arith), ((refl, omega arith), ((refl, omega arith), tt)))
       refl
       (omega arith)
       (refl, (refl, words .1 .1))
@@ -128,7 +128,7 @@ module _ (z : Sizes) (σ : Reader) (γ : Ghost) (good : Good z σ γ) (e : σ co
       refl
       (rescan-done (z .B) (view σ γ) (good .model) _ _ _ _ seen n p (eqb-true (suc (σ cursorPosition)) (σ foundPosition) b)))
       (λ b.
-      consumer-goes z σ γ good (cursorPosition := suc (σ cursorPosition) ∷ []) 5 _ (omega arith, tt) e (omega arith)
+      consumer-goes z σ γ good (cursorPosition := suc (σ cursorPosition) ∷ []) 5 _ ((refl, omega arith), tt) e (omega arith)
       (words .0, (room, words .1 .1))
       (m .cursor, m .found)
       (stays z σ γ good 5 e (suc (σ cursorPosition)) _ _ _ _)

@@ -8,7 +8,7 @@ use lib.ListN.{getD}
 use borrow.Author.Tests.{le-leb, leb-true, eq-eqb, eqb-true}
 use Rattle.rules.specs.Sizes.{Sizes}
 use Rattle.rules.specs.Range.{Sort, unused, exactly, number, link, record-number, most, any, ofSort, ofSorts, threadInRange}
-use Rattle.rules.specs.Address.{both, and-true}
+use Rattle.rules.specs.Update.{and-true, both}
 
 -- What it is to be of a sort.
 abbrev pub OfSort : Sizes → Sort → ℕ → Type 0

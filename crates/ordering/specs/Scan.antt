@@ -53,7 +53,7 @@ module _ (z : Sizes) (σ : Reader) (γ : Ghost) (good : Good z σ γ) where
         fits
         (λ n is u w.
         consumer-goes z σ γ good (cursorRecord := suc n ∷ cursorPosition := z .B * σ (place r) ∷ []) 3 _
-        (omega arith, (omega arith, tt))
+        ((refl, omega arith), ((refl, omega arith), tt))
         e
         (omega arith)
         (linked-most z σ γ good n u, (fits, cursor-words .1 .1))
@@ -81,7 +81,7 @@ module _ (z : Sizes) (σ : Reader) (γ : Ghost) (good : Good z σ γ) where
       answers-empty z σ γ good (ap dequeues (seen-scanning e))
       (empty-scanned-tail (z .B) (view σ γ) (good .model) _ _ (seen-scanning e) (eqb-true (σ cursorPosition) (σ tail) c)))
       (λ c.
-      consumer-goes z σ γ good (consumerPhase := 4 ∷ []) 4 _ (omega arith, tt) refl (omega arith) (cursor-words e) (m .cursor, m .found) refl
+      consumer-goes z σ γ good (consumerPhase := 4 ∷ []) 4 _ ((refl, omega arith), tt) refl (omega arith) (cursor-words e) (m .cursor, m .found) refl
       (scan-look (z .B) (view σ γ) (good .model) _ _ (seen-scanning e)
       (λ x. eqb-false (σ cursorPosition) (z .B * σ (place r)) b (x ∙ ap (λ (y : ℕ). z .B * y) (placed z σ γ good r q)))
       (eqb-false (σ cursorPosition) (σ tail) c)))))
@@ -125,7 +125,7 @@ module _ (z : Sizes) (σ : Reader) (γ : Ghost) (good : Good z σ γ) where
       finds : (r : ℕ) → σ cursorRecord ≡ suc r → γ .entry (σ cursorPosition) ≡ put → Fine z σ γ (step 0) (goes (found r))
       finds r q p =
           consumer-goes z σ γ good (found r) 5 _
-          (omega arith, (omega arith, (omega arith, (omega arith, (omega arith, tt)))))
+          ((refl, omega arith), ((refl, omega arith), ((refl, omega arith), ((refl, omega arith), ((refl, omega arith), tt)))))
           refl
           (omega arith)
           (head-most z σ γ good, (position-most z σ γ good, (linked-most z σ γ good r (linked z σ γ good r q), (words .1 .0, words .1 .1 .1 .1))))
@@ -138,7 +138,7 @@ module _ (z : Sizes) (σ : Reader) (γ : Ghost) (good : Good z σ γ) where
           let room : suc (σ cursorPosition) ≤ z .M = omega (arith, looking-below-tail (z .B) (view σ γ) (good .model) _ _ seen, tail-fits z σ γ good) in
           by-up-to (Fine z σ γ (step 0)) (z .M) (suc (σ cursorPosition)) _ room
           (consumer-goes z σ γ good (cursorPosition := suc (σ cursorPosition) ∷ consumerPhase := 3 ∷ []) 3 _
-          (omega arith, (omega arith, tt))
+          ((refl, omega arith), ((refl, omega arith), tt))
           refl
           (omega arith)
           (words .0, (room, words .1 .1))

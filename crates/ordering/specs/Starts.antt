@@ -11,7 +11,8 @@ use Rattle.history.specs.Lists.{All}
 use Rattle.history.specs.Event.{enqueueStarted, dequeueStarted}
 use Rattle.criterion.specs.Growth.{enqueue-may-start, dequeue-may-start}
 use Rattle.rules.specs.Sizes.{Sizes}
-use Rattle.rules.specs.Cell.{Reader, Write, _:=_, after, starts, consumer, consumerPhase, phase, call, value}
+use Rattle.rules.specs.Cell.{Reader, Write, _:=_, starts, consumer, consumerPhase, phase, call, value}
+use Rattle.rules.specs.Update.{after}
 use Rattle.rules.specs.Range.{number, idleSorts, producerSorts, consumerSorts}
 use Rattle.rules.specs.Rule.{ok, started}
 use Rattle.rules.specs.Request.{startEnqueue, startDequeue, startingEnqueue, startingDequeue}
@@ -111,7 +112,7 @@ module _ (z : Sizes) (σ : Reader) (γ : Ghost) (good : Good z σ γ) where
       (λ b. ((λ q. omega arith), (λ q. omega arith)))
       (λ b.
       let e : σ consumerPhase ≡ 0 = eqb-true (σ consumerPhase) 0 (not-false (eqb (σ consumerPhase) 0) b) in
-      consumer-own z σ γ good startDequeue ok (consumerPhase := 1 ∷ []) State.front (dequeueStarted ∷ γ .history) (omega arith, tt)
+      consumer-own z σ γ good startDequeue ok (consumerPhase := 1 ∷ []) State.front (dequeueStarted ∷ γ .history) ((refl, omega arith), tt)
       (row-of z 7 consumerSorts (λ k. after σ (consumerPhase := 1 ∷ []) (consumer k)) 1 refl (omega arith) (consumer-words z σ γ good 0 e))
       (good .memory .cursor, good .memory .found)
       refl

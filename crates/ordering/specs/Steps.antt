@@ -14,7 +14,8 @@ use Rattle.history.specs.Event.{History}
 use Rattle.history.specs.Form.{wellFormed}
 use Rattle.history.specs.Linearization.{Item}
 use Rattle.rules.specs.Sizes.{Sizes}
-use Rattle.rules.specs.Cell.{Reader, Write, after, producer, tailRecord, headRecord, cursorRecord, foundRecord, phase, call, value, position, held}
+use Rattle.rules.specs.Cell.{Reader, Write, producer, tailRecord, headRecord, cursorRecord, foundRecord, phase, call, value, position, held}
+use Rattle.rules.specs.Update.{after}
 use Rattle.rules.specs.Range.{producerSorts, producerInRange}
 use Rattle.rules.specs.Rule.{Reply}
 use Rattle.rules.specs.Request.{step}

@@ -11,7 +11,8 @@ use Rattle.history.specs.Form.{wellFormed}
 use Rattle.history.specs.Linearization.{Item}
 use Rattle.criterion.specs.Growth.{dequeue-may-give}
 use Rattle.rules.specs.Sizes.{Sizes}
-use Rattle.rules.specs.Cell.{Reader, update, _:=_, clearConsumer, after, headPosition, consumer, consumerPhase, foundRecord, foundPosition, itemNumber, itemValue, place, used, state, entryNumber, entryValue, entry}
+use Rattle.rules.specs.Cell.{Reader, _:=_, clearConsumer, headPosition, consumer, consumerPhase, foundRecord, foundPosition, itemNumber, itemValue, place, used, state, entryNumber, entryValue, entry}
+use Rattle.rules.specs.Update.{after, update}
 use Rattle.rules.specs.Range.{number, foundSorts}
 use Rattle.rules.specs.Rule.{goes, item, reply, upTo, index}
 use Rattle.rules.specs.Consumer.{readItem, markHandled}
@@ -55,7 +56,7 @@ module _ (z : Sizes) (σ : Reader) (γ : Ghost) (good : Good z σ γ) where
       (itemNumber := σ (entryNumber r (index z σ r (σ foundPosition))) ∷ itemValue := σ (entryValue r (index z σ r (σ foundPosition))) ∷ consumerPhase := 7 ∷ [])
       7
       _
-      (omega arith, (omega arith, (omega arith, tt)))
+      ((refl, omega arith), ((refl, omega arith), ((refl, omega arith), tt)))
       refl
       (omega arith) (
         words .0,
@@ -110,7 +111,7 @@ module _ (z : Sizes) (σ : Reader) (γ : Ghost) (good : Good z σ γ) where
         (good .agrees)
 
     light : (y : ℕ) → (σ (used y) ≡ 2 → ⊥) → (a k : ℕ) → update σ (state r i := 2) (entry y a k) ≡ σ (entry y a k)
-    light y n a k = rw (other-record σ r (s .linked) y n, and-false (eqb 0 k)) refl
+    light y n a k = rw (other-record σ r (s .linked) y n, and-false (eqb i a), and-false (eqb 0 k)) refl
 
     formed : wellFormed (gaveItem (σ itemNumber) (σ itemValue) ∷ γ .history) ≡ true
     formed = dequeue-may-give (γ .history) (good .formed) (σ itemNumber) (σ itemValue) (good .model .calls .of-consumer ∙ ap dequeues seen)

@@ -10,7 +10,8 @@ use lib.ListN.{getD}
 use borrow.Author.Tests.{eq-eqb, eqb-true, eqb-false}
 use Rattle.history.specs.Lists.{All}
 use Rattle.rules.specs.Sizes.{Sizes}
-use Rattle.rules.specs.Cell.{Reader, Write, _:=_, after, producer, place, next, used, tailRecord, phase, call, value, position, held, claimed, backed, prev}
+use Rattle.rules.specs.Cell.{Reader, Write, _:=_, producer, place, next, used, tailRecord, phase, call, value, position, held, claimed, backed, prev, ofProducer}
+use Rattle.rules.specs.Update.{after, Own, own-leaves}
 use Rattle.rules.specs.InRange.{InSort}
 use Rattle.rules.specs.Range.{link, record-number, producerSorts, placedSorts}
 use Rattle.rules.specs.Rule.{going, need, goes}
@@ -28,7 +29,7 @@ use Rattle.ordering.specs.View.{Ghost, placesOf, placeOf, producerAt, pr
 use Rattle.ordering.specs.Good.{Good, Goes, Fine, by-need, by-cond}
 use Rattle.ordering.specs.Rows.{OfSorts, of-sort, has-sort, row-of}
 use Rattle.ordering.specs.Steps.{as-seen, producers-after, goes-on-same, unclaimed, own-words, seen-at, producer-goes}
-use Rattle.ordering.specs.Own.{OfProducer, producer-writes, producer-own}
+use Rattle.ordering.specs.Own.{producer-own}
 
 module _ (z : Sizes) (σ : Reader) (γ : Ghost) (good : Good z σ γ) (t : ℕ) (a-producer : (1 ≤ t) × (t ≤ z .P)) where
   self : eqb t t ≡ true
@@ -49,7 +50,7 @@ module _ (z : Sizes) (σ : Reader) (γ : Ghost) (good : Good z σ γ) (t : ℕ) 
   -- A step in such a phase p that goes on to such a phase p′.
   walks : (p p′ x f : ℕ) (ws : List Write) (y : Producer) → σ (phase t) ≡ p
       → getD producerSorts p [] ≡ placedSorts → getD producerSorts p′ [] ≡ placedSorts → p′ ≤ 9 → (p′ ≡ 5 → ⊥)
-      → All (OfProducer t) ws → Row (after σ ws) p′ x f
+      → All (Own (ofProducer t)) ws → Row (after σ ws) p′ x f
       → x ≤ z .N → f ≤ 1 → Held (γ .shape .lo) σ x → (3 ≤ p′ → x ≢ 0)
       → producerAt p′ (σ (call t)) (σ (value t)) (σ (position t)) (placeOf (placesOf σ) x) ≡ y
       → Invariant (z .B) (withProducer (view σ γ) t y)
@@ -81,7 +82,7 @@ module _ (z : Sizes) (σ : Reader) (γ : Ghost) (good : Good z σ γ) (t : ℕ) 
       shows : producersOf σ′ t ≡ producerAt p′ (σ (call t)) (σ (value t)) (σ (position t)) (placeOf (placesOf σ) x)
       shows =
           λ i. producerAt (row .0 i) (row .1 i) (row .2 i) (row .3 i)
-          (placeOf (λ r. producer-writes t σ ws own (place r) tt i) (row .4 i))
+          (placeOf (λ r. own-leaves (ofProducer t) σ ws own (place r) refl i) (row .4 i))
 
   -- the producer's place before the step
   k : ℕ
@@ -145,7 +146,7 @@ module _ (z : Sizes) (σ : Reader) (γ : Ghost) (good : Good z σ γ) (t : ℕ) 
   chosen-phase false false = (refl, omega arith, λ x. omega arith)
 
   -- a step that holds the record x and chooses
-  chooses : (p x f : ℕ) (ws : List Write) → σ (phase t) ≡ p → getD producerSorts p [] ≡ placedSorts → All (OfProducer t) ws
+  chooses : (p x f : ℕ) (ws : List Write) → σ (phase t) ≡ p → getD producerSorts p [] ≡ placedSorts → All (Own (ofProducer t)) ws
       → Row (after σ ws) (choose z σ t x) (suc x) f → suc x ≤ z .N → f ≤ 1 → Holdable (γ .shape .lo) σ x → (j : ℕ) → σ (place x) ≡ j
       → Invariant (z .B) (withProducer (view σ γ) t (chosen (z .B) (σ (call t)) (σ (value t)) (σ (position t)) j))
       → Goes z σ γ (step t) going ws

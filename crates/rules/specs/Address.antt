@@ -1,111 +1,147 @@
--- Where cells are: a cell that is there has an address inside the store, and no other cell has it.
-use mathlib.Core.Path.{_≡_, refl, ap, sym}
-use mathlib.Core.Bool.{Bool, true, false, _&&_}
-use Prim.Native.Nat.{ℕ, _+_, _*_, _≤_, _<_}
-use native.Mathlib.Nat.{mul-le-mul-right, lt-of-not-le}
-use native.Mathlib.Decide.{decLe}
+-- Where cells are: a cell that is there has an address inside its area and the store, and an address has one cell.
+use mathlib.Core.Path.{_≡_, refl, ap, ap₂, sym, _∙_}
+use mathlib.Core.Bool.{Bool, true, false, _&&_, cond}
+use Prim.Native.Nat.{ℕ, suc, _+_, _-_, _*_, _/_, _%_, _≤_, _<_}
+use native.Mathlib.Nat.{mul-le-mul-right}
 use native.Mathlib.Omega.{arith}
+use lib.Arith.{digits-div, digits-mod}
 use lib.Dec.{leb, ltb}
-use borrow.Author.Tests.{lt-ltb, ltb-true, le-leb, leb-true, eq-eqb}
-use Rattle.rules.specs.Sizes.{Sizes, recordWords, storeWords}
-use Rattle.rules.specs.Cell.{Cell, content, consumer, producer, part, entry, address, there, same}
-
--- both sides of a conjunction of tests
-pub both : (a b : Bool) → (a && b) ≡ true → (a ≡ true) × (b ≡ true)
-both true b e = (refl, e)
-both false b e = let z : _≡_ {A = ℕ} 0 1 = cc in absurd (omega arith)
-
-pub and-true : {a b : Bool} → a ≡ true → b ≡ true → (a && b) ≡ true
-and-true {a} {b} p q = rw (p, q) refl
+use borrow.Author.Tests.{lt-ltb, le-ltb, ltb-true, le-leb, leb-true}
+use Rattle.rules.specs.Sizes.{Sizes, contentWords, threadWords, recordWords, firstRecord, storeWords}
+use Rattle.rules.specs.Cell.{Cell, content, consumer, producer, part, entry, address, there, Area, contents, ofConsumer, ofProducer, ofRecord, areaStart, areaWords}
+use Rattle.rules.specs.Update.{areaOf, both, and-true}
 
 -- A store of these sizes has the cell.
 abbrev pub There : Sizes → Cell → Type 0
-There z (content k) = k < 16
-There z (consumer k) = k < 8
-There z (producer t k) = (1 ≤ t) × (t ≤ z .P) × (k < 8)
+There z (content k) = k < contentWords
+There z (consumer k) = k < threadWords
+There z (producer t k) = (1 ≤ t) × (t ≤ z .P) × (k < threadWords)
 There z (part r k) = (r < z .N) × (k < 4)
 There z (entry r i k) = (r < z .N) × (i < z .B) × (k < 3)
 
 pub there-is : (z : Sizes) (c : Cell) → There z c → there z c ≡ true
-there-is z (content k) h = lt-ltb k 16 h
-there-is z (consumer k) h = lt-ltb k 8 h
-there-is z (producer t k) h = and-true (and-true (le-leb 1 t (h .0)) (le-leb t (z .P) (h .1))) (lt-ltb k 8 (h .2))
+there-is z (content k) h = lt-ltb k contentWords h
+there-is z (consumer k) h = lt-ltb k threadWords h
+there-is z (producer t k) h = and-true (and-true (le-leb 1 t (h .0)) (le-leb t (z .P) (h .1))) (lt-ltb k threadWords (h .2))
 there-is z (part r k) h = and-true (lt-ltb r (z .N) (h .0)) (lt-ltb k 4 (h .1))
 there-is z (entry r i k) h = and-true (and-true (lt-ltb r (z .N) (h .0)) (lt-ltb i (z .B) (h .1))) (lt-ltb k 3 (h .2))
 
 pub there-has : (z : Sizes) (c : Cell) → there z c ≡ true → There z c
-there-has z (content k) e = ltb-true k 16 e
-there-has z (consumer k) e = ltb-true k 8 e
+there-has z (content k) e = ltb-true k contentWords e
+there-has z (consumer k) e = ltb-true k threadWords e
 there-has z (producer t k) e =
-    let p = both (leb 1 t && leb t (z .P)) (ltb k 8) e in
+    let p = both (leb 1 t && leb t (z .P)) (ltb k threadWords) e in
     let q = both (leb 1 t) (leb t (z .P)) (p .0) in
-    (leb-true 1 t (q .0), leb-true t (z .P) (q .1), ltb-true k 8 (p .1))
+    (leb-true 1 t (q .0), leb-true t (z .P) (q .1), ltb-true k threadWords (p .1))
 there-has z (part r k) e = let p = both (ltb r (z .N)) (ltb k 4) e in (ltb-true r (z .N) (p .0), ltb-true k 4 (p .1))
 there-has z (entry r i k) e =
     let p = both (ltb r (z .N) && ltb i (z .B)) (ltb k 3) e in
     let q = both (ltb r (z .N)) (ltb i (z .B)) (p .0) in
     (ltb-true r (z .N) (q .0), ltb-true i (z .B) (q .1), ltb-true k 3 (p .1))
 
--- rows of W words do not overlap
-rows-apart : (W r s a b : ℕ) → a < W → r < s → r * W + a ≡ s * W + b → ⊥
-rows-apart W r s a b h l e = omega (arith, mul-le-mul-right W l)
+-- A store of these sizes has the area.
+abbrev pub AreaThere : Sizes → Area → Type 0
+AreaThere z contents = Unit
+AreaThere z ofConsumer = Unit
+AreaThere z (ofProducer t) = (1 ≤ t) × (t ≤ z .P)
+AreaThere z (ofRecord r) = r < z .N
 
-pub same-row : (W r s a b : ℕ) → a < W → b < W → r * W + a ≡ s * W + b → r ≡ s
-same-row W r s a b ha hb e = go (decLe r s) (decLe s r)
-  where
-    go : Dec (r ≤ s) → Dec (s ≤ r) → r ≡ s
-    go (yes p) (yes q) = omega arith
-    go (yes p) (no q) = absurd (rows-apart W r s a b ha (lt-of-not-le q) e)
-    go (no p) q = absurd (rows-apart W s r b a hb (lt-of-not-le p) (sym e))
+pub area-there : (z : Sizes) (c : Cell) → There z c → AreaThere z (areaOf c)
+area-there z (content k) h = tt
+area-there z (consumer k) h = tt
+area-there z (producer t k) h = (h .0, h .1)
+area-there z (part r k) h = h .0
+area-there z (entry r i k) h = h .0
 
--- a record's words are inside the store
-row-below : (W N r a : ℕ) → a < W → r < N → r * W + a < N * W
-row-below W N r a ha hr = omega (arith, mul-le-mul-right W hr)
+-- A cell is in its area, and an area in the store.
+pub address-in : (z : Sizes) (c : Cell) → There z c
+    → (areaStart z (areaOf c) ≤ address z c) × (address z c < areaStart z (areaOf c) + areaWords z (areaOf c))
+address-in z (content k) h = omega arith
+address-in z (consumer k) h = omega arith
+address-in z (producer t k) h = omega arith
+address-in z (part r k) h = omega arith
+address-in z (entry r i k) h = omega arith
+
+pub area-below : (z : Sizes) (a : Area) → AreaThere z a → areaStart z a + areaWords z a ≤ storeWords z
+area-below z contents h = omega arith
+area-below z ofConsumer h = omega arith
+area-below z (ofProducer t) h = omega arith
+area-below z (ofRecord r) h = omega (arith, mul-le-mul-right (recordWords z) h)
 
 pub address-below : (z : Sizes) (c : Cell) → There z c → address z c < storeWords z
-address-below z (content k) h = omega arith
-address-below z (consumer k) h = omega arith
-address-below z (producer t k) h = omega arith
-address-below z (part r k) h =
-    let b : r * recordWords z + k < z .N * recordWords z = row-below (recordWords z) (z .N) r k (omega arith) (h .0) in
-    omega arith
-address-below z (entry r i k) h =
-    let b : r * recordWords z + (4 + 3 * i + k) < z .N * recordWords z = row-below (recordWords z) (z .N) r (4 + 3 * i + k) (omega arith) (h .0) in
-    omega arith
+address-below z c h = omega (arith, address-in z c h, area-below z (areaOf c) (area-there z c h))
 
--- Address injectivity: two cells at one address are the same.
-pub address-apart : (z : Sizes) (c d : Cell) → There z c → There z d → address z c ≡ address z d → same c d ≡ true
-address-apart z (content k) (content l) h g e = eq-eqb k l e
-address-apart z (content k) (consumer l) h g e = absurd (omega arith)
-address-apart z (content k) (producer u l) h g e = absurd (omega arith)
-address-apart z (content k) (part s l) h g e = absurd (omega arith)
-address-apart z (content k) (entry s j l) h g e = absurd (omega arith)
-address-apart z (consumer k) (content l) h g e = absurd (omega arith)
-address-apart z (consumer k) (consumer l) h g e = eq-eqb k l (omega arith)
-address-apart z (consumer k) (producer u l) h g e = absurd (omega arith)
-address-apart z (consumer k) (part s l) h g e = absurd (omega arith)
-address-apart z (consumer k) (entry s j l) h g e = absurd (omega arith)
-address-apart z (producer t k) (content l) h g e = absurd (omega arith)
-address-apart z (producer t k) (consumer l) h g e = absurd (omega arith)
-address-apart z (producer t k) (producer u l) h g e = and-true (eq-eqb k l (omega arith)) (eq-eqb t u (omega arith))
-address-apart z (producer t k) (part s l) h g e = absurd (omega arith)
-address-apart z (producer t k) (entry s j l) h g e = absurd (omega arith)
-address-apart z (part r k) (content l) h g e = absurd (omega arith)
-address-apart z (part r k) (consumer l) h g e = absurd (omega arith)
-address-apart z (part r k) (producer u l) h g e = absurd (omega arith)
-address-apart z (part r k) (part s l) h g e =
-    let p : r ≡ s = same-row (recordWords z) r s k l (omega arith) (omega arith) (omega arith) in
-    and-true (eq-eqb k l (omega (arith, ap (λ (x : ℕ). x * recordWords z) p))) (eq-eqb r s p)
-address-apart z (part r k) (entry s j l) h g e =
-    let p : r ≡ s = same-row (recordWords z) r s k (4 + 3 * j + l) (omega arith) (omega arith) (omega arith) in
-    absurd (omega (arith, ap (λ (x : ℕ). x * recordWords z) p))
-address-apart z (entry r i k) (content l) h g e = absurd (omega arith)
-address-apart z (entry r i k) (consumer l) h g e = absurd (omega arith)
-address-apart z (entry r i k) (producer u l) h g e = absurd (omega arith)
-address-apart z (entry r i k) (part s l) h g e =
-    let p : r ≡ s = same-row (recordWords z) r s (4 + 3 * i + k) l (omega arith) (omega arith) (omega arith) in
-    absurd (omega (arith, ap (λ (x : ℕ). x * recordWords z) p))
-address-apart z (entry r i k) (entry s j l) h g e =
-    let p : r ≡ s = same-row (recordWords z) r s (4 + 3 * i + k) (4 + 3 * j + l) (omega arith) (omega arith) (omega arith) in
-    let q : 3 * i + k ≡ 3 * j + l = omega (arith, ap (λ (x : ℕ). x * recordWords z) p) in
-    and-true (eq-eqb k l (omega arith)) (and-true (eq-eqb r s p) (eq-eqb i j (omega arith)))
+-- The cell at an address: the areas follow one another.
+inRecord : (r offset : ℕ) → Cell
+inRecord r o = cond (ltb o 4) (part r o) (entry r ((o - 4) / 3) ((o - 4) % 3))
+
+cellAt : Sizes → ℕ → Cell
+cellAt z n =
+    cond (ltb n contentWords) (content n)
+    (cond (ltb n (contentWords + threadWords)) (consumer (n - contentWords))
+    (cond (ltb n (firstRecord z)) (producer ((n - contentWords) / threadWords) ((n - contentWords) % threadWords))
+    (inRecord ((n - firstRecord z) / recordWords z) ((n - firstRecord z) % recordWords z))))
+
+module _ (z : Sizes) where
+  -- the cell k words into an area
+  at-content : (k : ℕ) → k < contentWords → cellAt z k ≡ content k
+  unfolding cellAt
+  at-content k h = rw (lt-ltb k contentWords h)
+
+  at-consumer : (k : ℕ) → k < threadWords → cellAt z (contentWords + k) ≡ consumer k
+  unfolding cellAt
+  at-consumer k h =
+      rw (le-ltb (contentWords + k) contentWords (omega arith), lt-ltb (contentWords + k) (contentWords + threadWords) (omega arith))
+      (ap consumer (omega arith))
+
+  at-producer : (t k : ℕ) → 1 ≤ t → t ≤ z .P → k < threadWords → cellAt z (contentWords + threadWords * t + k) ≡ producer t k
+  unfolding cellAt
+  at-producer t k l b h =
+      let n : ℕ = contentWords + threadWords * t + k in
+      let e : n - contentWords ≡ t * threadWords + k = omega arith in
+      rw (le-ltb n contentWords (omega arith), le-ltb n (contentWords + threadWords) (omega arith), lt-ltb n (firstRecord z) (omega arith))
+      (ap₂ producer (ap (λ (x : ℕ). x / threadWords) e ∙ digits-div t h) (ap (λ (x : ℕ). x % threadWords) e ∙ digits-mod t h))
+
+  at-record : (r o : ℕ) → o < recordWords z → cellAt z (firstRecord z + r * recordWords z + o) ≡ inRecord r o
+  unfolding cellAt
+  at-record r o h =
+      let n : ℕ = firstRecord z + r * recordWords z + o in
+      let e : n - firstRecord z ≡ r * recordWords z + o = omega arith in
+      rw (le-ltb n contentWords (omega arith), le-ltb n (contentWords + threadWords) (omega arith), le-ltb n (firstRecord z) (omega arith))
+      (ap₂ inRecord (ap (λ (x : ℕ). x / recordWords z) e ∙ digits-div r h) (ap (λ (x : ℕ). x % recordWords z) e ∙ digits-mod r h))
+
+  -- Every cell that is there is the cell at its address.
+  cell-at : (c : Cell) → There z c → cellAt z (address z c) ≡ c
+  unfolding inRecord
+  cell-at (content k) h = at-content k h
+  cell-at (consumer k) h = at-consumer k h
+  cell-at (producer t k) h = at-producer t k (h .0) (h .1) (h .2)
+  cell-at (part r k) h = at-record r k (omega arith) ∙ rw (lt-ltb k 4 (h .1)) refl
+  cell-at (entry r i k) h =
+      let e : 4 + 3 * i + k - 4 ≡ i * 3 + k = omega arith in
+      at-record r (4 + 3 * i + k) (omega arith)
+      ∙ rw (le-ltb (4 + 3 * i + k) 4 (omega arith))
+      (ap₂ (entry r) (ap (λ (x : ℕ). x / 3) e ∙ digits-div i (h .2)) (ap (λ (x : ℕ). x % 3) e ∙ digits-mod i (h .2)))
+
+  -- Address injectivity: two cells at one address are the same.
+  pub address-apart : (c d : Cell) → There z c → There z d → address z c ≡ address z d → c ≡ d
+  address-apart c d h g e = sym (cell-at c h) ∙ ap (cellAt z) e ∙ cell-at d g
+
+  in-record-area : (r o : ℕ) (b : Bool) → areaOf (cond b (part r o) (entry r ((o - 4) / 3) ((o - 4) % 3))) ≡ ofRecord r
+  in-record-area r o true = refl
+  in-record-area r o false = refl
+
+  -- Every address in an area is that of one of its cells.
+  area-at : (a : Area) → AreaThere z a → (o : ℕ) → o < areaWords z a → areaOf (cellAt z (areaStart z a + o)) ≡ a
+  unfolding inRecord
+  area-at contents h o l = ap (λ (x : ℕ). areaOf (cellAt z x)) (omega arith) ∙ ap areaOf (at-content o l)
+  area-at ofConsumer h o l = ap areaOf (at-consumer o l)
+  area-at (ofProducer t) h o l = ap areaOf (at-producer t o (h .0) (h .1) l)
+  area-at (ofRecord r) h o l = ap areaOf (at-record r o l) ∙ in-record-area r o (ltb o 4)
+
+  -- A cell whose address is in an area belongs to it.
+  pub in-area : (a : Area) (c : Cell) → AreaThere z a → There z c → areaStart z a ≤ address z c → address z c < areaStart z a + areaWords z a → a ≡ areaOf c
+  in-area a c ha hc l b =
+      sym (area-at a ha (address z c - areaStart z a) (omega arith))
+      ∙ ap (λ (x : ℕ). areaOf (cellAt z x)) (omega arith)
+      ∙ ap areaOf (cell-at c hc)

@@ -1,11 +1,11 @@
 -- The words of a store under their names, how they are read off the lent words, and writes (document 01, "Store").
-use mathlib.Core.Bool.{Bool, true, false, _&&_, cond}
+use mathlib.Core.Bool.{Bool, _&&_, cond}
 use mathlib.Core.List.{List, [], _∷_}
 use Prim.Native.Nat.{ℕ, _+_, _*_}
-use lib.Dec.{leb, ltb, eqb}
+use lib.Dec.{leb, ltb}
 use lib.ListN.{getD, set, replicate}
 use lib.Seq.{sets}
-use Rattle.rules.specs.Sizes.{Sizes, recordWords, firstRecord}
+use Rattle.rules.specs.Sizes.{Sizes, contentWords, threadWords, recordWords, firstRecord}
 
 -- A cell is a word with a name: a word of the contents, of the consumer (thread 0), of a producer (threads 1 to P), of a record
 -- before its entries, of an entry.
@@ -102,16 +102,16 @@ entryValue r i = entry r i 2
 -- Where a cell is.
 abbrev pub address : Sizes → Cell → ℕ
 address z (content k) = k
-address z (consumer k) = 16 + k
-address z (producer t k) = 16 + 8 * t + k
+address z (consumer k) = contentWords + k
+address z (producer t k) = contentWords + threadWords * t + k
 address z (part r k) = firstRecord z + r * recordWords z + k
 address z (entry r i k) = firstRecord z + r * recordWords z + (4 + 3 * i + k)
 
 -- Whether a store of these sizes has the cell.
 abbrev pub there : Sizes → Cell → Bool
-there z (content k) = ltb k 16
-there z (consumer k) = ltb k 8
-there z (producer t k) = leb 1 t && leb t (z .P) && ltb k 8
+there z (content k) = ltb k contentWords
+there z (consumer k) = ltb k threadWords
+there z (producer t k) = leb 1 t && leb t (z .P) && ltb k threadWords
 there z (part r k) = ltb r (z .N) && ltb k 4
 there z (entry r i k) = ltb r (z .N) && ltb i (z .B) && ltb k 3
 
@@ -123,82 +123,47 @@ Reader = Cell → ℕ
 unfoldable pub reader : Sizes → List ℕ → Reader
 reader z m c = cond (there z c) (getD m (address z c) 0) 0
 
--- A write: a value into a cell, zero into the eight words of a thread, zero into every word of
--- a record.
+-- The words that belong together: the contents, the consumer's, a producer's, a record's.
+pub data Area : Type 0 where
+  contents : Area
+  ofConsumer : Area
+  ofProducer : (t : ℕ) → Area
+  ofRecord : (r : ℕ) → Area
+
+-- its first word, and how many it has
+abbrev pub areaStart : Sizes → Area → ℕ
+areaStart z contents = 0
+areaStart z ofConsumer = contentWords
+areaStart z (ofProducer t) = contentWords + threadWords * t
+areaStart z (ofRecord r) = firstRecord z + r * recordWords z
+
+abbrev pub areaWords : Sizes → Area → ℕ
+areaWords z contents = contentWords
+areaWords z ofConsumer = threadWords
+areaWords z (ofProducer t) = threadWords
+areaWords z (ofRecord r) = recordWords z
+
+-- A write: a value into a cell, or zero into every word of an area.
 infix 68 _:=_
 pub data Write : Type 0 where
   _:=_ : Cell → ℕ → Write
-  clearConsumer : Write
-  clearProducer : (t : ℕ) → Write
-  wipe : (r : ℕ) → Write
+  clear : Area → Write
+
+-- Zero into the eight words of a thread, zero into every word of a record.
+abbrev pub clearConsumer : Write
+clearConsumer = clear ofConsumer
+
+abbrev pub clearProducer : ℕ → Write
+clearProducer t = clear (ofProducer t)
+
+abbrev pub wipe : ℕ → Write
+wipe r = clear (ofRecord r)
 
 -- A write, and a list of them in order, on the lent words.
 abbrev pub write : Sizes → List ℕ → Write → List ℕ
 write z m (c := v) = set m (address z c) v
-write z m clearConsumer = sets m 16 (replicate 8 0)
-write z m (clearProducer t) = sets m (16 + 8 * t) (replicate 8 0)
-write z m (wipe r) = sets m (firstRecord z + r * recordWords z) (replicate (recordWords z) 0)
+write z m (clear a) = sets m (areaStart z a) (replicate (areaWords z a) 0)
 
 unfoldable pub writes : Sizes → List ℕ → List Write → List ℕ
 writes z m [] = m
 writes z m (w ∷ ws) = writes z (write z m w) ws
-
--- Whether two cells are the same; fields are compared first.
-abbrev pub same : Cell → Cell → Bool
-same (content k) (content l) = eqb k l
-same (content k) (consumer l) = false
-same (content k) (producer u l) = false
-same (content k) (part s l) = false
-same (content k) (entry s j l) = false
-same (consumer k) (content l) = false
-same (consumer k) (consumer l) = eqb k l
-same (consumer k) (producer u l) = false
-same (consumer k) (part s l) = false
-same (consumer k) (entry s j l) = false
-same (producer t k) (content l) = false
-same (producer t k) (consumer l) = false
-same (producer t k) (producer u l) = eqb k l && eqb t u
-same (producer t k) (part s l) = false
-same (producer t k) (entry s j l) = false
-same (part r k) (content l) = false
-same (part r k) (consumer l) = false
-same (part r k) (producer u l) = false
-same (part r k) (part s l) = eqb k l && eqb r s
-same (part r k) (entry s j l) = false
-same (entry r i k) (content l) = false
-same (entry r i k) (consumer l) = false
-same (entry r i k) (producer u l) = false
-same (entry r i k) (part s l) = false
-same (entry r i k) (entry s j l) = eqb k l && (eqb r s && eqb i j)
-
-abbrev pub ofConsumer : Cell → Bool
-ofConsumer (content k) = false
-ofConsumer (consumer k) = true
-ofConsumer (producer t k) = false
-ofConsumer (part r k) = false
-ofConsumer (entry r i k) = false
-
-abbrev pub ofProducer : ℕ → Cell → Bool
-ofProducer t (content k) = false
-ofProducer t (consumer k) = false
-ofProducer t (producer u k) = eqb t u
-ofProducer t (part r k) = false
-ofProducer t (entry r i k) = false
-
-abbrev pub ofRecord : ℕ → Cell → Bool
-ofRecord r (content k) = false
-ofRecord r (consumer k) = false
-ofRecord r (producer t k) = false
-ofRecord r (part s k) = eqb r s
-ofRecord r (entry s i k) = eqb r s
-
--- The same on a reader.
-abbrev pub update : Reader → Write → Reader
-update σ (c := v) d = cond (same c d) v (σ d)
-update σ clearConsumer d = cond (ofConsumer d) 0 (σ d)
-update σ (clearProducer t) d = cond (ofProducer t d) 0 (σ d)
-update σ (wipe r) d = cond (ofRecord r d) 0 (σ d)
-
-abbrev pub after : Reader → List Write → Reader
-after σ [] = σ
-after σ (w ∷ ws) = after (update σ w) ws

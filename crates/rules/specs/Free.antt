@@ -11,9 +11,13 @@ use Rattle.rules.specs.Range.{every}
 abbrev pub holds : Reader → (t r : ℕ) → Bool
 holds σ t r = eqb (σ (held t)) (suc r) || eqb (σ (claimed t)) (suc r)
 
--- Free: its use is 0, or its use is 3 and no producer holds it. (Producers are threads 1 to P.)
+-- Let go: its use is 3 and no producer holds it. (Producers are threads 1 to P.)
+abbrev pub letGo : Sizes → Reader → ℕ → Bool
+letGo z σ r = eqb (σ (used r)) 3 && every (z .P) (λ t. not (holds σ (suc t) r))
+
+-- Free: its use is 0, or its use is 3 and no producer holds it.
 unfoldable pub free : Sizes → Reader → ℕ → Bool
-free z σ r = eqb (σ (used r)) 0 || eqb (σ (used r)) 3 && every (z .P) (λ t. not (holds σ (suc t) r))
+free z σ r = eqb (σ (used r)) 0 || letGo z σ r
 
 -- Which free record is claimed is left open. A choice is a record number plus one, or zero for none; it is right when it is a
 -- free record, and none only if none is free.

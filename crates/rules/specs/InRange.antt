@@ -1,20 +1,19 @@
 -- Ranges word by word, and their law: writes in range keep the store in range.
-use mathlib.Core.Path.{_≡_, refl, ap, sym, _∙_, subst, fun-ext}
-use mathlib.Core.Bool.{Bool, true, false, _&&_, cond, and-false}
+use mathlib.Core.Path.{_≡_, refl, ap, sym, _∙_, subst, subst⁻¹, fun-ext}
+use mathlib.Core.Bool.{Bool, true, false, _&&_, cond}
 use mathlib.Core.List.{List, [], _∷_}
 use Prim.Native.Nat.{ℕ, zero, suc, _+_, _≤_, _<_}
 use native.Mathlib.Nat.{zero-add}
 use native.Mathlib.Decide.{decLt, ℕ-discrete}
 use native.Mathlib.Omega.{arith}
-use lib.Dec.{eqb}
 use lib.ListN.{length, getD}
-use borrow.Author.Tests.{le-leb, ne-eqb}
+use borrow.Author.Tests.{le-leb}
 use Rattle.history.specs.Lists.{All}
 use Rattle.rules.specs.Sizes.{Sizes}
-use Rattle.rules.specs.Cell.{Cell, content, consumer, producer, part, entry, Reader, Write, _:=_, clearConsumer, clearProducer, wipe, same, update, after}
-use Rattle.rules.specs.Range.{Sort, any, ofSort, contentSorts, partSorts, entrySorts, consumerSorts, producerSorts, ofSorts, every, threadInRange, consumerInRange, producerInRange, recordInRange, inRange}
-use Rattle.rules.specs.Address.{both, and-true, There}
-use Rattle.rules.specs.Readback.{same-eq}
+use Rattle.rules.specs.Cell.{Cell, content, consumer, producer, part, entry, Reader, Area, contents, ofConsumer, ofProducer, ofRecord, Write, _:=_, clear}
+use Rattle.rules.specs.Range.{Sort, any, ofSort, contentSorts, partSorts, entrySorts, consumerSorts, producerSorts, lastConsumerPhase, lastProducerPhase, ofSorts, every, threadInRange, consumerInRange, producerInRange, recordInRange, threadsInRange, recordsInRange, inRange}
+use Rattle.rules.specs.Update.{areaOf, touches, written, update, after, areaTouched, same-eq, same-area-eq, other-area, both, and-true}
+use Rattle.rules.specs.Address.{There}
 
 -- a test that passes everywhere below n
 pub every-at : (n : ℕ) (p : ℕ → Bool) → every n p ≡ true → (k : ℕ) → k < n → p k ≡ true
@@ -126,9 +125,17 @@ InSort z t (consumer k := v) = t ≡ 0
 InSort z t (producer u k := v) = t ≡ u
 InSort z t (part r k := v) = ofSort z (sortOf z (part r k)) v ≡ true
 InSort z t (entry r i k := v) = ofSort z (sortOf z (entry r i k)) v ≡ true
-InSort z t clearConsumer = t ≡ 0
-InSort z t (clearProducer u) = t ≡ u
-InSort z t (wipe r) = Unit
+InSort z t (clear contents) = ⊥
+InSort z t (clear ofConsumer) = t ≡ 0
+InSort z t (clear (ofProducer u)) = t ≡ u
+InSort z t (clear (ofRecord r)) = Unit
+
+-- The words of a thread but t.
+abbrev pub OtherThread : ℕ → Area → Type 0
+OtherThread t contents = ⊥
+OtherThread t ofConsumer = t ≡ 0 → ⊥
+OtherThread t (ofProducer u) = t ≡ u → ⊥
+OtherThread t (ofRecord r) = ⊥
 
 -- zero is of every sort that a record's words have
 zero-part : (z : Sizes) (k : ℕ) → ofSort z (getD partSorts k any) 0 ≡ true
@@ -149,81 +156,52 @@ module _ (z : Sizes) (t : ℕ) where
   abbrev Words : Reader → Type 0
   Words σ = (c : Cell) → There z c → ofSort z (sortOf z c) (σ c) ≡ true
 
-  put-in-sort : (σ : Reader) (c : Cell) (v : ℕ) → ofSort z (sortOf z c) v ≡ true → Words σ → Words (update σ (c := v))
-  put-in-sort σ c v hv w d h = go (same c d) refl
-    where
-      go : (b : Bool) → same c d ≡ b → ofSort z (sortOf z d) (cond b v (σ d)) ≡ true
-      go true e = subst (λ (x : Cell). ofSort z (sortOf z x) v ≡ true) (same-eq c d e) hv
-      go false e = w d h
+  put-in-sort : (c : Cell) (v : ℕ) → InSort z t (c := v) → ofSort z (sortOf z c) v ≡ true
+  put-in-sort (content k) v h = h
+  put-in-sort (consumer k) v h = refl
+  put-in-sort (producer u k) v h = refl
+  put-in-sort (part r k) v h = h
+  put-in-sort (entry r i k) v h = h
 
-  cond-in-sort : (s : Sort) (b : Bool) (x : ℕ) → ofSort z s 0 ≡ true → ofSort z s x ≡ true → ofSort z s (cond b 0 x) ≡ true
-  cond-in-sort s true x p q = p
-  cond-in-sort s false x p q = q
+  zero-in-sort : (a : Area) → InSort z t (clear a) → (d : Cell) → a ≡ areaOf d → ofSort z (sortOf z d) 0 ≡ true
+  zero-in-sort a h (content k) e = absurd (subst (λ (b : Area). InSort z t (clear b)) e h)
+  zero-in-sort a h (consumer k) e = refl
+  zero-in-sort a h (producer u k) e = refl
+  zero-in-sort a h (part r k) e = zero-part z k
+  zero-in-sort a h (entry r i k) e = zero-entry z k
 
-  clear-consumer-in-sort : (σ : Reader) → Words σ → Words (update σ clearConsumer)
-  clear-consumer-in-sort σ i (content k) g = i (content k) g
-  clear-consumer-in-sort σ i (consumer k) g = refl
-  clear-consumer-in-sort σ i (producer v k) g = refl
-  clear-consumer-in-sort σ i (part r k) g = i (part r k) g
-  clear-consumer-in-sort σ i (entry r e k) g = i (entry r e k) g
-
-  clear-producer-in-sort : (σ : Reader) (u : ℕ) → Words σ → Words (update σ (clearProducer u))
-  clear-producer-in-sort σ u i (content k) g = i (content k) g
-  clear-producer-in-sort σ u i (consumer k) g = refl
-  clear-producer-in-sort σ u i (producer v k) g = refl
-  clear-producer-in-sort σ u i (part r k) g = i (part r k) g
-  clear-producer-in-sort σ u i (entry r e k) g = i (entry r e k) g
-
-  wipe-in-sort : (σ : Reader) (r : ℕ) → Words σ → Words (update σ (wipe r))
-  wipe-in-sort σ r i (content k) g = i (content k) g
-  wipe-in-sort σ r i (consumer k) g = refl
-  wipe-in-sort σ r i (producer v k) g = refl
-  wipe-in-sort σ r i (part s k) g = cond-in-sort (getD partSorts k any) (eqb r s) (σ (part s k)) (zero-part z k) (i (part s k) g)
-  wipe-in-sort σ r i (entry s e k) g =
-      cond-in-sort (getD entrySorts k any) (eqb r s) (σ (entry s e k)) (zero-entry z k) (i (entry s e k) g)
+  written-in-sort : (w : Write) → InSort z t w → (d : Cell) → touches w d ≡ true → ofSort z (sortOf z d) (written w) ≡ true
+  written-in-sort (c := v) h d e = subst (λ (x : Cell). ofSort z (sortOf z x) v ≡ true) (same-eq c d e) (put-in-sort c v h)
+  written-in-sort (clear a) h d e = zero-in-sort a h d (same-area-eq a (areaOf d) e)
 
   write-in-sort : (σ : Reader) (w : Write) → InSort z t w → Words σ → Words (update σ w)
-  write-in-sort σ (content k := v) h i = put-in-sort σ (content k) v h i
-  write-in-sort σ (consumer k := v) h i = put-in-sort σ (consumer k) v refl i
-  write-in-sort σ (producer u k := v) h i = put-in-sort σ (producer u k) v refl i
-  write-in-sort σ (part r k := v) h i = put-in-sort σ (part r k) v h i
-  write-in-sort σ (entry r e k := v) h i = put-in-sort σ (entry r e k) v h i
-  write-in-sort σ clearConsumer h i = clear-consumer-in-sort σ i
-  write-in-sort σ (clearProducer u) h i = clear-producer-in-sort σ u i
-  write-in-sort σ (wipe r) h i = wipe-in-sort σ r i
+  write-in-sort σ w h i d g = go (touches w d) refl
+    where
+      go : (b : Bool) → touches w d ≡ b → ofSort z (sortOf z d) (cond b (written w) (σ d)) ≡ true
+      go true e = written-in-sort w h d e
+      go false e = i d g
 
   writes-in-sort : (σ : Reader) (ws : List Write) → All (InSort z t) ws → Words σ → Words (after σ ws)
   writes-in-sort σ [] h i = i
   writes-in-sort σ (w ∷ ws) h i = writes-in-sort (update σ w) ws (h .1) (write-in-sort σ w (h .0) i)
 
   -- no other thread's words are written
-  consumer-kept : (σ : Reader) (w : Write) → InSort z t w → (t ≡ 0 → ⊥) → (k : ℕ) → update σ w (consumer k) ≡ σ (consumer k)
-  consumer-kept σ (content l := v) h n k = refl
-  consumer-kept σ (consumer l := v) h n k = absurd (n h)
-  consumer-kept σ (producer x l := v) h n k = refl
-  consumer-kept σ (part r l := v) h n k = refl
-  consumer-kept σ (entry r e l := v) h n k = refl
-  consumer-kept σ clearConsumer h n k = absurd (n h)
-  consumer-kept σ (clearProducer x) h n k = refl
-  consumer-kept σ (wipe r) h n k = refl
+  writes-own : (w : Write) → InSort z t w → OtherThread t (areaTouched w) → ⊥
+  writes-own (content k := v) h o = o
+  writes-own (consumer k := v) h o = o h
+  writes-own (producer u k := v) h o = o h
+  writes-own (part r k := v) h o = o
+  writes-own (entry r i k := v) h o = o
+  writes-own (clear contents) h o = o
+  writes-own (clear ofConsumer) h o = o h
+  writes-own (clear (ofProducer u)) h o = o h
+  writes-own (clear (ofRecord r)) h o = o
 
-  producer-kept : (σ : Reader) (w : Write) → InSort z t w → (u : ℕ) → (t ≡ u → ⊥) → (k : ℕ) → update σ w (producer u k) ≡ σ (producer u k)
-  producer-kept σ (content l := v) h u n k = refl
-  producer-kept σ (consumer l := v) h u n k = refl
-  producer-kept σ (producer x l := v) h u n k = rw (ne-eqb x u (λ e. n (h ∙ e)), and-false (eqb l k)) refl
-  producer-kept σ (part r l := v) h u n k = refl
-  producer-kept σ (entry r e l := v) h u n k = refl
-  producer-kept σ clearConsumer h u n k = refl
-  producer-kept σ (clearProducer x) h u n k = rw (ne-eqb x u (λ e. n (h ∙ e))) refl
-  producer-kept σ (wipe r) h u n k = refl
-
-  pub consumer-untouched : (σ : Reader) (ws : List Write) → All (InSort z t) ws → (t ≡ 0 → ⊥) → (k : ℕ) → after σ ws (consumer k) ≡ σ (consumer k)
-  consumer-untouched σ [] h n k = refl
-  consumer-untouched σ (w ∷ ws) h n k = consumer-untouched (update σ w) ws (h .1) n k ∙ consumer-kept σ w (h .0) n k
-
-  pub producer-untouched : (σ : Reader) (ws : List Write) → All (InSort z t) ws → (u : ℕ) → (t ≡ u → ⊥) → (k : ℕ) → after σ ws (producer u k) ≡ σ (producer u k)
-  producer-untouched σ [] h u n k = refl
-  producer-untouched σ (w ∷ ws) h u n k = producer-untouched (update σ w) ws (h .1) u n k ∙ producer-kept σ w (h .0) u n k
+  pub others-untouched : (σ : Reader) (ws : List Write) → All (InSort z t) ws → (d : Cell) → OtherThread t (areaOf d) → after σ ws d ≡ σ d
+  others-untouched σ [] h d o = refl
+  others-untouched σ (w ∷ ws) h d o =
+      others-untouched (update σ w) ws (h .1) d o
+      ∙ other-area σ w d (λ e. writes-own w (h .0) (subst⁻¹ (OtherThread t) e o))
 
   -- Writes in range keep the store in range: those of a call of thread t, if its words are then in range for its phase.
   pub writes-keep-range : (σ : Reader) (ws : List Write) → All (InSort z t) ws → InRange z σ
@@ -233,9 +211,9 @@ module _ (z : Sizes) (t : ℕ) where
     where
       of-consumer : Dec (t ≡ 0) → consumerInRange z (after σ ws) ≡ true
       of-consumer (yes e) = as-consumer e
-      of-consumer (no n) = ap (threadInRange z 7 consumerSorts) (fun-ext (consumer-untouched σ ws h n)) ∙ i .consuming
+      of-consumer (no n) = ap (threadInRange z lastConsumerPhase consumerSorts) (fun-ext (λ k. others-untouched σ ws h (consumer k) n)) ∙ i .consuming
 
       of-producer : {u : ℕ} → Dec (t ≡ u) → 1 ≤ u → u ≤ z .P → producerInRange z (after σ ws) u ≡ true
       of-producer {u} (yes e) l g = subst (λ (x : ℕ). producerInRange z (after σ ws) x ≡ true) e (as-producer (omega arith))
       of-producer {u} (no n) l g =
-          ap (threadInRange z 11 producerSorts) (fun-ext (λ k. producer-untouched σ ws h u n k)) ∙ i .producing u l g
+          ap (threadInRange z lastProducerPhase producerSorts) (fun-ext (λ k. others-untouched σ ws h (producer u k) n)) ∙ i .producing u l g

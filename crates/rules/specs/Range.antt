@@ -4,7 +4,7 @@ use mathlib.Core.List.{List, [], _∷_}
 use Prim.Native.Nat.{ℕ, zero, suc}
 use lib.Dec.{leb, eqb}
 use lib.ListN.{getD}
-use Rattle.rules.specs.Sizes.{Sizes, between, mostPlace, firstRecord}
+use Rattle.rules.specs.Sizes.{Sizes, between, mostPlace, contentWords, firstRecord}
 use Rattle.rules.specs.Cell.{Reader, content, consumer, producer, part, entry}
 
 -- What a word may hold: zero alone (a spare word, or one not in use); one number; a position, call number or count, 0 to M; a
@@ -35,7 +35,7 @@ contentSorts z =
     ∷ exactly (z .N)
     ∷ exactly (z .P)
     ∷ exactly (z .M)
-    ∷ exactly 16
+    ∷ exactly contentWords
     ∷ exactly (firstRecord z)
     ∷ number
     ∷ record-number
@@ -78,6 +78,9 @@ abbrev pub linkingAheadSorts : List Sort
 linkingAheadSorts = number ∷ any ∷ number ∷ link ∷ link ∷ unused ∷ unused ∷ []
 
 -- phases 0 to 11
+abbrev pub lastProducerPhase : ℕ
+lastProducerPhase = 11
+
 abbrev pub producerSorts : List (List Sort)
 producerSorts =
     idleSorts
@@ -108,6 +111,9 @@ abbrev pub itemSorts : List Sort
 itemSorts = unused ∷ unused ∷ link ∷ number ∷ number ∷ any ∷ unused ∷ []
 
 -- phases 0 to 7
+abbrev pub lastConsumerPhase : ℕ
+lastConsumerPhase = 7
+
 abbrev pub consumerSorts : List (List Sort)
 consumerSorts =
     idleSorts ∷ idleSorts ∷ idleSorts ∷ cursorSorts ∷ cursorSorts ∷ rescanSorts ∷ foundSorts ∷ itemSorts ∷ []
@@ -126,21 +132,23 @@ every (suc n) p = every n p && p n
 abbrev pub threadInRange : Sizes → (last : ℕ) → List (List Sort) → (ℕ → ℕ) → Bool
 threadInRange z last sorts row = leb (row 0) last && ofSorts z row 1 (getD sorts (row 0) [])
 
--- Phase 0 to 7 for the consumer, 0 to 11 for a producer.
 abbrev pub consumerInRange : Sizes → Reader → Bool
-consumerInRange z σ = threadInRange z 7 consumerSorts (λ k. σ (consumer k))
+consumerInRange z σ = threadInRange z lastConsumerPhase consumerSorts (λ k. σ (consumer k))
 
 abbrev pub producerInRange : Sizes → Reader → ℕ → Bool
-producerInRange z σ t = threadInRange z 11 producerSorts (λ k. σ (producer t k))
+producerInRange z σ t = threadInRange z lastProducerPhase producerSorts (λ k. σ (producer t k))
 
 abbrev pub recordInRange : Sizes → Reader → ℕ → Bool
 recordInRange z σ r =
     ofSorts z (λ k. σ (part r k)) 0 partSorts && every (z .B) (λ i. ofSorts z (λ k. σ (entry r i k)) 0 entrySorts)
 
--- Every word is in its range.
+-- Every word is in its range: those of the contents and threads, and those of the records.
+abbrev pub threadsInRange : Sizes → Reader → Bool
+threadsInRange z σ =
+    ofSorts z (λ k. σ (content k)) 0 (contentSorts z) && consumerInRange z σ && every (z .P) (λ p. producerInRange z σ (suc p))
+
+abbrev pub recordsInRange : Sizes → Reader → Bool
+recordsInRange z σ = every (z .N) (recordInRange z σ)
+
 unfoldable pub inRange : Sizes → Reader → Bool
-inRange z σ =
-    ofSorts z (λ k. σ (content k)) 0 (contentSorts z)
-    && consumerInRange z σ
-    && every (z .P) (λ p. producerInRange z σ (suc p))
-    && every (z .N) (recordInRange z σ)
+inRange z σ = threadsInRange z σ && recordsInRange z σ

@@ -13,22 +13,45 @@ pub record Sizes : Type 0 where
 abbrev pub between : (low high x : ℕ) → Bool
 between low high x = leb low x && leb x high
 
--- B 2 to 64, N 2 to 64, P 1 to 16, M 1 to 1,000,000.
+-- The limits: B 2 to 64, N 2 to 64, P 1 to 16, M 1 to 1,000,000.
+abbrev pub mostEntries : ℕ
+mostEntries = 64
+
+abbrev pub mostRecords : ℕ
+mostRecords = 64
+
+abbrev pub mostProducers : ℕ
+mostProducers = 16
+
+abbrev pub mostStarts : ℕ
+mostStarts = 1000000
+
 abbrev pub sizesInRange : Sizes → Bool
-sizesInRange z = between 2 64 (z .B) && between 2 64 (z .N) && between 1 16 (z .P) && between 1 1000000 (z .M)
+sizesInRange z =
+    between 2 mostEntries (z .B) && between 2 mostRecords (z .N) && between 1 mostProducers (z .P) && between 1 mostStarts (z .M)
 
 -- The largest place that a record may have.
 abbrev pub mostPlace : ℕ
 mostPlace = 500002
 
--- the words of a record: place, next, prev and use, and three for each entry
+-- the words of the contents, of a thread, and of a record: place, next, prev and use, and three for each entry
+abbrev pub contentWords : ℕ
+contentWords = 16
+
+abbrev pub threadWords : ℕ
+threadWords = 8
+
 abbrev pub recordWords : Sizes → ℕ
 recordWords z = 3 * z .B + 4
 
--- the first word of the records, after the contents and eight words for each thread
+-- the first word of the records, after the contents and the threads, P producers and the consumer
 abbrev pub firstRecord : Sizes → ℕ
-firstRecord z = 16 + 8 * suc (z .P)
+firstRecord z = contentWords + threadWords * suc (z .P)
 
 -- The store takes 16 + 8 × (P + 1) + N × (3 × B + 4) words.
 abbrev pub storeWords : Sizes → ℕ
 storeWords z = firstRecord z + z .N * recordWords z
+
+-- The most words that a store takes.
+abbrev pub mostWords : ℕ
+mostWords = storeWords (record { B = mostEntries; N = mostRecords; P = mostProducers; M = mostStarts })

@@ -15,7 +15,7 @@ use Rattle.criterion.specs.Explained.{Explained}
 use Rattle.criterion.specs.Criterion.{criterion}
 use Rattle.rules.specs.Sizes.{Sizes, between, sizesInRange, storeWords}
 use Rattle.rules.specs.Cell.{Reader, reader, starts, phase}
-use Rattle.rules.specs.Address.{both}
+use Rattle.rules.specs.Update.{both}
 use Rattle.rules.specs.Range.{inRange}
 use Rattle.rules.specs.Free.{Picker, lowestFree}
 use Rattle.rules.specs.Pick.{lowest-free-picks}

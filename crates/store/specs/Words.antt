@@ -11,8 +11,9 @@ use lib.Seq.{sets}
 use borrow.Author.Tests.{leb-true, eqb-true}
 use Rattle.rules.specs.Sizes.{Sizes, recordWords, firstRecord}
 use Rattle.rules.specs.Cell.{Cell, content, consumer, producer, part, entry, address, reader}
+use Rattle.rules.specs.Update.{both}
 use Rattle.rules.specs.Range.{Sort, unused, exactly, number, link, record-number, most, any, ofSort, ofSorts, threadInRange, consumerSorts, producerSorts, contentSorts}
-use Rattle.rules.specs.Address.{both, There, there-is, address-below}
+use Rattle.rules.specs.Address.{There, there-is, address-below}
 use Rattle.rules.specs.InRange.{sorts-at, sortOf}
 use Rattle.store.specs.Caps.{cap, capOf, mostWord, producerCaps, consumerCaps, contentCaps}
 use Rattle.store.specs.Store.{Room, Admitted, Reads}

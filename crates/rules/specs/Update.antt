@@ -1,0 +1,181 @@
+-- What writes make of the cells: which cells a write touches, and that it leaves every other one alone. A cell is told from another
+-- by its kind first, then by its field: so different fields are told apart by computing.
+use mathlib.Core.Path.{_≡_, refl, ap, ap₂, sym, _∙_}
+use mathlib.Core.Bool.{Bool, true, false, _&&_, cond}
+use mathlib.Core.List.{List, [], _∷_}
+use Prim.Native.Nat.{ℕ, _<_}
+use native.Mathlib.Omega.{arith}
+use lib.Dec.{eqb}
+use lib.ListN.{getD}
+use borrow.Author.Tests.{eq-eqb, eqb-true}
+use Rattle.history.specs.Lists.{All}
+use Rattle.rules.specs.Sizes.{threadWords}
+use Rattle.rules.specs.Cell.{Cell, content, consumer, producer, part, entry, Reader, Area, contents, ofConsumer, ofProducer, ofRecord, Write, _:=_, clear}
+
+-- The area of a cell.
+abbrev pub areaOf : Cell → Area
+areaOf (content k) = contents
+areaOf (consumer k) = ofConsumer
+areaOf (producer t k) = ofProducer t
+areaOf (part r k) = ofRecord r
+areaOf (entry r i k) = ofRecord r
+
+-- An area by its kind, and by its number among those of its kind.
+abbrev pub areaKind : Area → ℕ
+areaKind contents = 0
+areaKind ofConsumer = 1
+areaKind (ofProducer t) = 2
+areaKind (ofRecord r) = 3
+
+abbrev pub areaNumber : Area → ℕ
+areaNumber contents = 0
+areaNumber ofConsumer = 0
+areaNumber (ofProducer t) = t
+areaNumber (ofRecord r) = r
+
+abbrev pub sameArea : Area → Area → Bool
+sameArea a b = eqb (areaKind a) (areaKind b) && eqb (areaNumber a) (areaNumber b)
+
+-- A cell by its kind, its field, the entry that it belongs to, and its area's number.
+abbrev pub kind : Cell → ℕ
+kind (content k) = 0
+kind (consumer k) = 1
+kind (producer t k) = 2
+kind (part r k) = 3
+kind (entry r i k) = 4
+
+abbrev pub field : Cell → ℕ
+field (content k) = k
+field (consumer k) = k
+field (producer t k) = k
+field (part r k) = k
+field (entry r i k) = k
+
+abbrev pub slot : Cell → ℕ
+slot (content k) = 0
+slot (consumer k) = 0
+slot (producer t k) = 0
+slot (part r k) = 0
+slot (entry r i k) = i
+
+abbrev pub same : Cell → Cell → Bool
+same c d = eqb (kind c) (kind d) && (eqb (field c) (field d) && (eqb (slot c) (slot d) && eqb (areaNumber (areaOf c)) (areaNumber (areaOf d))))
+
+-- Whether a write touches a cell, and what it leaves there.
+abbrev pub touches : Write → Cell → Bool
+touches (c := v) d = same c d
+touches (clear a) d = sameArea a (areaOf d)
+
+abbrev pub written : Write → ℕ
+written (c := v) = v
+written (clear a) = 0
+
+-- A write, and a list of them in order, on a reader.
+abbrev pub update : Reader → Write → Reader
+update σ w d = cond (touches w d) (written w) (σ d)
+
+abbrev pub after : Reader → List Write → Reader
+after σ [] = σ
+after σ (w ∷ ws) = after (update σ w) ws
+
+-- both sides of a conjunction of tests
+pub both : (a b : Bool) → (a && b) ≡ true → (a ≡ true) × (b ≡ true)
+both true b e = (refl, e)
+both false b e = let z : _≡_ {A = ℕ} 0 1 = cc in absurd (omega arith)
+
+pub and-true : {a b : Bool} → a ≡ true → b ≡ true → (a && b) ≡ true
+and-true {a} {b} p q = rw (p, q) refl
+
+-- no test is both true and false
+pub true-false : {b : Bool} → b ≡ true → b ≡ false → ⊥
+true-false p q = let z : _≡_ {A = ℕ} 0 1 = cc in omega arith
+
+-- an area and a cell are known by their numbers
+areaFrom : (kind number : ℕ) → Area
+areaFrom k n = getD (contents ∷ ofConsumer ∷ ofProducer n ∷ ofRecord n ∷ []) k contents
+
+area-from : (a : Area) → areaFrom (areaKind a) (areaNumber a) ≡ a
+unfolding areaFrom
+area-from contents = refl
+area-from ofConsumer = refl
+area-from (ofProducer t) = refl
+area-from (ofRecord r) = refl
+
+cellFrom : (kind field slot number : ℕ) → Cell
+cellFrom x k i n = getD (content k ∷ consumer k ∷ producer n k ∷ part n k ∷ entry n i k ∷ []) x (content k)
+
+cell-from : (c : Cell) → cellFrom (kind c) (field c) (slot c) (areaNumber (areaOf c)) ≡ c
+unfolding cellFrom
+cell-from (content k) = refl
+cell-from (consumer k) = refl
+cell-from (producer t k) = refl
+cell-from (part r k) = refl
+cell-from (entry r i k) = refl
+
+pub same-area-eq : (a b : Area) → sameArea a b ≡ true → a ≡ b
+same-area-eq a b e =
+    let p = both (eqb (areaKind a) (areaKind b)) (eqb (areaNumber a) (areaNumber b)) e in
+    sym (area-from a) ∙ ap₂ areaFrom (eqb-true (areaKind a) (areaKind b) (p .0)) (eqb-true (areaNumber a) (areaNumber b) (p .1)) ∙ area-from b
+
+pub same-area : (a : Area) → sameArea a a ≡ true
+same-area a = and-true (eq-eqb (areaKind a) (areaKind a) refl) (eq-eqb (areaNumber a) (areaNumber a) refl)
+
+pub same-eq : (c d : Cell) → same c d ≡ true → c ≡ d
+same-eq c d e =
+    let n : Cell → ℕ = λ x. areaNumber (areaOf x) in
+    let p = both (eqb (kind c) (kind d)) (eqb (field c) (field d) && (eqb (slot c) (slot d) && eqb (n c) (n d))) e in
+    let q = both (eqb (field c) (field d)) (eqb (slot c) (slot d) && eqb (n c) (n d)) (p .1) in
+    let r = both (eqb (slot c) (slot d)) (eqb (n c) (n d)) (q .1) in
+    let a = eqb-true (kind c) (kind d) (p .0) in
+    let b = eqb-true (field c) (field d) (q .0) in
+    let i = eqb-true (slot c) (slot d) (r .0) in
+    let k = eqb-true (n c) (n d) (r .1) in
+    sym (cell-from c) ∙ (λ x. cellFrom (a x) (b x) (i x) (k x)) ∙ cell-from d
+
+pub same-cell : (c : Cell) → same c c ≡ true
+same-cell c =
+    and-true (eq-eqb (kind c) (kind c) refl)
+    (and-true (eq-eqb (field c) (field c) refl)
+    (and-true (eq-eqb (slot c) (slot c) refl) (eq-eqb (areaNumber (areaOf c)) (areaNumber (areaOf c)) refl)))
+
+-- The frame law: a write leaves a cell that it does not touch.
+pub untouched : (σ : Reader) (w : Write) (d : Cell) → touches w d ≡ false → update σ w d ≡ σ d
+untouched σ w d e = rw e
+
+-- the area that a write touches
+abbrev pub areaTouched : Write → Area
+areaTouched (c := v) = areaOf c
+areaTouched (clear a) = a
+
+pub touches-area : (w : Write) (d : Cell) → touches w d ≡ true → areaTouched w ≡ areaOf d
+touches-area (c := v) d e = ap areaOf (same-eq c d e)
+touches-area (clear a) d e = same-area-eq a (areaOf d) e
+
+-- Writes of other areas leave the cell.
+pub other-area : (σ : Reader) (w : Write) (d : Cell) → (areaTouched w ≡ areaOf d → ⊥) → update σ w d ≡ σ d
+other-area σ w d n = go (touches w d) refl
+  where
+    go : (b : Bool) → touches w d ≡ b → cond b (written w) (σ d) ≡ σ d
+    go true e = absurd (n (touches-area w d e))
+    go false e = refl
+
+-- Areas of two kinds.
+abbrev pub Apart : Area → Area → Type 0
+Apart a b = eqb (areaKind a) (areaKind b) ≡ false
+
+pub kinds-apart : (a b : Area) → Apart a b → a ≡ b → ⊥
+kinds-apart a b n e = true-false (eq-eqb (areaKind a) (areaKind b) (ap areaKind e)) n
+
+-- A write of one of the words of a thread's area.
+abbrev pub fieldTouched : Write → ℕ
+fieldTouched (c := v) = field c
+fieldTouched (clear a) = 0
+
+abbrev pub Own : Area → Write → Type 0
+Own a w = (areaTouched w ≡ a) × (fieldTouched w < threadWords)
+
+-- Writes of an area's words leave the cells of areas of other kinds.
+pub own-leaves : (a : Area) (σ : Reader) (ws : List Write) → All (Own a) ws → (d : Cell) → Apart a (areaOf d) → after σ ws d ≡ σ d
+own-leaves a σ [] h d n = refl
+own-leaves a σ (w ∷ ws) h d n =
+    own-leaves a (update σ w) ws (h .1) d n ∙ other-area σ w d (λ e. kinds-apart a (areaOf d) n (sym (h .0 .0) ∙ e))
