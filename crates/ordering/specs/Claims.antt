@@ -4,6 +4,7 @@ use mathlib.Core.Logic.{⊎-elim, _≢_}
 use mathlib.Core.Bool.{true}
 use mathlib.Core.List.{List, [], _∷_}
 use Prim.Native.Nat.{ℕ, zero, suc, _≤_, _<_}
+use native.Mathlib.Decide.{ℕ-discrete}
 use native.Mathlib.Omega.{arith}
 use lib.Dec.{eqb}
 use lib.ListN.{getD}
@@ -18,7 +19,7 @@ use Rattle.rules.specs.Free.{free, Choice}
 use Rattle.rules.specs.Rule.{going, ended}
 use Rattle.rules.specs.Producer.{claimRecord, claimAhead}
 use Rattle.rules.specs.Request.{step}
-use Rattle.rules.specs.InRange.{InSort}
+use Rattle.rules.specs.InRange.{InSort, others-untouched}
 use Rattle.model.specs.State.{idle, callOf}
 use Rattle.model.specs.Enqueues.{finish-keeps}
 use Rattle.memory.specs.Memory.{rowOf, Memory}
@@ -56,6 +57,7 @@ module _ (z : Sizes) (σ : Reader) (γ : Ghost) (good : Good z σ γ) (t : ℕ) 
       (sym (consumer-same σ σ′ r (λ k. refl) places (loose .not-linked) (m .cursor) (m .found))))
       (good .formed)
       refl
+      (record { others = others-untouched z t σ ws in-sort; tail-grows = omega arith; shifts-on = omega arith; last-grows = omega arith; had-place = λ y l b. old-place y l (ℕ-discrete y r) })
     where
       m : Memory z σ (γ .shape)
       m = good .memory
@@ -74,6 +76,11 @@ module _ (z : Sizes) (σ : Reader) (γ : Ghost) (good : Good z σ γ) (t : ℕ) 
 
       places : (y : ℕ) → (y ≡ r → ⊥) → σ′ (place y) ≡ σ (place y)
       places y n = rw (ne-eqb r y (λ q. n (sym q))) refl
+
+      -- the claimed record has no place
+      old-place : (y : ℕ) → 1 ≤ σ′ (place y) → Dec (y ≡ r) → σ (place y) ≡ σ′ (place y)
+      old-place y l (yes q) = let none : σ′ (place y) ≡ 0 = rw (eq-eqb r y (sym q)) refl in absurd (omega arith)
+      old-place y l (no n) = sym (places y n)
 
       k : ℕ
       k = placeOf (placesOf σ) (σ (held t))

@@ -28,7 +28,7 @@ use Rattle.model.specs.Moves.{withConsumer, answerEmpty}
 use Rattle.memory.specs.Memory.{rowOf, Linked}
 use Rattle.memory.specs.Light.{Light, consumer-keeps}
 use Rattle.ordering.specs.View.{Ghost, placesOf, placeOf, consumerAt, consumerOf, view, codeOf, AgreesWith}
-use Rattle.ordering.specs.Good.{Good, Goes, Fine, by-need, by-up-to}
+use Rattle.ordering.specs.Good.{Good, Goes, Fine, places-stay, by-need, by-up-to}
 use Rattle.ordering.specs.Rows.{OfSorts, has-sort, row-has, row-of}
 use Rattle.ordering.specs.Own.{consumer-own}
 
@@ -118,7 +118,7 @@ module _ (z : Sizes) (σ : Reader) (γ : Ghost) (good : Good z σ γ) where
   -- The dequeue answers empty.
   pub answers-empty : dequeues (view σ γ .consumer) ≡ true → Invariant (z .B) (answerEmpty (view σ γ)) → Fine z σ γ (step 0) endsEmpty
   answers-empty busy model =
-      consumer-own z σ γ good (step 0) empty (clearConsumer ∷ []) resting (gaveEmpty ∷ γ .history) ((refl, omega arith), tt)
+      consumer-own z σ γ good (step 0) refl empty (clearConsumer ∷ []) resting (gaveEmpty ∷ γ .history) ((refl, omega arith), tt)
       (resting-in-range (after σ (clearConsumer ∷ [])) (λ k. refl))
       (tt, tt)
       refl
@@ -134,7 +134,7 @@ module _ (z : Sizes) (σ : Reader) (γ : Ghost) (good : Good z σ γ) where
       → Invariant (z .B) (withConsumer (view σ γ) x)
       → Goes z σ γ (step 0) going ws
   consumer-goes ws p x own phase l row linked seen model =
-      consumer-own z σ γ good (step 0) going ws x (γ .history) own (row-of z 7 consumerSorts (λ k. after σ ws (consumer k)) p phase l row) linked seen model
+      consumer-own z σ γ good (step 0) refl going ws x (γ .history) own (row-of z 7 consumerSorts (λ k. after σ ws (consumer k)) p phase l row) linked seen model
       (good .formed)
       refl
 
@@ -152,8 +152,9 @@ module _ (z : Sizes) (σ : Reader) (γ : Ghost) (good : Good z σ γ) where
       → Invariant (z .B) (view (after σ ws) γ′)
       → wellFormed h ≡ true
       → h ≡ replyEvents (step 0) (γ .history) r ++ γ .history
+      → σ tail ≤ after σ ws tail
       → Goes z σ γ (step 0) r ws
-  consumer-light r ws entries h in-sort there light rows ends in-row linked agrees model formed grown =
+  consumer-light r ws entries h in-sort there light rows ends in-row linked agrees model formed grown grows =
       record {
         there = there;
         next = record { shape = γ .shape; entry = entries; owner = γ .owner; content = γ .content; history = h };
@@ -167,4 +168,5 @@ module _ (z : Sizes) (σ : Reader) (γ : Ghost) (good : Good z σ γ) where
               formed = formed;
             };
         grown = grown;
+        moved = places-stay z 0 σ (γ .shape) (γ .shape) ws in-sort (λ x. light .parts x 0) grows (omega arith) (omega arith);
       }

@@ -6,13 +6,14 @@ use Prim.Native.Nat.{ℕ, zero, suc, _+_, _*_, _≤_, _<_}
 use native.Mathlib.Omega.{arith}
 use lib.Dec.{eqb}
 use borrow.Author.Tests.{eqb-true, eqb-false}
+use Rattle.history.specs.Lists.{All}
 use Rattle.rules.specs.Sizes.{Sizes}
 use Rattle.rules.specs.Cell.{Reader, Write, _:=_, tail, tailRecord, headRecord, headPosition, consumer, consumerPhase, cursorRecord, cursorPosition, foundRecord, foundPosition, place, next, used, state}
 use Rattle.rules.specs.Range.{number, record-number, idleSorts}
 use Rattle.rules.specs.Rule.{Answer, going, goes, upTo, atEnd, index, inside, cross}
 use Rattle.rules.specs.Consumer.{byState, front, readTail}
 use Rattle.rules.specs.Request.{step}
-use Rattle.rules.specs.InRange.{writes-keep-range}
+use Rattle.rules.specs.InRange.{InSort, others-untouched, writes-keep-range}
 use Rattle.model.specs.State.{gone, State}
 use Rattle.model.specs.State
 use Rattle.model.specs.Invariant.{Inside, dequeues}
@@ -97,7 +98,8 @@ module _ (z : Sizes) (σ : Reader) (γ : Ghost) (good : Good z σ γ) where
         (good .agrees)
         (advance-head (z .B) (view σ γ) (good .model) seen-front n g)
         (good .formed)
-        refl)
+        refl
+        (omega arith))
 
     reads : σ headPosition ≢ z .B * γ .shape .lo → Fine z σ γ (step 0) (inside z σ h (σ headPosition) readFront)
     reads n =
@@ -141,10 +143,7 @@ module _ (z : Sizes) (σ : Reader) (γ : Ghost) (good : Good z σ γ) where
               record {
                 sizes = good .sizes;
                 range =
-                    writes-keep-range z 0 σ (retireWrites (γ .shape .at lo) (γ .shape .at (suc lo)) (σ headPosition)) (
-                      of-sort z record-number (suc (γ .shape .at (suc lo))) (omega arith, second-fits),
-                      (of-sort z number (σ headPosition) position-fits, (refl, tt)),
-                    )
+                    writes-keep-range z 0 σ (retireWrites (γ .shape .at lo) (γ .shape .at (suc lo)) (σ headPosition)) in-sort
                     (good .range)
                     (λ x. good .range .consuming)
                     (λ l. absurd (omega arith));
@@ -160,6 +159,14 @@ module _ (z : Sizes) (σ : Reader) (γ : Ghost) (good : Good z σ γ) where
                 formed = good .formed;
               };
           grown = refl;
+          moved =
+              record {
+                others = λ d o. others-untouched z 0 σ (retireWrites (γ .shape .at lo) (γ .shape .at (suc lo)) (σ headPosition)) in-sort d o;
+                tail-grows = omega arith;
+                shifts-on = omega arith;
+                last-grows = omega arith;
+                had-place = λ r l b. refl;
+              };
         }
       where
         lo : ℕ
@@ -170,6 +177,12 @@ module _ (z : Sizes) (σ : Reader) (γ : Ghost) (good : Good z σ γ) where
 
         second-fits : γ .shape .at (suc lo) < z .N
         second-fits = m .chain .fits (suc lo) (omega arith) (omega (arith, m .tail-last))
+
+        in-sort : All (InSort z 0) (retireWrites (γ .shape .at lo) (γ .shape .at (suc lo)) (σ headPosition))
+        in-sort = (
+          of-sort z record-number (suc (γ .shape .at (suc lo))) (omega arith, second-fits),
+          (of-sort z number (σ headPosition) position-fits, (refl, tt)),
+        )
 
         -- every entry of the old head record is below the head, so it has been handled
         handled : (i : ℕ) → i < z .B → σ (state (γ .shape .at lo) i) ≡ 1 → ⊥

@@ -1,6 +1,6 @@
 -- What holds of a store that only the engine has written: its words are in range, its records are in order, and the position
 -- machine that it stands for keeps its invariant.
-use mathlib.Core.Path.{_≡_, refl}
+use mathlib.Core.Path.{_≡_, refl, sym}
 use mathlib.Core.Logic.{_≢_}
 use mathlib.Core.Bool.{Bool, true, false, cond}
 use mathlib.Core.List.{List, _++_}
@@ -9,15 +9,15 @@ use borrow.Author.Tests.{le-leb}
 use Rattle.history.specs.Lists.{All}
 use Rattle.history.specs.Form.{wellFormed}
 use Rattle.rules.specs.Sizes.{Sizes, sizesInRange}
-use Rattle.rules.specs.Cell.{Reader, Write}
-use Rattle.rules.specs.Update.{after}
+use Rattle.rules.specs.Cell.{Cell, Reader, Write, tail, place}
+use Rattle.rules.specs.Update.{areaOf, after}
 use Rattle.rules.specs.Rule.{Answer, refuse, reply, need, upTo}
-use Rattle.rules.specs.Request.{Request}
+use Rattle.rules.specs.Request.{Request, startEnqueue, startDequeue, step}
 use Rattle.rules.specs.Play.{replyEvents}
 use Rattle.rules.specs.Readback.{WriteThere}
-use Rattle.rules.specs.InRange.{InRange}
+use Rattle.rules.specs.InRange.{InSort, OtherThread, others-untouched, InRange}
 use Rattle.model.specs.Invariant.{Invariant}
-use Rattle.memory.specs.Memory.{Memory}
+use Rattle.memory.specs.Memory.{ChainShape, Memory}
 use Rattle.ordering.specs.View.{Ghost, view, AgreesWith}
 
 pub record Good (z : Sizes) (σ : Reader) (γ : Ghost) : Type 0 where
@@ -28,6 +28,27 @@ pub record Good (z : Sizes) (σ : Reader) (γ : Ghost) : Type 0 where
   pub model : Invariant (z .B) (view σ γ)
   pub formed : wellFormed (γ .history) ≡ true
 
+-- The thread that a request is of.
+abbrev pub threadOf : Request → ℕ
+threadOf (startEnqueue t v) = t
+threadOf startDequeue = 0
+threadOf (step t) = t
+
+-- What a call of thread t moves: other threads' words stay; tail, the place of the tail record and the last place only grow; a
+-- record with a place up to the old last one had it before.
+pub record Moved (t : ℕ) (σ σ′ : Reader) (g g′ : ChainShape) : Type 0 where
+  pub others : (d : Cell) → OtherThread t (areaOf d) → σ′ d ≡ σ d
+  pub tail-grows : σ tail ≤ σ′ tail
+  pub shifts-on : g .tp ≤ g′ .tp
+  pub last-grows : g .hi ≤ g′ .hi
+  pub had-place : (r : ℕ) → 1 ≤ σ′ (place r) → σ′ (place r) ≤ g .hi → σ (place r) ≡ σ′ (place r)
+
+-- Writes in range that write no place.
+pub places-stay : (z : Sizes) (t : ℕ) (σ : Reader) (g g′ : ChainShape) (ws : List Write) → All (InSort z t) ws → ((r : ℕ) → after σ ws (place r) ≡ σ (place r))
+    → σ tail ≤ after σ ws tail → g .tp ≤ g′ .tp → g .hi ≤ g′ .hi → Moved t σ (after σ ws) g g′
+places-stay z t σ g g′ ws in-sort places a b c =
+    record { others = others-untouched z t σ ws in-sort; tail-grows = a; shifts-on = b; last-grows = c; had-place = λ r l h. sym (places r) }
+
 -- An answer to request q that goes on so: a refusal is none of 3 and 9, and a reply leaves such a store, with the history that
 -- the reply makes.
 pub record Goes (z : Sizes) (σ : Reader) (γ : Ghost) (q : Request) (r : Rattle.rules.specs.Rule.Reply) (ws : List Write) : Type 0 where
@@ -35,6 +56,7 @@ pub record Goes (z : Sizes) (σ : Reader) (γ : Ghost) (q : Request) (r : Rattle
   pub next : Ghost
   pub good : Good z (after σ ws) next
   pub grown : next .history ≡ replyEvents q (γ .history) r ++ γ .history
+  pub moved : Moved (threadOf q) σ (after σ ws) (γ .shape) (next .shape)
 
 abbrev pub Fine : (z : Sizes) (σ : Reader) (γ : Ghost) → Request → Answer → Type 0
 Fine z σ γ q (refuse n) = (n ≢ 3) × (n ≢ 9)

@@ -6,6 +6,7 @@ use mathlib.Core.List.{List, [], _∷_, _++_}
 use mathlib.Core.Option.{some}
 use Prim.Native.Nat.{ℕ, suc, _+_, _*_, _≤_, _<_}
 use native.Mathlib.Nat.{mul-le-mul-left}
+use native.Mathlib.Decide.{ℕ-discrete}
 use native.Mathlib.Omega.{arith}
 use lib.Dec.{eqb}
 use borrow.Author.Tests.{eq-eqb, ne-eqb, eqb-true, eqb-false}
@@ -20,7 +21,7 @@ use Rattle.rules.specs.Rule.{Reply, Answer, going, ended, goes, reply}
 use Rattle.rules.specs.Producer.{linked, linkClaimed, linkAhead}
 use Rattle.rules.specs.Request.{step}
 use Rattle.rules.specs.Play.{replyEvents}
-use Rattle.rules.specs.InRange.{InSort}
+use Rattle.rules.specs.InRange.{InSort, others-untouched}
 use Rattle.rules.specs.Readback.{WriteThere}
 use Rattle.model.specs.State.{blank, Producer, idle, ahead, done, callOf}
 use Rattle.model.specs.Invariant.{Invariant}
@@ -33,7 +34,7 @@ use Rattle.memory.specs.Ends.{held-last, held-before-last}
 use Rattle.memory.specs.Frames.{Untouched, OthersKept, others-kept}
 use Rattle.memory.specs.Linking.{LetGo, give-back-keeps, link-keeps}
 use Rattle.ordering.specs.View.{Ghost, placesOf, placeOf, producerAt, producerOf, producersOf, view, cellOf}
-use Rattle.ordering.specs.Good.{Good, Goes, Fine, by-need, by-cond, by-up-to}
+use Rattle.ordering.specs.Good.{Good, Goes, Fine, places-stay, by-need, by-cond, by-up-to}
 use Rattle.ordering.specs.Rows.{of-sort, has-sort, row-of}
 use Rattle.ordering.specs.Limits.{limits, place-fits}
 use Rattle.ordering.specs.Steps.{producers-after, own-words, seen-at}
@@ -104,6 +105,7 @@ module _ (z : Sizes) (σ : Reader) (γ : Ghost) (good : Good z σ γ) (t : ℕ) 
           (sym (consumer-same σ σ′ c (λ k. same (consumer k) refl) places not-linked (m .cursor) (m .found))))
           formed
           grown
+          (places-stay z t σ (γ .shape) (γ .shape) giveWrites in-sort (λ y. same (place y) refl) (omega (arith, same tail refl)) (omega arith) (omega arith))
         where
           σ′ : Reader
           σ′ = after σ giveWrites
@@ -216,9 +218,23 @@ module _ (z : Sizes) (σ : Reader) (γ : Ghost) (good : Good z σ γ) (t : ℕ) 
           (sym (consumer-same σ σ′ c (λ k. same (consumer k) refl) places not-linked (m .cursor) (m .found))))
           formed
           grown
+          (record {
+            others = others-untouched z t σ linkWrites in-sort;
+            tail-grows = omega (arith, same tail refl);
+            shifts-on = omega arith;
+            last-grows = omega arith;
+            had-place = λ y l b. old-place y b (ℕ-discrete y c);
+          })
         where
           self : eqb c c ≡ true
           self = eq-eqb c c refl
+
+          -- the linked record's place is past the old last one
+          old-place : (y : ℕ) → σ′ (place y) ≤ γ .shape .hi → Dec (y ≡ c) → σ (place y) ≡ σ′ (place y)
+          old-place y b (yes q) =
+              let new : σ′ (place y) ≡ suc (σ (place h)) = same (place y) refl ∙ rw (eq-eqb c y (sym q)) refl in
+              absurd (omega (arith, last .1))
+          old-place y b (no n) = sym (places y n)
 
 module _ (z : Sizes) (σ : Reader) (γ : Ghost) (good : Good z σ γ) (t : ℕ) (a-producer : (1 ≤ t) × (t ≤ z .P)) where
   self : eqb t t ≡ true

@@ -8,7 +8,7 @@ use Rattle.history.specs.Lists.{All}
 use Rattle.history.specs.Event.{History}
 use Rattle.history.specs.Form.{wellFormed}
 use Rattle.rules.specs.Sizes.{Sizes}
-use Rattle.rules.specs.Cell.{Cell, content, consumer, producer, part, entry, Reader, Area, contents, ofConsumer, ofProducer, ofRecord, Write, _:=_, clear, tailRecord, headRecord, cursorRecord, foundRecord, tail, headPosition, starts}
+use Rattle.rules.specs.Cell.{Cell, content, consumer, producer, part, entry, Reader, Area, contents, ofConsumer, ofProducer, ofRecord, Write, _:=_, clear, tailRecord, headRecord, cursorRecord, foundRecord, tail, headPosition, starts, place}
 use Rattle.rules.specs.Update.{areaOf, after, Apart, kinds-apart, Own, own-leaves}
 use Rattle.rules.specs.Address.{AreaThere}
 use Rattle.rules.specs.Range.{producerInRange, consumerInRange}
@@ -24,7 +24,7 @@ use Rattle.memory.specs.Memory.{ThreadOk, rowOf, Linked}
 use Rattle.memory.specs.Frames.{others-kept}
 use Rattle.memory.specs.Light.{consumer-keeps}
 use Rattle.ordering.specs.View.{Ghost, placesOf, placeOf, producerOf, producersOf, consumerFrom, consumerOf, view, Agrees, cellOf}
-use Rattle.ordering.specs.Good.{Good, Goes}
+use Rattle.ordering.specs.Good.{Good, Goes, threadOf, Moved, places-stay}
 use Rattle.ordering.specs.Steps.{producers-after, producer-goes}
 
 -- An area that a call of thread t may write as it likes: its own.
@@ -117,6 +117,7 @@ module _ (z : Sizes) (σ : Reader) (γ : Ghost) (good : Good z σ γ) where
       (subst (Invariant (z .B)) moves model)
       formed
       grown
+      (omega (arith, same tail refl), omega arith)
     where
       σ′ : Reader
       σ′ = after σ ws
@@ -147,7 +148,7 @@ module _ (z : Sizes) (σ : Reader) (γ : Ghost) (good : Good z σ γ) where
           }
 
   -- A step of the consumer that writes its own words alone.
-  pub consumer-own : (q : Request) (r : Reply) (ws : List Write) (x : Consumer) (h : History)
+  pub consumer-own : (q : Request) → threadOf q ≡ 0 → (r : Reply) (ws : List Write) (x : Consumer) (h : History)
       → All (Own ofConsumer) ws
       → consumerInRange z (after σ ws) ≡ true
       → Linked σ (after σ ws cursorRecord) × Linked σ (after σ ws foundRecord)
@@ -156,7 +157,7 @@ module _ (z : Sizes) (σ : Reader) (γ : Ghost) (good : Good z σ γ) where
       → wellFormed h ≡ true
       → h ≡ replyEvents q (γ .history) r ++ γ .history
       → Goes z σ γ q r ws
-  consumer-own q r ws x h own in-row linked seen model formed grown =
+  consumer-own q of r ws x h own in-row linked seen model formed grown =
       record {
         there = own-there z 0 ofConsumer (a-consumer z) ws own;
         next = later γ h;
@@ -177,6 +178,9 @@ module _ (z : Sizes) (σ : Reader) (γ : Ghost) (good : Good z σ γ) where
               formed = formed;
             };
         grown = grown;
+        moved =
+            subst⁻¹ (λ (t : ℕ). Moved t σ σ′ (γ .shape) (γ .shape)) of
+            (places-stay z 0 σ (γ .shape) (γ .shape) ws in-sort (λ x. same (place x) refl) (omega (arith, same tail refl)) (omega arith) (omega arith));
       }
     where
       σ′ : Reader

@@ -68,7 +68,8 @@ module _ (z : Sizes) (σ : Reader) (γ : Ghost) (good : Good z σ γ) (t : ℕ) 
       (as-seen (take-position (z .B) (view σ γ) (good .model) t _ _ seen)
       (producers-after t σ σ′ (others-kept z t σ takeWrites in-sort) (λ u x. refl) _ (rw self refl)))
       (good .formed)
-      refl)
+      refl
+      (omega arith, omega arith))
     where
       σ′ : Reader
       σ′ = after σ takeWrites
@@ -145,6 +146,7 @@ module _ (z : Sizes) (σ : Reader) (γ : Ghost) (good : Good z σ γ) (t : ℕ) 
           (producers-after t σ σ′ (others-kept z t σ ws in-sort) (λ u x. refl) _ (rw self refl)))
           (good .formed)
           refl
+          (omega arith, omega arith)
         where
           i : ℕ
           i = index z σ h (σ (position t))
@@ -211,6 +213,7 @@ module _ (z : Sizes) (σ : Reader) (γ : Ghost) (good : Good z σ γ) (t : ℕ) 
         (ap₂ consumerFrom (sym places) (fun-ext (λ k. sym (same (consumer k) refl)))))
         formed
         grown
+        (omega (arith, same tail refl), omega arith)
       where
         ws : List Write
         ws = state h i := 1 ∷ rest

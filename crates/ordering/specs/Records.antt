@@ -22,7 +22,7 @@ use Rattle.model.specs.Invariant.{Invariant}
 use Rattle.memory.specs.Chain
 use Rattle.memory.specs.Memory.{Linked, Memory}
 use Rattle.ordering.specs.View.{Ghost, placesOf, placeOf, consumerAt, consumerOf, view, codeOf, Agrees, AgreesWith}
-use Rattle.ordering.specs.Good.{Good, Goes}
+use Rattle.ordering.specs.Good.{Good, Goes, threadOf, Moved}
 
 module _ (z : Sizes) (σ : Reader) (γ : Ghost) (good : Good z σ γ) (t : ℕ) (a-producer : (1 ≤ t) × (t ≤ z .P)) where
   pub record-goes : (q : Request) (r : Reply) (ws : List Write) (γ′ : Ghost)
@@ -34,8 +34,9 @@ module _ (z : Sizes) (σ : Reader) (γ : Ghost) (good : Good z σ γ) (t : ℕ) 
       → Invariant (z .B) (view (after σ ws) γ′)
       → wellFormed (γ′ .history) ≡ true
       → γ′ .history ≡ replyEvents q (γ .history) r ++ γ .history
+      → Moved (threadOf q) σ (after σ ws) (γ .shape) (γ′ .shape)
       → Goes z σ γ q r ws
-  record-goes q r ws γ′ in-sort there in-row memory agrees model formed grown =
+  record-goes q r ws γ′ in-sort there in-row memory agrees model formed grown moved =
       record {
         there = there;
         next = γ′;
@@ -49,6 +50,7 @@ module _ (z : Sizes) (σ : Reader) (γ : Ghost) (good : Good z σ γ) (t : ℕ) 
               formed = formed;
             };
         grown = grown;
+        moved = moved;
       }
 
 -- Places stay where the only record whose place is written is another one.

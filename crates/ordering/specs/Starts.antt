@@ -26,7 +26,7 @@ use Rattle.memory.specs.Memory.{rowOf, Memory}
 use Rattle.memory.specs.Frames.{others-kept}
 use Rattle.memory.specs.Light.{producer-keeps}
 use Rattle.ordering.specs.View.{Ghost, view}
-use Rattle.ordering.specs.Good.{Good, Goes, Fine, by-cond}
+use Rattle.ordering.specs.Good.{Good, Goes, Fine, by-cond, places-stay}
 use Rattle.ordering.specs.Rows.{OfSorts, of-sort, has-sort, row-of}
 use Rattle.ordering.specs.Steps.{as-seen, producers-after, unclaimed, own-words, seen-at}
 use Rattle.ordering.specs.Own.{later, consumer-own}
@@ -66,6 +66,7 @@ module _ (z : Sizes) (σ : Reader) (γ : Ghost) (good : Good z σ γ) where
       (enqueue-may-start (γ .history) (good .formed) t (suc (σ starts)) v (good .model .calls .of-producers t ∙ ap callOf (seen-at z σ γ good t a 0 e))
       (λ b. omega (arith, good .model .past .numbered (suc (σ starts)) b .1)))
       refl
+      (places-stay z t σ (γ .shape) (γ .shape) (startWrites t v) in-sort (λ x. refl) (omega arith) (omega arith) (omega arith))
     where
       m : Memory z σ (γ .shape)
       m = good .memory
@@ -112,7 +113,7 @@ module _ (z : Sizes) (σ : Reader) (γ : Ghost) (good : Good z σ γ) where
       (λ b. ((λ q. omega arith), (λ q. omega arith)))
       (λ b.
       let e : σ consumerPhase ≡ 0 = eqb-true (σ consumerPhase) 0 (not-false (eqb (σ consumerPhase) 0) b) in
-      consumer-own z σ γ good startDequeue ok (consumerPhase := 1 ∷ []) State.front (dequeueStarted ∷ γ .history) ((refl, omega arith), tt)
+      consumer-own z σ γ good startDequeue refl ok (consumerPhase := 1 ∷ []) State.front (dequeueStarted ∷ γ .history) ((refl, omega arith), tt)
       (row-of z 7 consumerSorts (λ k. after σ (consumerPhase := 1 ∷ []) (consumer k)) 1 refl (omega arith) (consumer-words z σ γ good 0 e))
       (good .memory .cursor, good .memory .found)
       refl

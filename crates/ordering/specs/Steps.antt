@@ -14,7 +14,7 @@ use Rattle.history.specs.Event.{History}
 use Rattle.history.specs.Form.{wellFormed}
 use Rattle.history.specs.Linearization.{Item}
 use Rattle.rules.specs.Sizes.{Sizes}
-use Rattle.rules.specs.Cell.{Reader, Write, producer, tailRecord, headRecord, cursorRecord, foundRecord, phase, call, value, position, held}
+use Rattle.rules.specs.Cell.{Reader, Write, tail, producer, tailRecord, headRecord, cursorRecord, foundRecord, phase, call, value, position, held}
 use Rattle.rules.specs.Update.{after}
 use Rattle.rules.specs.Range.{producerSorts, producerInRange}
 use Rattle.rules.specs.Rule.{Reply}
@@ -29,7 +29,7 @@ use Rattle.memory.specs.Memory.{ChainShape, Held, ThreadOk, rowOf}
 use Rattle.memory.specs.Frames.{OthersKept, others-kept}
 use Rattle.memory.specs.Light.{Light, producer-keeps}
 use Rattle.ordering.specs.View.{Ghost, placesOf, placeOf, producerAt, producerOf, producersOf, view, Agrees, cellOf}
-use Rattle.ordering.specs.Good.{Good, Goes}
+use Rattle.ordering.specs.Good.{Good, Goes, places-stay}
 use Rattle.ordering.specs.Rows.{OfSorts, row-has}
 
 -- a state with other producers
@@ -128,8 +128,9 @@ module _ (z : Sizes) (σ : Reader) (γ : Ghost) (good : Good z σ γ) (t : ℕ) 
       → Invariant (z .B) (view (after σ ws) γ′)
       → wellFormed h ≡ true
       → h ≡ replyEvents (step t) (γ .history) r ++ γ .history
+      → (σ tail ≤ after σ ws tail) × (γ .shape .tp ≤ tp)
       → Goes z σ γ (step t) r ws
-  producer-goes r ws tp entry owner content h in-sort there light fixed in-row own claims-none tail-at agrees model formed grown =
+  producer-goes r ws tp entry owner content h in-sort there light fixed in-row own claims-none tail-at agrees model formed grown grows =
       record {
         there = there;
         next = record { shape = record { lo = γ .shape .lo; tp = tp; hi = γ .shape .hi; at = γ .shape .at }; entry = entry; owner = owner; content = content; history = h };
@@ -145,4 +146,5 @@ module _ (z : Sizes) (σ : Reader) (γ : Ghost) (good : Good z σ γ) (t : ℕ) 
               formed = formed;
             };
         grown = grown;
+        moved = places-stay z t σ (γ .shape) _ ws in-sort (λ x. light .parts x 0) (grows .0) (grows .1) (omega arith);
       }

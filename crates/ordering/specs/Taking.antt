@@ -131,6 +131,7 @@ module _ (z : Sizes) (σ : Reader) (γ : Ghost) (good : Good z σ γ) where
         (take-item (z .B) (view σ γ) (good .model) _ _ _ seen)
         formed
         refl
+        (omega arith)
 
     takes-front : σ foundPosition ≡ σ headPosition → suc (σ headPosition) ≤ z .M
         → Goes z σ γ (step 0) (item (σ itemNumber) (σ itemValue)) (state r i := 2 ∷ headPosition := suc (σ headPosition) ∷ clearConsumer ∷ [])
@@ -149,6 +150,7 @@ module _ (z : Sizes) (σ : Reader) (γ : Ghost) (good : Good z σ γ) where
         (take-front (z .B) (view σ γ) (good .model) _ _ _ seen f)
         formed
         refl
+        (omega arith)
 
   pub mark-handled-fine : σ consumerPhase ≡ 7 → Fine z σ γ (step 0) (markHandled z σ)
   unfolding markHandled

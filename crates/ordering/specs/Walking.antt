@@ -270,6 +270,7 @@ module _ (z : Sizes) (σ : Reader) (γ : Ghost) (good : Good z σ γ) (t : ℕ) 
         (producers-after t σ σ′ (others-kept z t σ (shiftWrites n) in-sort) (λ u x. refl) _ (rw self refl)))
         (good .formed)
         refl
+        (omega arith, omega (arith, tail-placed))
       where
         σ′ : Reader
         σ′ = after σ (shiftWrites n)
