@@ -28,7 +28,7 @@ use Rattle.memory.specs.Loose.{Loose, free-loose}
 use Rattle.memory.specs.Claiming.{claimWrites, claim-keeps}
 use Rattle.ordering.specs.View.{Ghost, placesOf, placeOf, producerAt, producersOf, view, cellOf}
 use Rattle.ordering.specs.Good.{Good, Goes, Fine}
-use Rattle.ordering.specs.Rows.{OfSorts, row-of}
+use Rattle.ordering.specs.Rows.{ProducerWords, producer-row-of}
 use Rattle.ordering.specs.Steps.{producers-after, goes-on-same, own-words, seen-at}
 use Rattle.ordering.specs.Own.{producer-own}
 use Rattle.ordering.specs.Ends.{end-formed, end-adds, idle-in-range, idle-thread, idle-seen}
@@ -41,12 +41,12 @@ module _ (z : Sizes) (σ : Reader) (γ : Ghost) (good : Good z σ γ) (t : ℕ) 
   -- The claim of record r in phase p, on the way to p′, in which the producer is seen as before.
   claims : (p p′ r : ℕ) → σ (phase t) ≡ p → 3 ≤ p → r < z .N → Loose σ r
       → ((n v L k : ℕ) → producerAt p′ n v L k ≡ producerAt p n v L k)
-      → p′ ≤ 11 → OfSorts z (rowOf (after σ (claimWrites t r p′)) t) 1 (getD producerSorts p′ [])
+      → p′ ≤ 11 → ProducerWords z (rowOf (after σ (claimWrites t r p′)) t) (getD producerSorts p′ [])
       → Goes z σ γ (step t) going (claimWrites t r p′)
   claims p p′ r e past fits loose same-seen l row =
       record-goes z σ γ good t a-producer (step t) going ws γ in-sort
       (fits, ((fits, omega arith), ((a-producer .0, a-producer .1, omega arith), ((a-producer .0, a-producer .1, omega arith), tt))))
-      (row-of z 11 producerSorts (rowOf σ′ t) p′ new-phase l row)
+      (producer-row-of z (rowOf σ′ t) p′ new-phase l row)
       (claim-keeps z σ (γ .shape) m t r p′ a-producer fits loose holds-one)
       (agrees-kept (z .B) (γ .shape .lo) (γ .shape .hi) (γ .shape .at) (γ .entry) (γ .content) (cellOf σ) (cellOf σ′)
       (λ k i j a b. rw (ne-eqb r (γ .shape .at (suc k)) (λ q. loose .not-linked (rw q (m .chain .linked (suc k) a b)))) refl)
@@ -105,7 +105,7 @@ module _ (z : Sizes) (σ : Reader) (γ : Ghost) (good : Good z σ γ) (t : ℕ) 
   claim-record-fine e (suc r) one =
       let old = own-words z σ γ good t a-producer 4 e in
       claims 4 5 r e (omega arith) (one .0) (free-loose z σ r (good .memory) (one .1)) (λ n v L k. refl) (omega arith)
-      (old .0, (tt, (old .1 .1 .0, (old .1 .1 .1 .0, (rw self (one .0), (old .1 .1 .1 .1 .1 .0, (old .1 .1 .1 .1 .1 .1 .0, tt)))))))
+      (record { call = old .call; value = tt; position = old .position; held = old .held; claimed = rw self (one .0); backed = old .backed; spare = old .spare })
 
   -- 10. If none is free, end; else claim; to 11.
   pub claim-ahead-fine : σ (phase t) ≡ 10 → (c : ℕ) → Choice z σ c → Fine z σ γ (step t) (claimAhead z σ t c)
@@ -126,4 +126,4 @@ module _ (z : Sizes) (σ : Reader) (γ : Ghost) (good : Good z σ γ) (t : ℕ) 
   claim-ahead-fine e (suc r) one =
       let old = own-words z σ γ good t a-producer 10 e in
       claims 10 11 r e (omega arith) (one .0) (free-loose z σ r (good .memory) (one .1)) (λ n v L k. refl) (omega arith)
-      (old .0, (tt, (old .1 .1 .0, (old .1 .1 .1 .0, (rw self (one .0), (old .1 .1 .1 .1 .1 .0, (old .1 .1 .1 .1 .1 .1 .0, tt)))))))
+      (record { call = old .call; value = tt; position = old .position; held = old .held; claimed = rw self (one .0); backed = old .backed; spare = old .spare })

@@ -29,7 +29,7 @@ use Rattle.memory.specs.Memory.{rowOf, Linked}
 use Rattle.memory.specs.Light.{Light, consumer-keeps}
 use Rattle.ordering.specs.View.{Ghost, placesOf, placeOf, consumerAt, consumerOf, view, codeOf, AgreesWith}
 use Rattle.ordering.specs.Good.{Good, Goes, Fine, places-stay, by-need, by-up-to}
-use Rattle.ordering.specs.Rows.{OfSorts, has-sort, row-has, row-of}
+use Rattle.ordering.specs.Rows.{has-sort, ConsumerWords, consumer-row-has, consumer-row-of}
 use Rattle.ordering.specs.Own.{consumer-own}
 
 -- an entry's state by cases
@@ -50,8 +50,8 @@ is-not-set x e q b p = eqb-false x 1 b (q ∙ ap codeOf p)
 
 module _ (z : Sizes) (σ : Reader) (γ : Ghost) (good : Good z σ γ) where
   -- the consumer's words 1 to 7, by its phase
-  pub consumer-words : (p : ℕ) → σ consumerPhase ≡ p → OfSorts z (λ k. σ (consumer k)) 1 (getD consumerSorts p [])
-  consumer-words = row-has z 7 consumerSorts (λ k. σ (consumer k)) (good .range .consuming)
+  pub consumer-words : (p : ℕ) → σ consumerPhase ≡ p → ConsumerWords z (λ k. σ (consumer k)) (getD consumerSorts p [])
+  consumer-words = consumer-row-has z (λ k. σ (consumer k)) (good .range .consuming)
 
   -- the consumer of the position machine, by its phase
   pub consumer-at : (p : ℕ) → σ consumerPhase ≡ p
@@ -113,7 +113,8 @@ module _ (z : Sizes) (σ : Reader) (γ : Ghost) (good : Good z σ γ) where
   -- A consumer whose words are all zero is idle.
   pub resting-in-range : (σ′ : Reader) → ((k : ℕ) → σ′ (consumer k) ≡ 0) → consumerInRange z σ′ ≡ true
   resting-in-range σ′ none =
-      row-of z 7 consumerSorts (λ k. σ′ (consumer k)) 0 (none 0) (omega arith) (none 1, (none 2, (none 3, (none 4, (none 5, (none 6, (none 7, tt)))))))
+      consumer-row-of z (λ k. σ′ (consumer k)) 0 (none 0) (omega arith)
+      (record { cursor-record = none 1; cursor-position = none 2; found-record = none 3; found-position = none 4; item-number = none 5; item-value = none 6; spare = none 7 })
 
   -- The dequeue answers empty.
   pub answers-empty : dequeues (view σ γ .consumer) ≡ true → Invariant (z .B) (answerEmpty (view σ γ)) → Fine z σ γ (step 0) endsEmpty
@@ -128,13 +129,13 @@ module _ (z : Sizes) (σ : Reader) (γ : Ghost) (good : Good z σ γ) where
 
   -- A step of the consumer that writes its own words alone, and goes on to phase p.
   pub consumer-goes : (ws : List Write) (p : ℕ) (x : Consumer) → All (Own ofConsumer) ws → after σ ws consumerPhase ≡ p → p ≤ 7
-      → OfSorts z (λ k. after σ ws (consumer k)) 1 (getD consumerSorts p [])
+      → ConsumerWords z (λ k. after σ ws (consumer k)) (getD consumerSorts p [])
       → Linked σ (after σ ws cursorRecord) × Linked σ (after σ ws foundRecord)
       → consumerOf (after σ ws) ≡ x
       → Invariant (z .B) (withConsumer (view σ γ) x)
       → Goes z σ γ (step 0) going ws
   consumer-goes ws p x own phase l row linked seen model =
-      consumer-own z σ γ good (step 0) refl going ws x (γ .history) own (row-of z 7 consumerSorts (λ k. after σ ws (consumer k)) p phase l row) linked seen model
+      consumer-own z σ γ good (step 0) refl going ws x (γ .history) own (consumer-row-of z (λ k. after σ ws (consumer k)) p phase l row) linked seen model
       (good .formed)
       refl
 

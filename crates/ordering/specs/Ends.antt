@@ -20,7 +20,7 @@ use Rattle.model.specs.State.{idle, callOf}
 use Rattle.ordering.specs.View.{Ghost, placeOf, producerAt, producerOf, view}
 use Rattle.memory.specs.Memory.{ThreadOk}
 use Rattle.ordering.specs.Good.{Good}
-use Rattle.ordering.specs.Rows.{row-of}
+use Rattle.ordering.specs.Rows.{producer-row-of}
 use Rattle.ordering.specs.Steps.{unclaimed}
 
 -- The event that repeats the words of thread t's start is that of the call that it has under way.
@@ -61,7 +61,8 @@ module _ (z : Sizes) (σ : Reader) (γ : Ghost) (good : Good z σ γ) (t : ℕ) 
 module _ (z : Sizes) (lo : ℕ) (σ : Reader) (row : ℕ → ℕ) (none : (k : ℕ) → row k ≡ 0) where
   pub idle-in-range : threadInRange z 11 producerSorts row ≡ true
   idle-in-range =
-      row-of z 11 producerSorts row 0 (none 0) (omega arith) (none 1, (none 2, (none 3, (none 4, (none 5, (none 6, (none 7, tt)))))))
+      producer-row-of z row 0 (none 0) (omega arith)
+      (record { call = none 1; value = none 2; position = none 3; held = none 4; claimed = none 5; backed = none 6; spare = none 7 })
 
   pub idle-thread : ThreadOk (z .N) lo σ row
   idle-thread =

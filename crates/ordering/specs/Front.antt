@@ -24,7 +24,7 @@ use Rattle.memory.specs.Memory.{Memory}
 use Rattle.memory.specs.Retiring.{retireWrites, retire-keeps}
 use Rattle.ordering.specs.View.{Ghost, placesOf, placeOf, view, codeOf}
 use Rattle.ordering.specs.Good.{Good, Goes, Fine, by-need, by-cond, by-up-to}
-use Rattle.ordering.specs.Rows.{OfSorts, of-sort, has-sort}
+use Rattle.ordering.specs.Rows.{ConsumerWords, of-sort, has-sort}
 use Rattle.ordering.specs.Entries.{by-inside, slot, slot-state}
 use Rattle.ordering.specs.Dequeue.{by-state, consumer-words, consumer-at, tail-fits, head-placed, head-linked, tail-record-is, not-tail-record, by-cross, answers-empty, consumer-goes, consumer-light}
 
@@ -46,7 +46,7 @@ module _ (z : Sizes) (σ : Reader) (γ : Ghost) (good : Good z σ γ) where
       ((refl, omega arith), ((refl, omega arith), ((refl, omega arith), tt)))
       refl
       (omega arith)
-      (has-sort z record-number (σ headRecord) (good .range .words headRecord (omega arith)) .1, (room, consumer-words z σ γ good 2 e .1 .1))
+      (record { cursor-record = has-sort z record-number (σ headRecord) (good .range .words headRecord (omega arith)) .1; cursor-position = room; found-record = words .found-record; found-position = words .found-position; item-number = words .item-number; item-value = words .item-value; spare = words .spare })
       (head-linked z σ γ good, m .found)
       (ap (State.scanning (suc (σ headPosition))) (head-placed z σ γ good))
       (read-tail (z .B) (view σ γ) (good .model) seen n)))
@@ -54,12 +54,15 @@ module _ (z : Sizes) (σ : Reader) (γ : Ghost) (good : Good z σ γ) where
       seen : view σ γ .consumer ≡ State.reading
       seen = consumer-at z σ γ good 2 e
 
+      words : ConsumerWords z (λ k. σ (consumer k)) idleSorts
+      words = consumer-words z σ γ good 2 e
+
   -- 1. Front. The head record is that of place lo.
   module _ (e : σ consumerPhase ≡ 1) (h : ℕ) (q : σ headRecord ≡ suc h) where
     seen-front : view σ γ .consumer ≡ State.front
     seen-front = consumer-at z σ γ good 1 e
 
-    idle-words : OfSorts z (λ k. σ (consumer k)) 1 idleSorts
+    idle-words : ConsumerWords z (λ k. σ (consumer k)) idleSorts
     idle-words = consumer-words z σ γ good 1 e
 
     linked : σ (used h) ≡ 2
@@ -112,14 +115,14 @@ module _ (z : Sizes) (σ : Reader) (γ : Ghost) (good : Good z σ γ) where
         (upTo (z .M) (suc (σ headPosition)) (goes (headPosition := suc (σ headPosition) ∷ [])))
         (slot-state z σ γ h (σ headPosition) s (good .agrees))
         (λ b.
-        consumer-goes z σ γ good (consumerPhase := 2 ∷ []) 2 _ ((refl, omega arith), tt) refl (omega arith) idle-words (m .cursor, m .found) refl
+        consumer-goes z σ γ good (consumerPhase := 2 ∷ []) 2 _ ((refl, omega arith), tt) refl (omega arith) (record { cursor-record = idle-words .cursor-record; cursor-position = idle-words .cursor-position; found-record = idle-words .found-record; found-position = idle-words .found-position; item-number = idle-words .item-number; item-value = idle-words .item-value; spare = idle-words .spare }) (m .cursor, m .found) refl
         (front-blank (z .B) (view σ γ) (good .model) seen-front n b))
         (λ b.
         consumer-goes z σ γ good (foundRecord := suc h ∷ foundPosition := σ headPosition ∷ consumerPhase := 6 ∷ []) 6 _
         ((refl, omega arith), ((refl, omega arith), ((refl, omega arith), tt)))
         refl
         (omega arith)
-        (idle-words .0, (idle-words .1 .0, (head-fits, (position-fits, idle-words .1 .1 .1 .1))))
+        (record { cursor-record = idle-words .cursor-record; cursor-position = idle-words .cursor-position; found-record = head-fits; found-position = position-fits; item-number = idle-words .item-number; item-value = idle-words .item-value; spare = idle-words .spare })
         (m .cursor, linked)
         (ap (State.found (σ headPosition)) placed)
         (front-found (z .B) (view σ γ) (good .model) seen-front n b))
@@ -147,7 +150,7 @@ module _ (z : Sizes) (σ : Reader) (γ : Ghost) (good : Good z σ γ) where
                     (good .range)
                     (λ x. good .range .consuming)
                     (λ l. absurd (omega arith));
-                memory = retire-keeps z σ (γ .shape) m (σ headPosition) more (idle-words .0) (idle-words .1 .1 .0) handled;
+                memory = retire-keeps z σ (γ .shape) m (σ headPosition) more (idle-words .cursor-record) (idle-words .found-record) handled;
                 agrees =
                     record {
                       states = λ k i l b s. good .agrees .states k i (omega arith) b s;

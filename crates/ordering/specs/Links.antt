@@ -35,7 +35,7 @@ use Rattle.memory.specs.Frames.{Untouched, OthersKept, others-kept}
 use Rattle.memory.specs.Linking.{LetGo, give-back-keeps, link-keeps}
 use Rattle.ordering.specs.View.{Ghost, placesOf, placeOf, producerAt, producerOf, producersOf, view, cellOf}
 use Rattle.ordering.specs.Good.{Good, Goes, Fine, places-stay, by-need, by-cond, by-up-to}
-use Rattle.ordering.specs.Rows.{of-sort, has-sort, row-of}
+use Rattle.ordering.specs.Rows.{of-sort, has-sort, producer-row-of}
 use Rattle.ordering.specs.Limits.{limits, place-fits}
 use Rattle.ordering.specs.Steps.{producers-after, own-words, seen-at}
 use Rattle.ordering.specs.Own.{of-producer, own-in-sort, own-there, withHistory, later}
@@ -265,30 +265,32 @@ module _ (z : Sizes) (σ : Reader) (γ : Ghost) (good : Good z σ γ) (t : ℕ) 
   onward = claimed t := 0 ∷ phase t := 6 ∷ []
 
   -- thread t's words then
-  abbrev Onward : Reader → Type 0
-  Onward σ′ =
-      (σ′ (producer t 0) ≡ 6)
-      × (σ′ (producer t 1) ≡ σ (call t))
-      × (σ′ (producer t 3) ≡ σ (position t))
-      × (σ′ (producer t 4) ≡ σ (held t))
-      × (σ′ (producer t 5) ≡ 0)
-      × (σ′ (producer t 6) ≡ σ (producer t 6))
-      × (σ′ (producer t 7) ≡ σ (producer t 7))
+  record Onward (σ′ : Reader) : Type 0 where
+    in-phase : σ′ (producer t 0) ≡ 6
+    call : σ′ (producer t 1) ≡ σ (producer t 1)
+    position : σ′ (producer t 3) ≡ σ (producer t 3)
+    held : σ′ (producer t 4) ≡ σ (producer t 4)
+    claimed : σ′ (producer t 5) ≡ 0
+    backed : σ′ (producer t 6) ≡ σ (producer t 6)
+    spare : σ′ (producer t 7) ≡ σ (producer t 7)
 
   onward-in-range : (σ′ : Reader) → σ (phase t) ≡ 5 → Onward σ′ → producerInRange z σ′ t ≡ true
   onward-in-range σ′ e w =
       let old = own-words z σ γ good t a-producer 5 e in
-      row-of z 11 producerSorts (rowOf σ′ t) 6 (w .0) (omega arith) (
-        rw (w .1) (old .0),
-        (
-          tt,
-          (rw (w .2) (old .1 .1 .0), (rw (w .3) (old .1 .1 .1 .0), (w .4, (rw (w .5) (old .1 .1 .1 .1 .1 .0), (w .6 ∙ old .1 .1 .1 .1 .1 .1 .0, tt))))),
-        ),
-      )
+      producer-row-of z (rowOf σ′ t) 6 (w .in-phase) (omega arith)
+      (record {
+        call = rw (w .call) (old .call);
+        value = tt;
+        position = rw (w .position) (old .position);
+        held = rw (w .held) (old .held);
+        claimed = w .claimed;
+        backed = rw (w .backed) (old .backed);
+        spare = w .spare ∙ old .spare;
+      })
 
   onward-lets-go : (σ′ : Reader) → Onward σ′ → LetGo σ σ′ t
   onward-lets-go σ′ w =
-      record { claims-none = w .4; in-phase = λ p. ⊎-elim (λ q. omega (arith, w .0)) (λ q. omega (arith, w .0)) p; holds-on = inl (w .3) }
+      record { claims-none = w .claimed; in-phase = λ p. ⊎-elim (λ q. omega (arith, w .in-phase)) (λ q. omega (arith, w .in-phase)) p; holds-on = inl (w .held) }
 
   -- where a position was taken, the place of the record that leads to it is below the limit
   taken-below : (L : ℕ) → L < σ tail → L < z .M
@@ -299,7 +301,7 @@ module _ (z : Sizes) (σ : Reader) (γ : Ghost) (good : Good z σ γ) (t : ℕ) 
   link-claimed-fine e =
       by-linked 5 (λ ws. goes (ws ++ onward)) e (omega arith) (inl refl)
       (λ h c q w none fits.
-      let now : Onward (linkedThen h c onward) = (rw self refl, refl, refl, refl, rw self refl, refl, refl) in
+      let now : Onward (linkedThen h c onward) = record { in-phase = rw self refl; call = refl; position = refl; held = refl; claimed = rw self refl; backed = refl; spare = refl } in
       links z σ γ good t a-producer h c q w onward own going _ (γ .history) (good .formed) refl none fits
       (onward-in-range (linkedThen h c onward) e now)
       (onward-lets-go (linkedThen h c onward) now)
@@ -307,7 +309,7 @@ module _ (z : Sizes) (σ : Reader) (γ : Ghost) (good : Good z σ γ) (t : ℕ) 
       (pass-on (z .B) (linkLast (view σ γ)) (link-last (z .B) (view σ γ) (good .model)) t _ _ _ _ seen
       (rw q (omega (arith, held-last (good .memory) t h q none .1)))))
       (λ h c q w below.
-      let now : Onward (after σ (used c := 0 ∷ onward)) = (rw self refl, refl, refl, refl, rw self refl, refl, refl) in
+      let now : Onward (after σ (used c := 0 ∷ onward)) = record { in-phase = rw self refl; call = refl; position = refl; held = refl; claimed = rw self refl; backed = refl; spare = refl } in
       gives z σ γ good t a-producer h c q w onward own going _ (γ .history) (good .formed) refl
       (onward-in-range (after σ (used c := 0 ∷ onward)) e now)
       (onward-lets-go (after σ (used c := 0 ∷ onward)) now)

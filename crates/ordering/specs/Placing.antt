@@ -34,7 +34,7 @@ use Rattle.memory.specs.Memory.{Holdable, ThreadOk, rowOf, held-is}
 use Rattle.memory.specs.Frames.{others-kept}
 use Rattle.ordering.specs.View.{Ghost, placesOf, placeOf, producersOf, consumerFrom, view}
 use Rattle.ordering.specs.Good.{Good, Goes, Fine, by-need, by-cond, by-up-to}
-use Rattle.ordering.specs.Rows.{OfSorts, of-sort, has-sort, row-of}
+use Rattle.ordering.specs.Rows.{ProducerWords, of-sort, has-sort, producer-row-of}
 use Rattle.ordering.specs.Steps.{as-seen, at-twice, producers-after, unclaimed, own-words, seen-at, producer-goes}
 use Rattle.ordering.specs.Own.{of-producer, own-in-sort, own-there, withHistory}
 use Rattle.ordering.specs.Records.{seen-as}
@@ -58,11 +58,11 @@ module _ (z : Sizes) (σ : Reader) (γ : Ghost) (good : Good z σ γ) (t : ℕ) 
       ((a-producer .0, a-producer .1, omega arith), (omega arith, ((a-producer .0, a-producer .1, omega arith), tt)))
       (record { parts = λ x j. refl; entries = λ x u i j. refl })
       (refl, refl, refl)
-      (row-of z 11 producerSorts (rowOf σ′ t) 2 two (omega arith)
-      (old .0, (tt, (rw self (omega (arith, room)), (omega (arith, old .1 .1 .1 .0), (old .1 .1 .1 .1 .0, (omega (arith, old .1 .1 .1 .1 .1 .0), (old .1 .1 .1 .1 .1 .1 .0, tt))))))))
-      (unclaimed (z .N) (γ .shape .lo) σ (rowOf σ′ t) (good .memory .threads t .holding) (old .1 .1 .1 .1 .0)
+      (producer-row-of z (rowOf σ′ t) 2 two (omega arith)
+      (record { call = old .call; value = tt; position = rw self (omega (arith, room)); held = omega (arith, old .held); claimed = old .claimed; backed = omega (arith, old .backed); spare = old .spare }))
+      (unclaimed (z .N) (γ .shape .lo) σ (rowOf σ′ t) (good .memory .threads t .holding) (old .claimed)
       (λ l. absurd (omega (arith, two))) (λ x. omega (arith, two)) (λ x. omega (arith, two)))
-      (old .1 .1 .1 .1 .0)
+      (old .claimed)
       (good .memory .head-tail, good .memory .tail-last, good .memory .tail-is)
       (good .agrees)
       (as-seen (take-position (z .B) (view σ γ) (good .model) t _ _ seen)
@@ -74,7 +74,7 @@ module _ (z : Sizes) (σ : Reader) (γ : Ghost) (good : Good z σ γ) (t : ℕ) 
       σ′ : Reader
       σ′ = after σ takeWrites
 
-      old : OfSorts z (rowOf σ t) 1 startedSorts
+      old : ProducerWords z (rowOf σ t) startedSorts
       old = own-words z σ γ good t a-producer 1 e
 
       seen : view σ γ .producer t ≡ started (σ (call t)) (σ (value t))
@@ -120,7 +120,7 @@ module _ (z : Sizes) (σ : Reader) (γ : Ghost) (good : Good z σ γ) (t : ℕ) 
       seen : view σ γ .producer t ≡ writing (σ (call t)) (σ (value t)) (σ (position t)) (placeOf (placesOf σ) (σ (held t)))
       seen = seen-at z σ γ good t a-producer 8 e
 
-      old : OfSorts z (rowOf σ t) 1 placedSorts
+      old : ProducerWords z (rowOf σ t) placedSorts
       old = own-words z σ γ good t a-producer 8 e
 
       writes : (h : ℕ) → Slot z σ (γ .shape) h (σ (position t)) → Goes z σ γ (step t) going (writeWrites h (index z σ h (σ (position t))))
@@ -130,10 +130,10 @@ module _ (z : Sizes) (σ : Reader) (γ : Ghost) (good : Good z σ γ) (t : ℕ) 
           ((s .fits, s .here .below, omega arith), ((s .fits, s .here .below, omega arith), ((a-producer .0, a-producer .1, omega arith), tt)))
           (record { parts = λ x j. refl; entries = λ x n b j. rw (other-record σ h (s .linked) x n, and-false (eqb (index z σ h (σ (position t))) b), and-false (eqb 2 j), and-false (eqb 1 j)) refl })
           (refl, refl, refl)
-          (row-of z 11 producerSorts (rowOf σ′ t) 9 nine (omega arith) old)
-          (unclaimed (z .N) (γ .shape .lo) σ (rowOf σ′ t) (good .memory .threads t .holding) (old .1 .1 .1 .1 .0)
+          (producer-row-of z (rowOf σ′ t) 9 nine (omega arith) (record { call = old .call; value = old .value; position = old .position; held = old .held; claimed = old .claimed; backed = old .backed; spare = old .spare }))
+          (unclaimed (z .N) (γ .shape .lo) σ (rowOf σ′ t) (good .memory .threads t .holding) (old .claimed)
           (λ l. good .memory .threads t .has-held (omega arith)) (λ x. omega (arith, nine)) (λ x. omega (arith, nine)))
-          (old .1 .1 .1 .1 .0)
+          (old .claimed)
           (good .memory .head-tail, good .memory .tail-last, good .memory .tail-is)
           (slot-changes z σ σ′ (γ .shape) (good .memory .chain) h (σ (position t)) s (γ .entry) (γ .entry) (γ .content) (at (γ .content) (σ (position t)) what)
           (λ p n. (refl, at-other (γ .content) (σ (position t)) what p n))
@@ -164,7 +164,7 @@ module _ (z : Sizes) (σ : Reader) (γ : Ghost) (good : Good z σ γ) (t : ℕ) 
           nine = rw self refl
 
           in-sort : All (InSort z t) ws
-          in-sort = (of-sort z number (σ (call t)) (old .0), (refl, (refl, tt)))
+          in-sort = (of-sort z number (σ (call t)) (old .call), (refl, (refl, tt)))
 
   -- 9. Set the entry. If the index is 1 and phase 7 was never taken, to 10; otherwise end.
   module _ (e : σ (phase t) ≡ 9) (h : ℕ) (s : Slot z σ (γ .shape) h (σ (position t))) where
@@ -174,7 +174,7 @@ module _ (z : Sizes) (σ : Reader) (γ : Ghost) (good : Good z σ γ) (t : ℕ) 
     seen-setting : view σ γ .producer t ≡ setting (σ (call t)) (σ (value t)) (σ (position t)) (placeOf (placesOf σ) (σ (held t)))
     seen-setting = seen-at z σ γ good t a-producer 9 e
 
-    setting-words : OfSorts z (rowOf σ t) 1 placedSorts
+    setting-words : ProducerWords z (rowOf σ t) placedSorts
     setting-words = own-words z σ γ good t a-producer 9 e
 
     -- the rest of the step, of t's own words
@@ -235,11 +235,11 @@ module _ (z : Sizes) (σ : Reader) (γ : Ghost) (good : Good z σ γ) (t : ℕ) 
     unfolding i
     goes-ahead flag =
         sets (phase t := 10 ∷ []) going _ (γ .history) ((refl, omega arith), tt)
-        (row-of z 11 producerSorts (rowOf σ′ t) 10 ten (omega arith)
-        (setting-words .0, (tt, (setting-words .1 .1 .0, (setting-words .1 .1 .1 .0, (setting-words .1 .1 .1 .1 .0, (flag, (setting-words .1 .1 .1 .1 .1 .1 .0, tt))))))))
-        (unclaimed (z .N) (γ .shape .lo) σ (rowOf σ′ t) (good .memory .threads t .holding) (setting-words .1 .1 .1 .1 .0)
+        (producer-row-of z (rowOf σ′ t) 10 ten (omega arith)
+        (record { call = setting-words .call; value = tt; position = setting-words .position; held = setting-words .held; claimed = setting-words .claimed; backed = flag; spare = setting-words .spare }))
+        (unclaimed (z .N) (γ .shape .lo) σ (rowOf σ′ t) (good .memory .threads t .holding) (setting-words .claimed)
         (λ l. good .memory .threads t .has-held (omega arith)) (λ x. omega (arith, ten)) (λ x. omega (arith, ten)))
-        (setting-words .1 .1 .1 .1 .0)
+        (setting-words .claimed)
         (rw self refl)
         (set-entry (z .B) (view σ γ) (good .model) t _ _ _ _ seen-setting)
         (good .formed)

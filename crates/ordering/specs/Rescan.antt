@@ -21,7 +21,7 @@ use Rattle.model.specs.Bounds.{rescanning-crosses, rescanning-before-found, res
 use Rattle.memory.specs.Memory.{Memory}
 use Rattle.ordering.specs.View.{Ghost, placesOf, placeOf, view}
 use Rattle.ordering.specs.Good.{Good, Fine, by-need, by-cond, by-up-to}
-use Rattle.ordering.specs.Rows.{OfSorts}
+use Rattle.ordering.specs.Rows.{ConsumerWords}
 use Rattle.ordering.specs.Entries.{by-inside, slot-state}
 use Rattle.ordering.specs.Cursor.{head-most, position-most, linked-most, some-record, stays, placed, linked, at-end, entry-slot}
 use Rattle.ordering.specs.Dequeue.{is-set, is-not-set, consumer-words, consumer-at, tail-fits, head-placed, head-linked, by-cross, consumer-goes}
@@ -39,7 +39,7 @@ module _ (z : Sizes) (σ : Reader) (γ : Ghost) (good : Good z σ γ) (e : σ co
   seen : view σ γ .consumer ≡ State.rescanning (σ cursorPosition) k (σ foundPosition) g
   seen = consumer-at z σ γ good 5 e
 
-  words : OfSorts z (λ j. σ (consumer j)) 1 rescanSorts
+  words : ConsumerWords z (λ j. σ (consumer j)) rescanSorts
   words = consumer-words z σ γ good 5 e
 
   before-found : σ cursorPosition < σ foundPosition
@@ -70,7 +70,7 @@ module _ (z : Sizes) (σ : Reader) (γ : Ghost) (good : Good z σ γ) (e : σ co
       ((refl, omega arith), ((refl, omega arith), tt))
       e
       (omega arith)
-      (linked-most z σ γ good n u, (omega (arith, room), words .1 .1))
+      (record { cursor-record = linked-most z σ γ good n u; cursor-position = omega (arith, room); found-record = words .found-record; found-position = words .found-position; item-number = words .item-number; item-value = words .item-value; spare = words .spare })
       (u, m .found)
       (stays z σ γ good 5 e (z .B * σ (place r)) (σ (place n)) (σ foundPosition) _ _
       ∙ ap₂ (λ (c j : ℕ). State.rescanning c j (σ foundPosition) g) (sym end) (w ∙ ap suc (sym (placed z σ γ good r q))))
@@ -92,7 +92,7 @@ module _ (z : Sizes) (σ : Reader) (γ : Ghost) (good : Good z σ γ) (e : σ co
       ((refl, omega arith), ((refl, omega arith), ((refl, omega arith), ((refl, omega arith), ((refl, omega arith), tt)))))
       refl
       (omega arith)
-      (refl, (refl, (linked-most z σ γ good r (linked z σ γ good r q), (words .1 .0, words .1 .1 .1 .1))))
+      (record { cursor-record = refl; cursor-position = refl; found-record = linked-most z σ γ good r (linked z σ γ good r q); found-position = words .cursor-position; item-number = words .item-number; item-value = words .item-value; spare = words .spare })
       (tt, linked z σ γ good r q)
       (ap (State.found (σ cursorPosition)) (sym (placed z σ γ good r q)))
       (rescan-front (z .B) (view σ γ) (good .model) _ _ _ _ seen n p (sym (eqb-true (σ headPosition) (σ cursorPosition) b))))
@@ -104,7 +104,7 @@ module _ (z : Sizes) (σ : Reader) (γ : Ghost) (good : Good z σ γ) (e : σ co
       ((refl, omega arith), ((refl, omega arith), ((refl, omega arith), ((refl, omega arith), tt))))
       e
       (omega arith)
-      (head-most z σ γ good, (position-most z σ γ good, (linked-most z σ γ good r (linked z σ γ good r q), (words .1 .0, words .1 .1 .1 .1))))
+      (record { cursor-record = head-most z σ γ good; cursor-position = position-most z σ γ good; found-record = linked-most z σ γ good r (linked z σ γ good r q); found-position = words .cursor-position; item-number = words .item-number; item-value = words .item-value; spare = words .spare })
       (head-linked z σ γ good, linked z σ γ good r q)
       (stays z σ γ good 5 e (σ headPosition) (placeOf (placesOf σ) (σ headRecord)) (σ cursorPosition) (σ (place r)) _
       ∙ ap₂ (λ (j l : ℕ). State.rescanning (σ headPosition) j (σ cursorPosition) l) (head-placed z σ γ good) (sym (placed z σ γ good r q)))
@@ -123,13 +123,13 @@ module _ (z : Sizes) (σ : Reader) (γ : Ghost) (good : Good z σ γ) (e : σ co
       ((refl, omega arith), ((refl, omega arith), ((refl, omega arith), tt)))
       refl
       (omega arith)
-      (refl, (refl, words .1 .1))
+      (record { cursor-record = refl; cursor-position = refl; found-record = words .found-record; found-position = words .found-position; item-number = words .item-number; item-value = words .item-value; spare = words .spare })
       (tt, m .found)
       refl
       (rescan-done (z .B) (view σ γ) (good .model) _ _ _ _ seen n p (eqb-true (suc (σ cursorPosition)) (σ foundPosition) b)))
       (λ b.
       consumer-goes z σ γ good (cursorPosition := suc (σ cursorPosition) ∷ []) 5 _ ((refl, omega arith), tt) e (omega arith)
-      (words .0, (room, words .1 .1))
+      (record { cursor-record = words .cursor-record; cursor-position = room; found-record = words .found-record; found-position = words .found-position; item-number = words .item-number; item-value = words .item-value; spare = words .spare })
       (m .cursor, m .found)
       (stays z σ γ good 5 e (suc (σ cursorPosition)) _ _ _ _)
       (rescan-pass (z .B) (view σ γ) (good .model) _ _ _ _ seen n p (eqb-false (suc (σ cursorPosition)) (σ foundPosition) b))))

@@ -1,13 +1,16 @@
--- The ranges of one thread's words, taken apart and put together by its phase.
+-- The ranges of one thread's words by name, taken apart and put together by its phase.
 use mathlib.Core.Path.{_≡_, refl, subst, subst⁻¹}
-use mathlib.Core.Bool.{true}
+use mathlib.Core.Bool.{Bool, true}
 use mathlib.Core.List.{List, [], _∷_}
-use Prim.Native.Nat.{ℕ, suc, _≤_}
+use Prim.Native.Nat.{ℕ, zero, suc, _≤_, _<_}
+use native.Mathlib.Decide.{decLt}
+use native.Mathlib.Omega.{arith}
 use lib.Dec.{leb}
-use lib.ListN.{getD}
+use lib.ListN.{length, getD}
 use borrow.Author.Tests.{le-leb, leb-true, eq-eqb, eqb-true}
 use Rattle.rules.specs.Sizes.{Sizes}
-use Rattle.rules.specs.Range.{Sort, unused, exactly, number, link, record-number, most, any, ofSort, ofSorts, threadInRange}
+use Rattle.rules.specs.Range.{Sort, unused, exactly, number, link, record-number, most, any, producerSorts, consumerSorts, lastProducerPhase, lastConsumerPhase, ofSort, ofSorts, threadInRange}
+use Rattle.rules.specs.InRange.{every-at, sorts-at, sorts-of}
 use Rattle.rules.specs.Update.{and-true, both}
 
 -- What it is to be of a sort.
@@ -38,7 +41,7 @@ has-sort z record-number x e = let p = both (leb 1 x) (leb x (z .N)) e in (leb-t
 has-sort z (most n) x e = leb-true x n e
 has-sort z any x e = tt
 
--- words k, k + 1, .. of a row
+-- words k, k + 1, .. of a row: the contents
 abbrev pub OfSorts : Sizes → (ℕ → ℕ) → ℕ → List Sort → Type 0
 OfSorts z row k [] = Unit
 OfSorts z row k (s ∷ ss) = OfSort z s (row k) × OfSorts z row (suc k) ss
@@ -47,20 +50,102 @@ pub of-sorts : (z : Sizes) (row : ℕ → ℕ) (k : ℕ) (ss : List Sort) → Of
 of-sorts z row k [] h = refl
 of-sorts z row k (s ∷ ss) h = and-true (of-sort z s (row k) (h .0)) (of-sorts z row (suc k) ss (h .1))
 
-has-sorts : (z : Sizes) (row : ℕ → ℕ) (k : ℕ) (ss : List Sort) → ofSorts z row k ss ≡ true → OfSorts z row k ss
-has-sorts z row k [] e = tt
-has-sorts z row k (s ∷ ss) e =
-    let p = both (ofSort z s (row k)) (ofSorts z row (suc k) ss) e in
-    (has-sort z s (row k) (p .0), has-sorts z row (suc k) ss (p .1))
+-- a row's words, one by one
+past-end : (ss : List Sort) (j : ℕ) → length ss ≤ j → getD ss j any ≡ any
+past-end [] j h = refl
+past-end (s ∷ ss) zero h = absurd (omega arith)
+past-end (s ∷ ss) (suc j) h = past-end ss j (omega arith)
+
+module _ (z : Sizes) (row : ℕ → ℕ) (ss : List Sort) where
+  words-has : ofSorts z row 1 ss ≡ true → (j : ℕ) → OfSort z (getD ss j any) (row (suc j))
+  words-has e j = go (decLt j (length ss))
+    where
+      go : Dec (j < length ss) → OfSort z (getD ss j any) (row (suc j))
+      go (yes l) = has-sort z (getD ss j any) (row (suc j)) (sorts-at z row 1 ss e j (suc j) l (omega arith))
+      go (no l) = rw (past-end ss j (omega arith)) tt
+
+  words-of : (n : ℕ) → length ss ≤ n → ((j : ℕ) → j < n → OfSort z (getD ss j any) (row (suc j))) → ofSorts z row 1 ss ≡ true
+  words-of n few each =
+      sorts-of z row 1 ss
+      (λ j i l q.
+      let e : i ≡ suc j = omega arith in
+      rw e (of-sort z (getD ss j any) (row (suc j)) (each j (omega arith))))
+
+-- Words 1 to 7 of a producer, each of its sort.
+pub record ProducerWords (z : Sizes) (row : ℕ → ℕ) (ss : List Sort) : Type 0 where
+  pub call : OfSort z (getD ss 0 any) (row 1)
+  pub value : OfSort z (getD ss 1 any) (row 2)
+  pub position : OfSort z (getD ss 2 any) (row 3)
+  pub held : OfSort z (getD ss 3 any) (row 4)
+  pub claimed : OfSort z (getD ss 4 any) (row 5)
+  pub backed : OfSort z (getD ss 5 any) (row 6)
+  pub spare : OfSort z (getD ss 6 any) (row 7)
+
+-- Words 1 to 7 of the consumer.
+pub record ConsumerWords (z : Sizes) (row : ℕ → ℕ) (ss : List Sort) : Type 0 where
+  pub cursor-record : OfSort z (getD ss 0 any) (row 1)
+  pub cursor-position : OfSort z (getD ss 1 any) (row 2)
+  pub found-record : OfSort z (getD ss 2 any) (row 3)
+  pub found-position : OfSort z (getD ss 3 any) (row 4)
+  pub item-number : OfSort z (getD ss 4 any) (row 5)
+  pub item-value : OfSort z (getD ss 5 any) (row 6)
+  pub spare : OfSort z (getD ss 6 any) (row 7)
 
 module _ (z : Sizes) (last : ℕ) (table : List (List Sort)) (row : ℕ → ℕ) where
   -- A thread's words in range: its phase is listed, and its words are of that phase's sorts.
-  pub row-has : threadInRange z last table row ≡ true → (p : ℕ) → row 0 ≡ p → OfSorts z row 1 (getD table p [])
+  row-has : threadInRange z last table row ≡ true → (p : ℕ) → row 0 ≡ p → ofSorts z row 1 (getD table p []) ≡ true
   row-has e p q =
-      has-sorts z row 1 (getD table p [])
-      (subst (λ (x : ℕ). ofSorts z row 1 (getD table x []) ≡ true) q (both (leb (row 0) last) (ofSorts z row 1 (getD table (row 0) [])) e .1))
+      subst (λ (x : ℕ). ofSorts z row 1 (getD table x []) ≡ true) q (both (leb (row 0) last) (ofSorts z row 1 (getD table (row 0) [])) e .1)
 
-  pub row-of : (p : ℕ) → row 0 ≡ p → p ≤ last → OfSorts z row 1 (getD table p []) → threadInRange z last table row ≡ true
+  row-of : (p : ℕ) → row 0 ≡ p → p ≤ last → ofSorts z row 1 (getD table p []) ≡ true → threadInRange z last table row ≡ true
   row-of p q l h =
-      and-true (le-leb (row 0) last (rw q l))
-      (subst⁻¹ (λ (x : ℕ). ofSorts z row 1 (getD table x []) ≡ true) q (of-sorts z row 1 (getD table p []) h))
+      and-true (le-leb (row 0) last (rw q l)) (subst⁻¹ (λ (x : ℕ). ofSorts z row 1 (getD table x []) ≡ true) q h)
+
+-- no phase has more than seven words
+fewWords : List (List Sort) → ℕ → Bool
+fewWords table p = leb (length (getD table p [])) 7
+
+module _ (z : Sizes) (row : ℕ → ℕ) where
+  pub producer-row-has : threadInRange z lastProducerPhase producerSorts row ≡ true → (p : ℕ) → row 0 ≡ p → ProducerWords z row (getD producerSorts p [])
+  producer-row-has e p q =
+      let w = words-has z row (getD producerSorts p []) (row-has z lastProducerPhase producerSorts row e p q) in
+      record { call = w 0; value = w 1; position = w 2; held = w 3; claimed = w 4; backed = w 5; spare = w 6 }
+
+  pub producer-row-of : (p : ℕ) → row 0 ≡ p → p ≤ lastProducerPhase → ProducerWords z row (getD producerSorts p []) → threadInRange z lastProducerPhase producerSorts row ≡ true
+  unfolding fewWords
+  producer-row-of p q l w =
+      row-of z lastProducerPhase producerSorts row p q l
+      (words-of z row (getD producerSorts p []) 7
+      (leb-true (length (getD producerSorts p [])) 7 (every-at 12 (fewWords producerSorts) refl p (omega arith))) each)
+    where
+      each : (j : ℕ) → j < 7 → OfSort z (getD (getD producerSorts p []) j any) (row (suc j))
+      each zero h = w .call
+      each (suc zero) h = w .value
+      each (suc (suc zero)) h = w .position
+      each (suc (suc (suc zero))) h = w .held
+      each (suc (suc (suc (suc zero)))) h = w .claimed
+      each (suc (suc (suc (suc (suc zero))))) h = w .backed
+      each (suc (suc (suc (suc (suc (suc zero)))))) h = w .spare
+      each (suc (suc (suc (suc (suc (suc (suc j))))))) h = absurd (omega arith)
+
+  pub consumer-row-has : threadInRange z lastConsumerPhase consumerSorts row ≡ true → (p : ℕ) → row 0 ≡ p → ConsumerWords z row (getD consumerSorts p [])
+  consumer-row-has e p q =
+      let w = words-has z row (getD consumerSorts p []) (row-has z lastConsumerPhase consumerSorts row e p q) in
+      record { cursor-record = w 0; cursor-position = w 1; found-record = w 2; found-position = w 3; item-number = w 4; item-value = w 5; spare = w 6 }
+
+  pub consumer-row-of : (p : ℕ) → row 0 ≡ p → p ≤ lastConsumerPhase → ConsumerWords z row (getD consumerSorts p []) → threadInRange z lastConsumerPhase consumerSorts row ≡ true
+  unfolding fewWords
+  consumer-row-of p q l w =
+      row-of z lastConsumerPhase consumerSorts row p q l
+      (words-of z row (getD consumerSorts p []) 7
+      (leb-true (length (getD consumerSorts p [])) 7 (every-at 8 (fewWords consumerSorts) refl p (omega arith))) each)
+    where
+      each : (j : ℕ) → j < 7 → OfSort z (getD (getD consumerSorts p []) j any) (row (suc j))
+      each zero h = w .cursor-record
+      each (suc zero) h = w .cursor-position
+      each (suc (suc zero)) h = w .found-record
+      each (suc (suc (suc zero))) h = w .found-position
+      each (suc (suc (suc (suc zero)))) h = w .item-number
+      each (suc (suc (suc (suc (suc zero))))) h = w .item-value
+      each (suc (suc (suc (suc (suc (suc zero)))))) h = w .spare
+      each (suc (suc (suc (suc (suc (suc (suc j))))))) h = absurd (omega arith)

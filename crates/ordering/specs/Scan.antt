@@ -22,7 +22,7 @@ use Rattle.model.specs.Bounds.{scanning-reached, scanning-crosses, looking-insi
 use Rattle.memory.specs.Memory.{Memory}
 use Rattle.ordering.specs.View.{Ghost, placesOf, placeOf, view}
 use Rattle.ordering.specs.Good.{Good, Fine, by-need, by-cond, by-up-to}
-use Rattle.ordering.specs.Rows.{OfSorts}
+use Rattle.ordering.specs.Rows.{ConsumerWords}
 use Rattle.ordering.specs.Entries.{by-inside, slot-state}
 use Rattle.ordering.specs.Cursor.{head-most, position-most, linked-most, some-record, stays, placed, linked, at-end, entry-slot}
 use Rattle.ordering.specs.Dequeue.{is-set, is-not-set, consumer-words, consumer-at, tail-fits, head-placed, head-linked, tail-record-is, not-tail-record, by-cross, answers-empty, consumer-goes}
@@ -40,7 +40,7 @@ module _ (z : Sizes) (σ : Reader) (γ : Ghost) (good : Good z σ γ) where
     reached : (σ cursorPosition ≤ σ tail) × Reached (z .B) (view σ γ) (σ cursorPosition) (placeOf (placesOf σ) (σ cursorRecord))
     reached = scanning-reached (z .B) (view σ γ) (good .model) _ _ seen-scanning
 
-    cursor-words : OfSorts z (λ k. σ (consumer k)) 1 cursorSorts
+    cursor-words : ConsumerWords z (λ k. σ (consumer k)) cursorSorts
     cursor-words = consumer-words z σ γ good 3 e
 
     crosses : (r : ℕ) (q : σ cursorRecord ≡ suc r) → σ cursorPosition ≡ z .B * σ (place r) → σ (place r) ≢ γ .shape .tp
@@ -56,7 +56,7 @@ module _ (z : Sizes) (σ : Reader) (γ : Ghost) (good : Good z σ γ) where
         ((refl, omega arith), ((refl, omega arith), tt))
         e
         (omega arith)
-        (linked-most z σ γ good n u, (fits, cursor-words .1 .1))
+        (record { cursor-record = linked-most z σ γ good n u; cursor-position = fits; found-record = cursor-words .found-record; found-position = cursor-words .found-position; item-number = cursor-words .item-number; item-value = cursor-words .item-value; spare = cursor-words .spare })
         (u, m .found)
         (stays z σ γ good 3 e (z .B * σ (place r)) (σ (place n)) (σ foundPosition) _ _ ∙ ap₂ State.scanning (sym end) (w ∙ ap suc (sym (placed z σ γ good r q))))
         (scan-cross (z .B) (view σ γ) (good .model) _ _ seen-scanning (at-end z σ γ good r q (σ cursorPosition) end) other))
@@ -81,7 +81,8 @@ module _ (z : Sizes) (σ : Reader) (γ : Ghost) (good : Good z σ γ) where
       answers-empty z σ γ good (ap dequeues (seen-scanning e))
       (empty-scanned-tail (z .B) (view σ γ) (good .model) _ _ (seen-scanning e) (eqb-true (σ cursorPosition) (σ tail) c)))
       (λ c.
-      consumer-goes z σ γ good (consumerPhase := 4 ∷ []) 4 _ ((refl, omega arith), tt) refl (omega arith) (cursor-words e) (m .cursor, m .found) refl
+      let w = cursor-words e in
+      consumer-goes z σ γ good (consumerPhase := 4 ∷ []) 4 _ ((refl, omega arith), tt) refl (omega arith) (record { cursor-record = w .cursor-record; cursor-position = w .cursor-position; found-record = w .found-record; found-position = w .found-position; item-number = w .item-number; item-value = w .item-value; spare = w .spare }) (m .cursor, m .found) refl
       (scan-look (z .B) (view σ γ) (good .model) _ _ (seen-scanning e)
       (λ x. eqb-false (σ cursorPosition) (z .B * σ (place r)) b (x ∙ ap (λ (y : ℕ). z .B * y) (placed z σ γ good r q)))
       (eqb-false (σ cursorPosition) (σ tail) c)))))
@@ -104,7 +105,7 @@ module _ (z : Sizes) (σ : Reader) (γ : Ghost) (good : Good z σ γ) where
       inner : (γ .shape .lo ≤ placeOf (placesOf σ) (σ cursorRecord)) × (placeOf (placesOf σ) (σ cursorRecord) ≤ γ .shape .tp) × Inside (z .B) (σ cursorPosition) (placeOf (placesOf σ) (σ cursorRecord))
       inner = looking-inside (z .B) (view σ γ) (good .model) _ _ seen
 
-      words : OfSorts z (λ k. σ (consumer k)) 1 cursorSorts
+      words : ConsumerWords z (λ k. σ (consumer k)) cursorSorts
       words = consumer-words z σ γ good 4 e
 
       found : (r : ℕ) → List Write
@@ -128,7 +129,7 @@ module _ (z : Sizes) (σ : Reader) (γ : Ghost) (good : Good z σ γ) where
           ((refl, omega arith), ((refl, omega arith), ((refl, omega arith), ((refl, omega arith), ((refl, omega arith), tt)))))
           refl
           (omega arith)
-          (head-most z σ γ good, (position-most z σ γ good, (linked-most z σ γ good r (linked z σ γ good r q), (words .1 .0, words .1 .1 .1 .1))))
+          (record { cursor-record = head-most z σ γ good; cursor-position = position-most z σ γ good; found-record = linked-most z σ γ good r (linked z σ γ good r q); found-position = words .cursor-position; item-number = words .item-number; item-value = words .item-value; spare = words .spare })
           (head-linked z σ γ good, linked z σ γ good r q)
           (ap₂ (λ (k g : ℕ). State.rescanning (σ headPosition) k (σ cursorPosition) g) (head-placed z σ γ good) (sym (placed z σ γ good r q)))
           (look-found (z .B) (view σ γ) (good .model) _ _ seen p)
@@ -141,7 +142,7 @@ module _ (z : Sizes) (σ : Reader) (γ : Ghost) (good : Good z σ γ) where
           ((refl, omega arith), ((refl, omega arith), tt))
           refl
           (omega arith)
-          (words .0, (room, words .1 .1))
+          (record { cursor-record = words .cursor-record; cursor-position = room; found-record = words .found-record; found-position = words .found-position; item-number = words .item-number; item-value = words .item-value; spare = words .spare })
           (m .cursor, m .found)
           refl
           (look-pass (z .B) (view σ γ) (good .model) _ _ seen n))

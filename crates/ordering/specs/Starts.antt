@@ -27,7 +27,7 @@ use Rattle.memory.specs.Frames.{others-kept}
 use Rattle.memory.specs.Light.{producer-keeps}
 use Rattle.ordering.specs.View.{Ghost, view}
 use Rattle.ordering.specs.Good.{Good, Goes, Fine, by-cond, places-stay}
-use Rattle.ordering.specs.Rows.{OfSorts, of-sort, has-sort, row-of}
+use Rattle.ordering.specs.Rows.{of-sort, has-sort, ProducerWords, producer-row-of, consumer-row-of}
 use Rattle.ordering.specs.Steps.{as-seen, producers-after, unclaimed, own-words, seen-at}
 use Rattle.ordering.specs.Own.{later, consumer-own}
 use Rattle.ordering.specs.Records.{record-goes}
@@ -48,12 +48,12 @@ module _ (z : Sizes) (σ : Reader) (γ : Ghost) (good : Good z σ γ) where
   starts-enqueue t v a e room =
       record-goes z σ γ good t a (startEnqueue t v) (started (suc (σ starts))) (startWrites t v) (later γ (enqueueStarted t (suc (σ starts)) v ∷ γ .history)) in-sort
       (omega arith, ((a .0, a .1, omega arith), ((a .0, a .1, omega arith), ((a .0, a .1, omega arith), tt))))
-      (row-of z 11 producerSorts (rowOf σ′ t) 1 one (omega arith)
-      (rw self room, (tt, old .1 .1)))
+      (producer-row-of z (rowOf σ′ t) 1 one (omega arith)
+      (record { call = rw self room; value = tt; position = old .position; held = old .held; claimed = old .claimed; backed = old .backed; spare = old .spare }))
       (producer-keeps z σ σ′ (γ .shape) m (record { parts = λ x j. refl; entries = λ x u i j. refl }) t (γ .shape .tp) a (others-kept z t σ (startWrites t v) in-sort)
-      (unclaimed (z .N) (γ .shape .lo) σ (rowOf σ′ t) (m .threads t .holding) (old .1 .1 .1 .1 .0)
+      (unclaimed (z .N) (γ .shape .lo) σ (rowOf σ′ t) (m .threads t .holding) (old .claimed)
       (λ l. absurd (omega (arith, one))) (λ x. omega (arith, one)) (λ x. omega (arith, one)))
-      (old .1 .1 .1 .1 .0)
+      (old .claimed)
       (m .head-tail)
       (m .tail-last)
       (m .tail-is)
@@ -77,7 +77,7 @@ module _ (z : Sizes) (σ : Reader) (γ : Ghost) (good : Good z σ γ) where
       σ′ : Reader
       σ′ = after σ (startWrites t v)
 
-      old : OfSorts z (rowOf σ t) 1 idleSorts
+      old : ProducerWords z (rowOf σ t) idleSorts
       old = own-words z σ γ good t a 0 e
 
       one : rowOf σ′ t 0 ≡ 1
@@ -113,8 +113,9 @@ module _ (z : Sizes) (σ : Reader) (γ : Ghost) (good : Good z σ γ) where
       (λ b. ((λ q. omega arith), (λ q. omega arith)))
       (λ b.
       let e : σ consumerPhase ≡ 0 = eqb-true (σ consumerPhase) 0 (not-false (eqb (σ consumerPhase) 0) b) in
+      let words = consumer-words z σ γ good 0 e in
       consumer-own z σ γ good startDequeue refl ok (consumerPhase := 1 ∷ []) State.front (dequeueStarted ∷ γ .history) ((refl, omega arith), tt)
-      (row-of z 7 consumerSorts (λ k. after σ (consumerPhase := 1 ∷ []) (consumer k)) 1 refl (omega arith) (consumer-words z σ γ good 0 e))
+      (consumer-row-of z (λ k. after σ (consumerPhase := 1 ∷ []) (consumer k)) 1 refl (omega arith) (record { cursor-record = words .cursor-record; cursor-position = words .cursor-position; found-record = words .found-record; found-position = words .found-position; item-number = words .item-number; item-value = words .item-value; spare = words .spare }))
       (good .memory .cursor, good .memory .found)
       refl
       (begin-dequeue (z .B) (view σ γ) (good .model))

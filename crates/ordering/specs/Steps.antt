@@ -30,7 +30,7 @@ use Rattle.memory.specs.Frames.{OthersKept, others-kept}
 use Rattle.memory.specs.Light.{Light, producer-keeps}
 use Rattle.ordering.specs.View.{Ghost, placesOf, placeOf, producerAt, producerOf, producersOf, view, Agrees, cellOf}
 use Rattle.ordering.specs.Good.{Good, Goes, places-stay}
-use Rattle.ordering.specs.Rows.{OfSorts, row-has}
+use Rattle.ordering.specs.Rows.{ProducerWords, producer-row-has}
 
 -- a state with other producers
 abbrev pub withProducers : State → (ℕ → Producer) → State
@@ -105,8 +105,8 @@ unclaimed N lo σ row holding none some not-five not-eleven =
 
 module _ (z : Sizes) (σ : Reader) (γ : Ghost) (good : Good z σ γ) (t : ℕ) (a-producer : (1 ≤ t) × (t ≤ z .P)) where
   -- the producer's words 1 to 7, by its phase
-  pub own-words : (p : ℕ) → σ (phase t) ≡ p → OfSorts z (rowOf σ t) 1 (getD producerSorts p [])
-  own-words = row-has z 11 producerSorts (rowOf σ t) (good .range .producing t (a-producer .0) (a-producer .1))
+  pub own-words : (p : ℕ) → σ (phase t) ≡ p → ProducerWords z (rowOf σ t) (getD producerSorts p [])
+  own-words = producer-row-has z (rowOf σ t) (good .range .producing t (a-producer .0) (a-producer .1))
 
   -- the producer of the position machine, by its phase
   pub seen-at : (p : ℕ) → σ (phase t) ≡ p

@@ -27,7 +27,7 @@ use Rattle.model.specs.Bounds.{found-found, holding-found}
 use Rattle.memory.specs.Memory.{Memory}
 use Rattle.ordering.specs.View.{Ghost, placesOf, placeOf, view, AgreesWith}
 use Rattle.ordering.specs.Good.{Good, Goes, Fine, by-need, by-cond, by-up-to}
-use Rattle.ordering.specs.Rows.{OfSorts, of-sort, has-sort}
+use Rattle.ordering.specs.Rows.{ConsumerWords, of-sort, has-sort}
 use Rattle.ordering.specs.Entries.{other-record, other-entry, by-inside, Slot, slot, slot-changes, slot-number, slot-value}
 use Rattle.ordering.specs.Cursor.{some-record}
 use Rattle.ordering.specs.Dequeue.{consumer-words, consumer-at, tail-fits, resting-in-range, consumer-goes, consumer-light}
@@ -58,22 +58,18 @@ module _ (z : Sizes) (σ : Reader) (γ : Ghost) (good : Good z σ γ) where
       _
       ((refl, omega arith), ((refl, omega arith), ((refl, omega arith), tt)))
       refl
-      (omega arith) (
-        words .0,
-        (
-          words .1 .0,
-          (
-            words .1 .1 .0,
-            (
-              words .1 .1 .1 .0,
-              (
-                has-sort z number (σ (entryNumber r (index z σ r (σ foundPosition)))) (good .range .words (entryNumber r (index z σ r (σ foundPosition))) (s .1 .fits, s .1 .here .below, omega arith)),
-                (tt, (words .1 .1 .1 .1 .1 .1 .0, tt)),
-              ),
-            ),
-          ),
-        ),
-      )
+      (omega arith)
+      (record {
+        cursor-record = words .cursor-record;
+        cursor-position = words .cursor-position;
+        found-record = words .found-record;
+        found-position = words .found-position;
+        item-number =
+            has-sort z number (σ (entryNumber r (index z σ r (σ foundPosition))))
+            (good .range .words (entryNumber r (index z σ r (σ foundPosition))) (s .1 .fits, s .1 .here .below, omega arith));
+        item-value = tt;
+        spare = words .spare;
+      })
       (m .cursor, m .found)
       (ap₂ (λ (n v : ℕ). State.holding (σ foundPosition) (placeOf (placesOf σ) (σ foundRecord)) (record { number = n; value = v }))
       (slot-number z σ γ r (σ foundPosition) (s .1) (good .agrees)) (slot-value z σ γ r (σ foundPosition) (s .1) (good .agrees)))
@@ -85,7 +81,7 @@ module _ (z : Sizes) (σ : Reader) (γ : Ghost) (good : Good z σ γ) where
       found : Found (z .B) (view σ γ) (σ foundPosition) (placeOf (placesOf σ) (σ foundRecord))
       found = found-found (z .B) (view σ γ) (good .model) _ _ seen
 
-      words : OfSorts z (λ j. σ (consumer j)) 1 foundSorts
+      words : ConsumerWords z (λ j. σ (consumer j)) foundSorts
       words = consumer-words z σ γ good 6 e
 
   -- 7. Mark handled; if found is the head position, it advances. Reply item.

@@ -27,7 +27,7 @@ use Rattle.memory.specs.Ends.{held-before-last}
 use Rattle.memory.specs.Frames.{others-kept}
 use Rattle.ordering.specs.View.{Ghost, placesOf, placeOf, producerAt, producersOf, view}
 use Rattle.ordering.specs.Good.{Good, Goes, Fine, by-need, by-cond}
-use Rattle.ordering.specs.Rows.{OfSorts, of-sort, has-sort, row-of}
+use Rattle.ordering.specs.Rows.{ProducerWords, of-sort, has-sort, producer-row-of}
 use Rattle.ordering.specs.Steps.{as-seen, producers-after, goes-on-same, unclaimed, own-words, seen-at, producer-goes}
 use Rattle.ordering.specs.Own.{producer-own}
 
@@ -36,16 +36,15 @@ module _ (z : Sizes) (σ : Reader) (γ : Ghost) (good : Good z σ γ) (t : ℕ) 
   self = eq-eqb t t refl
 
   -- What a producer's words are in phase p′, one of 2 to 9 but 5, with the record x held and the flag f.
-  abbrev Row : Reader → (p′ x f : ℕ) → Type 0
-  Row σ′ p′ x f =
-      (σ′ (producer t 0) ≡ p′)
-      × (σ′ (producer t 1) ≡ σ (call t))
-      × (σ′ (producer t 2) ≡ σ (value t))
-      × (σ′ (producer t 3) ≡ σ (position t))
-      × (σ′ (producer t 4) ≡ x)
-      × (σ′ (producer t 5) ≡ σ (claimed t))
-      × (σ′ (producer t 6) ≡ f)
-      × (σ′ (producer t 7) ≡ σ (producer t 7))
+  record Row (σ′ : Reader) (p′ x f : ℕ) : Type 0 where
+    in-phase : σ′ (producer t 0) ≡ p′
+    call : σ′ (producer t 1) ≡ σ (producer t 1)
+    value : σ′ (producer t 2) ≡ σ (producer t 2)
+    position : σ′ (producer t 3) ≡ σ (producer t 3)
+    held : σ′ (producer t 4) ≡ x
+    claimed : σ′ (producer t 5) ≡ σ (producer t 5)
+    backed : σ′ (producer t 6) ≡ f
+    spare : σ′ (producer t 7) ≡ σ (producer t 7)
 
   -- A step in such a phase p that goes on to such a phase p′.
   walks : (p p′ x f : ℕ) (ws : List Write) (y : Producer) → σ (phase t) ≡ p
@@ -57,13 +56,13 @@ module _ (z : Sizes) (σ : Reader) (γ : Ghost) (good : Good z σ γ) (t : ℕ) 
       → Goes z σ γ (step t) going ws
   walks p p′ x f ws y e sorts sorts′ l not-five own row fits flag holding some seen model =
       producer-own z σ γ good t a-producer going ws y (γ .history) own
-      (row-of z 11 producerSorts (rowOf σ′ t) p′ (row .0) (omega arith)
-      (subst⁻¹ (OfSorts z (rowOf σ′ t) 1) sorts′
-      (rw (row .1) (old .0), (tt, (rw (row .3) (old .1 .1 .0), (rw (row .4) fits, (none, (rw (row .6) flag, (row .7 ∙ old .1 .1 .1 .1 .1 .1 .0, tt)))))))))
-      (unclaimed (z .N) (γ .shape .lo) σ (rowOf σ′ t) (rw (row .4) holding) none
-      (λ h. rw (row .4) (some (omega (arith, row .0))))
-      (λ q. not-five (sym (row .0) ∙ q))
-      (λ q. omega (arith, row .0)))
+      (producer-row-of z (rowOf σ′ t) p′ (row .in-phase) (omega arith)
+      (subst⁻¹ (ProducerWords z (rowOf σ′ t)) sorts′
+      (record { call = rw (row .call) (old .call); value = tt; position = rw (row .position) (old .position); held = rw (row .held) fits; claimed = none; backed = rw (row .backed) flag; spare = row .spare ∙ old .spare })))
+      (unclaimed (z .N) (γ .shape .lo) σ (rowOf σ′ t) (rw (row .held) holding) none
+      (λ h. rw (row .held) (some (omega (arith, row .in-phase))))
+      (λ q. not-five (sym (row .in-phase) ∙ q))
+      (λ q. omega (arith, row .in-phase)))
       none
       (shows ∙ seen)
       model
@@ -73,16 +72,16 @@ module _ (z : Sizes) (σ : Reader) (γ : Ghost) (good : Good z σ γ) (t : ℕ) 
       σ′ : Reader
       σ′ = after σ ws
 
-      old : OfSorts z (rowOf σ t) 1 placedSorts
-      old = subst (OfSorts z (rowOf σ t) 1) sorts (own-words z σ γ good t a-producer p e)
+      old : ProducerWords z (rowOf σ t) placedSorts
+      old = subst (ProducerWords z (rowOf σ t)) sorts (own-words z σ γ good t a-producer p e)
 
       none : σ′ (producer t 5) ≡ 0
-      none = row .5 ∙ old .1 .1 .1 .1 .0
+      none = row .claimed ∙ old .claimed
 
       shows : producersOf σ′ t ≡ producerAt p′ (σ (call t)) (σ (value t)) (σ (position t)) (placeOf (placesOf σ) x)
       shows =
-          λ i. producerAt (row .0 i) (row .1 i) (row .2 i) (row .3 i)
-          (placeOf (λ r. own-leaves (ofProducer t) σ ws own (place r) refl i) (row .4 i))
+          λ i. producerAt (row .in-phase i) (row .call i) (row .value i) (row .position i)
+          (placeOf (λ r. own-leaves (ofProducer t) σ ws own (place r) refl i) (row .held i))
 
   -- the producer's place before the step
   k : ℕ
@@ -90,10 +89,10 @@ module _ (z : Sizes) (σ : Reader) (γ : Ghost) (good : Good z σ γ) (t : ℕ) 
 
   -- the flag stays as it was
   flag-most : (p : ℕ) → σ (phase t) ≡ p → getD producerSorts p [] ≡ placedSorts → σ (producer t 6) ≤ 1
-  flag-most p e q = subst (OfSorts z (rowOf σ t) 1) q (own-words z σ γ good t a-producer p e) .1 .1 .1 .1 .1 .0
+  flag-most p e q = subst (ProducerWords z (rowOf σ t)) q (own-words z σ γ good t a-producer p e) .backed
 
   held-most : (p : ℕ) → σ (phase t) ≡ p → getD producerSorts p [] ≡ placedSorts → σ (held t) ≤ z .N
-  held-most p e q = subst (OfSorts z (rowOf σ t) 1) q (own-words z σ γ good t a-producer p e) .1 .1 .1 .0
+  held-most p e q = subst (ProducerWords z (rowOf σ t)) q (own-words z σ γ good t a-producer p e) .held
 
   -- a step that writes the phase alone, with a record held before and after
   phase-alone : (p p′ : ℕ) (y : Producer) → σ (phase t) ≡ p → 3 ≤ p
@@ -104,7 +103,7 @@ module _ (z : Sizes) (σ : Reader) (γ : Ghost) (good : Good z σ γ) (t : ℕ) 
   phase-alone p p′ y e past sorts sorts′ l not-five seen model =
       walks p p′ (σ (held t)) (σ (producer t 6)) (phase t := p′ ∷ []) y e sorts sorts′ l not-five
       ((refl, omega arith), tt)
-      (rw self refl, refl, refl, refl, refl, refl, refl, refl)
+      (record { in-phase = rw self refl; call = refl; value = refl; position = refl; held = refl; claimed = refl; backed = refl; spare = refl })
       (held-most p e sorts)
       (flag-most p e sorts)
       (good .memory .threads t .holding)
@@ -171,7 +170,7 @@ module _ (z : Sizes) (σ : Reader) (γ : Ghost) (good : Good z σ γ) (t : ℕ) 
       let linked : σ (used r) ≡ 2 = ap (λ (x : ℕ). σ (used x)) is ∙ m .chain .linked (γ .shape .tp) low high in
       chooses 2 r (σ (producer t 6)) (held t := suc r ∷ phase t := choose z σ t r ∷ []) e refl
       ((refl, omega arith), ((refl, omega arith), tt))
-      (rw self refl, refl, refl, refl, rw self refl, refl, refl, refl)
+      (record { in-phase = rw self refl; call = refl; value = refl; position = refl; held = rw self refl; claimed = refl; backed = refl; spare = refl })
       (omega (arith, has-sort z record-number (σ tailRecord) (good .range .words tailRecord (omega arith)) .1))
       (flag-most 2 e refl)
       (inl linked)
@@ -217,7 +216,7 @@ module _ (z : Sizes) (σ : Reader) (γ : Ghost) (good : Good z σ γ) (t : ℕ) 
           let same : p ≡ γ .shape .at j = omega arith in
           chooses 7 p 1 (held t := suc p ∷ backed t := 1 ∷ phase t := choose z σ t p ∷ []) e refl
           ((refl, omega arith), ((refl, omega arith), ((refl, omega arith), tt)))
-          (rw self refl, refl, refl, refl, rw self refl, refl, rw self refl, refl)
+          (record { in-phase = rw self refl; call = refl; value = refl; position = refl; held = rw self refl; claimed = refl; backed = rw self refl; spare = refl })
           (omega (arith, m .chain .fits j (omega arith) (omega arith)))
           (omega arith)
           (inl (ap (λ (x : ℕ). σ (used x)) same ∙ m .chain .linked j (omega arith) (omega arith)))
@@ -260,7 +259,7 @@ module _ (z : Sizes) (σ : Reader) (γ : Ghost) (good : Good z σ γ) (t : ℕ) 
         (omega arith, ((a-producer .0, a-producer .1, omega arith), tt))
         (record { parts = λ x j. refl; entries = λ x u i j. refl })
         (refl, refl, refl)
-        (row-of z 11 producerSorts (rowOf σ′ t) 2 two (omega arith) (own-words z σ γ good t a-producer 6 e))
+        (producer-row-of z (rowOf σ′ t) 2 two (omega arith) (record { call = old .call; value = old .value; position = old .position; held = old .held; claimed = old .claimed; backed = old .backed; spare = old .spare }))
         (unclaimed (z .N) (γ .shape .lo) σ (rowOf σ′ t) (good .memory .threads t .holding) none
         (λ l. absurd (omega (arith, two))) (λ x. omega (arith, two)) (λ x. omega (arith, two)))
         none
@@ -284,8 +283,11 @@ module _ (z : Sizes) (σ : Reader) (γ : Ghost) (good : Good z σ γ) (t : ℕ) 
           (refl, tt),
         )
 
+        old : ProducerWords z (rowOf σ t) placedSorts
+        old = own-words z σ γ good t a-producer 6 e
+
         none : σ (claimed t) ≡ 0
-        none = own-words z σ γ good t a-producer 6 e .1 .1 .1 .1 .0
+        none = old .claimed
 
         two : rowOf σ′ t 0 ≡ 2
         two = rw self refl
