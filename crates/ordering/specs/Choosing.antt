@@ -12,14 +12,14 @@ use Rattle.rules.specs.Rule.{Answer, refuse, reply, Response, refused, accepted
 use Rattle.rules.specs.Request.{Request, Result, applied, answer, result, open-store}
 use Rattle.rules.specs.Play.{Played, events, playOne, play}
 use Rattle.rules.specs.Readback.{reader-writes}
-use Rattle.ordering.specs.Good.{Fine}
-use Rattle.ordering.specs.Every.{answer-fine}
+use Rattle.simulation.specs.Good.{Fine}
+use Rattle.simulation.specs.Every.{answer-fine}
 use Rattle.ordering.specs.Theorem.{Kept, result-is, keeps, opened-kept}
-use Rattle.ordering.specs.Renaming.{unchanged}
-use Rattle.ordering.specs.Alike.{alike-itself}
-use Rattle.ordering.specs.AlikeAnswers.{Stores, Like}
-use Rattle.ordering.specs.AlikeRecords.{Twins}
-use Rattle.ordering.specs.AlikeEvery.{answer-alike}
+use Rattle.renaming.specs.Renaming.{unchanged}
+use Rattle.renaming.specs.Alike.{alike-itself}
+use Rattle.renaming.specs.AlikeAnswers.{Stores, Like}
+use Rattle.renaming.specs.AlikeRecords.{Twins}
+use Rattle.renaming.specs.AlikeEvery.{answer-alike}
 use Rattle.ordering.specs.Choice.{SameReplies, No-Reply-Depends}
 
 -- What every call keeps of two runs.

@@ -21,12 +21,12 @@ use Rattle.rules.specs.Readback.{reader-writes, length-writes}
 use Rattle.rules.specs.Refusal.{accepted-not-refused}
 use Rattle.model.specs.Items.{items, items-rest}
 use Rattle.model.specs.State.{State}
-use Rattle.ordering.specs.View.{Ghost, view}
-use Rattle.ordering.specs.Good.{Good, Fine}
-use Rattle.ordering.specs.Every.{answer-fine}
-use Rattle.ordering.specs.Opened.{open-fits, openGhost, open-reads, open-good}
-use Rattle.ordering.specs.Left.{items-left}
-use Rattle.ordering.specs.Admission.{sizes-are, admitted-is}
+use Rattle.simulation.specs.View.{Ghost, view}
+use Rattle.simulation.specs.Good.{Good, Fine}
+use Rattle.simulation.specs.Every.{answer-fine}
+use Rattle.simulation.specs.Opened.{open-fits, openGhost, open-reads, open-good}
+use Rattle.simulation.specs.Left.{items-left}
+use Rattle.simulation.specs.Admission.{sizes-are, admitted-is}
 use Rattle.ordering.specs.Demand.{Ordered, Demand-3}
 
 -- What every call keeps.

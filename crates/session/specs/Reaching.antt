@@ -23,7 +23,7 @@ use Rattle.rules.specs.Rule.{Answer, refuse, reply, Response, refused, accepted
 use Rattle.rules.specs.Refusal.{accepted-not-refused}
 use Rattle.rules.specs.Request.{Result, Request, startEnqueue, startDequeue, step, applied, open-store, opened, startingEnqueue, answer, sizesOf, admitted, result}
 use Rattle.rules.specs.Play.{Played, events, endOfEnqueue, playOne, play}
-use Rattle.ordering.specs.Good.{by-cond}
+use Rattle.simulation.specs.Good.{by-cond}
 use Rattle.ordering.specs.Theorem.{demand-3}
 use Rattle.protocol.specs.declared.Line.{Line}
 use Rattle.protocol.specs.declared.Line.the-variants.{Open, Enqueue, Dequeue, Step, Bad}

@@ -1,0 +1,218 @@
+-- The consumer's step on two stores alike, phases 1 to 7: answers alike. From what the stores share of linked records, the only
+-- ones that the consumer comes to.
+use mathlib.Core.Path.{_≡_, refl, ap}
+use mathlib.Core.List.{List, [], _∷_}
+use Prim.Native.Nat.{ℕ, zero, suc}
+use native.Mathlib.Omega.{arith}
+use lib.Dec.{eqb}
+use Rattle.rules.specs.Sizes.{Sizes}
+use Rattle.rules.specs.Cell.{Reader, Write, _:=_, clearConsumer, held, tail, tailRecord, headRecord, headPosition, consumerPhase, cursorRecord, cursorPosition, foundRecord, foundPosition, itemNumber, itemValue, place, used, state, entryNumber, entryValue}
+use Rattle.rules.specs.Update.{after}
+use Rattle.rules.specs.Rule.{Answer, going, empty, item, reply, goes, atEnd, cross}
+use Rattle.rules.specs.Consumer.{byState, endsEmpty, front, readTail, scan, readEntry, rescanned, rescan, readItem, markHandled}
+use Rattle.memory.specs.Memory.{Memory}
+use Rattle.renaming.specs.Renaming.{renamed, writesTo}
+use Rattle.renaming.specs.Alike.{Alike}
+use Rattle.renaming.specs.AlikeAnswers.{Like, not-relinked, by-cond, by-up-to, by-inside, by-need, by-cross, by-plain}
+use Rattle.renaming.specs.AlikeRecords.{Twins, head-linked, cursor-linked, found-linked, next-linked, tail-test}
+
+module _ {z : Sizes} {σ τ : Reader} (pair : Twins z σ τ) where
+  abbrev f : ℕ → ℕ
+  f = pair .stores .renaming .to
+
+  abbrev a : Alike f σ τ
+  a = pair .stores .alike
+
+  m : Memory z σ (pair .γ .shape)
+  m = pair .good .memory
+
+  by-state : (x y : ℕ) {b s h b′ s′ h′ : Answer} → y ≡ x → Like z σ τ b b′ → Like z σ τ s s′ → Like z σ τ h h′
+      → Like z σ τ (byState x b s h) (byState y b′ s′ h′)
+  by-state zero y e blank set handled = rw e blank
+  by-state (suc zero) y e blank set handled = rw e set
+  by-state (suc (suc x)) y e blank set handled = rw e handled
+
+  ends-empty : Like z σ τ endsEmpty endsEmpty
+  ends-empty = by-plain (pair .stores) empty (clearConsumer ∷ []) _ refl (λ s u. u) (λ t s e. e)
+
+  tail-same : τ tail ≡ σ tail
+  tail-same = a .words tail tt
+
+  head-same : τ headRecord ≡ renamed f (σ headRecord)
+  head-same = a .words headRecord tt
+
+  position-same : τ headPosition ≡ σ headPosition
+  position-same = a .words headPosition tt
+
+  cursor-same : τ cursorPosition ≡ σ cursorPosition
+  cursor-same = a .words cursorPosition tt
+
+  found-same : τ foundPosition ≡ σ foundPosition
+  found-same = a .words foundPosition tt
+
+  -- A linked record has the same place and entries; whether a position stands at its end is the same.
+  place-same : (r : ℕ) → σ (used r) ≡ 2 → τ (place (f r)) ≡ σ (place r)
+  place-same r u = a .linked r u .placed
+
+  state-same : (r : ℕ) → σ (used r) ≡ 2 → (i : ℕ) → τ (state (f r) i) ≡ σ (state r i)
+  state-same r u i = a .linked r u .entries i 0
+
+  end-same : (r : ℕ) → σ (used r) ≡ 2 → (p q : ℕ) → q ≡ p → atEnd z τ (f r) q ≡ atEnd z σ r p
+  end-same r u p q e = rw (place-same r u, e) refl
+
+  crosses : (r : ℕ) (k k′ : ℕ → ℕ → Answer) → σ (used r) ≡ 2 → ((n p : ℕ) → σ (used n) ≡ 2 → Like z σ τ (k n p) (k′ (f n) p))
+      → Like z σ τ (cross z σ r k) (cross z τ (f r) k′)
+  crosses r k k′ u = by-cross (pair .stores) r k k′ u (λ n e. next-linked m r u n e .0)
+
+  -- 1. Front.
+  pub front-alike : Like z σ τ (front z σ) (front z τ)
+  unfolding front
+  front-alike =
+      by-need (pair .stores) (σ headRecord) (τ headRecord) _ _ head-same
+      (λ h q.
+      let u : σ (used h) ≡ 2 = head-linked m h q in
+      by-cond (atEnd z σ h (σ headPosition)) (atEnd z τ (f h) (τ headPosition)) (end-same h u _ _ position-same)
+      (λ b.
+      by-cond (eqb (σ tailRecord) (suc h)) (eqb (τ tailRecord) (suc (f h))) (tail-test pair h)
+      (λ c. ends-empty)
+      (λ c.
+      crosses h (λ n p. goes (headRecord := suc n ∷ headPosition := p ∷ used h := 3 ∷ [])) (λ n p. goes (headRecord := suc n ∷ headPosition := p ∷ used (f h) := 3 ∷ [])) u
+      (λ n p l. by-plain (pair .stores) going (headRecord := suc n ∷ headPosition := p ∷ used h := 3 ∷ []) _ refl (λ s w. not-relinked (eqb h s) 3 (σ (used s)) (λ x. omega arith) w) (λ t s e. e))))
+      (λ b.
+      by-inside h (f h) (σ headPosition) (τ headPosition) (place-same h u) position-same
+      (λ i.
+      by-state (σ (state h i)) (τ (state (f h) i)) (state-same h u i)
+      (by-plain (pair .stores) going (consumerPhase := 2 ∷ []) _ refl (λ s w. w) (λ t s e. e))
+      (by-plain (pair .stores) going (foundRecord := suc h ∷ foundPosition := σ headPosition ∷ consumerPhase := 6 ∷ [])
+      (foundRecord := suc (f h) ∷ foundPosition := τ headPosition ∷ consumerPhase := 6 ∷ []) (rw position-same refl) (λ s w. w) (λ t s e. e))
+      (by-up-to (z .M) (suc (σ headPosition)) (suc (τ headPosition)) (ap suc position-same)
+      (by-plain (pair .stores) going (headPosition := suc (σ headPosition) ∷ []) (headPosition := suc (τ headPosition) ∷ []) (rw position-same refl) (λ s w. w) (λ t s e. e))))))
+
+  -- 2. Read tail.
+  pub read-tail-alike : Like z σ τ (readTail z σ) (readTail z τ)
+  unfolding readTail
+  read-tail-alike =
+      by-cond (eqb (σ tail) (σ headPosition)) (eqb (τ tail) (τ headPosition)) (rw (tail-same, position-same) refl)
+      (λ b. ends-empty)
+      (λ b.
+      by-up-to (z .M) (suc (σ headPosition)) (suc (τ headPosition)) (ap suc position-same)
+      (by-plain (pair .stores) going (cursorRecord := σ headRecord ∷ cursorPosition := suc (σ headPosition) ∷ consumerPhase := 3 ∷ [])
+      (cursorRecord := τ headRecord ∷ cursorPosition := suc (τ headPosition) ∷ consumerPhase := 3 ∷ []) (rw (head-same, position-same) refl) (λ s w. w) (λ t s e. e)))
+
+  -- 3. Scan.
+  pub scan-alike : Like z σ τ (scan z σ) (scan z τ)
+  unfolding scan
+  scan-alike =
+      by-need (pair .stores) (σ cursorRecord) (τ cursorRecord) _ _ (a .words cursorRecord tt)
+      (λ r q.
+      let u : σ (used r) ≡ 2 = cursor-linked m r q in
+      by-cond (atEnd z σ r (σ cursorPosition)) (atEnd z τ (f r) (τ cursorPosition)) (end-same r u _ _ cursor-same)
+      (λ b.
+      by-cond (eqb (σ tailRecord) (suc r)) (eqb (τ tailRecord) (suc (f r))) (tail-test pair r)
+      (λ c. ends-empty)
+      (λ c.
+      crosses r (λ n p. goes (cursorRecord := suc n ∷ cursorPosition := p ∷ [])) (λ n p. goes (cursorRecord := suc n ∷ cursorPosition := p ∷ [])) u
+      (λ n p l. by-plain (pair .stores) going (cursorRecord := suc n ∷ cursorPosition := p ∷ []) _ refl (λ s w. w) (λ t s e. e))))
+      (λ b.
+      by-cond (eqb (σ cursorPosition) (σ tail)) (eqb (τ cursorPosition) (τ tail)) (rw (cursor-same, tail-same) refl)
+      (λ c. ends-empty)
+      (λ c. by-plain (pair .stores) going (consumerPhase := 4 ∷ []) _ refl (λ s w. w) (λ t s e. e))))
+
+  -- 4. Read the entry.
+  pub read-entry-alike : Like z σ τ (readEntry z σ) (readEntry z τ)
+  unfolding readEntry
+  read-entry-alike =
+      by-need (pair .stores) (σ cursorRecord) (τ cursorRecord) _ _ (a .words cursorRecord tt)
+      (λ r q.
+      let u : σ (used r) ≡ 2 = cursor-linked m r q in
+      by-inside r (f r) (σ cursorPosition) (τ cursorPosition) (place-same r u) cursor-same
+      (λ i.
+      by-cond (eqb (σ (state r i)) 1) (eqb (τ (state (f r) i)) 1) (rw (state-same r u i) refl)
+      (λ b.
+      by-plain (pair .stores) going
+      (foundRecord := suc r ∷ foundPosition := σ cursorPosition ∷ cursorRecord := σ headRecord ∷ cursorPosition := σ headPosition ∷ consumerPhase := 5 ∷ [])
+      (foundRecord := suc (f r) ∷ foundPosition := τ cursorPosition ∷ cursorRecord := τ headRecord ∷ cursorPosition := τ headPosition ∷ consumerPhase := 5 ∷ [])
+      (rw (cursor-same, head-same, position-same) refl) (λ s w. w) (λ t s e. e))
+      (λ b.
+      by-up-to (z .M) (suc (σ cursorPosition)) (suc (τ cursorPosition)) (ap suc cursor-same)
+      (by-plain (pair .stores) going (cursorPosition := suc (σ cursorPosition) ∷ consumerPhase := 3 ∷ []) (cursorPosition := suc (τ cursorPosition) ∷ consumerPhase := 3 ∷ [])
+      (rw cursor-same refl) (λ s w. w) (λ t s e. e)))))
+
+  -- 5. Rescan. Found is the cursor's entry; the cursor returns to the head; the step goes to 6.
+  abbrev refound : Reader → ℕ → List Write → List Write
+  refound κ r rest = foundRecord := suc r ∷ foundPosition := κ cursorPosition ∷ rest
+
+  abbrev toHead : Reader → List Write
+  toHead κ = cursorRecord := κ headRecord ∷ cursorPosition := κ headPosition ∷ []
+
+  abbrev toItem : List Write
+  toItem = cursorRecord := 0 ∷ cursorPosition := 0 ∷ consumerPhase := 6 ∷ []
+
+  pub rescan-alike : Like z σ τ (rescan z σ) (rescan z τ)
+  unfolding rescan
+  rescan-alike =
+      by-need (pair .stores) (σ cursorRecord) (τ cursorRecord) _ _ (a .words cursorRecord tt)
+      (λ r q.
+      let u : σ (used r) ≡ 2 = cursor-linked m r q in
+      by-cond (atEnd z σ r (σ cursorPosition)) (atEnd z τ (f r) (τ cursorPosition)) (end-same r u _ _ cursor-same)
+      (λ b.
+      crosses r
+      (λ n p. rescanned z σ p (σ foundPosition) (cursorRecord := suc n ∷ cursorPosition := p ∷ []) [])
+      (λ n p. rescanned z τ p (τ foundPosition) (cursorRecord := suc n ∷ cursorPosition := p ∷ []) []) u
+      (λ n p l.
+      by-cond (eqb p (σ foundPosition)) (eqb p (τ foundPosition)) (rw found-same refl)
+      (λ c. by-plain (pair .stores) going toItem _ refl (λ s w. w) (λ t s e. e))
+      (λ c. by-plain (pair .stores) going (cursorRecord := suc n ∷ cursorPosition := p ∷ []) _ refl (λ s w. w) (λ t s e. e))))
+      (λ b.
+      by-inside r (f r) (σ cursorPosition) (τ cursorPosition) (place-same r u) cursor-same
+      (λ i.
+      by-cond (eqb (σ (state r i)) 1) (eqb (τ (state (f r) i)) 1) (rw (state-same r u i) refl)
+      (λ c.
+      by-cond (eqb (σ headPosition) (σ cursorPosition)) (eqb (τ headPosition) (τ cursorPosition)) (rw (position-same, cursor-same) refl)
+      (λ d. by-plain (pair .stores) going (refound σ r toItem) (refound τ (f r) toItem) (rw cursor-same refl) (λ s w. w) (λ t s e. e))
+      (λ d. by-plain (pair .stores) going (refound σ r (toHead σ)) (refound τ (f r) (toHead τ)) (rw (cursor-same, head-same, position-same) refl) (λ s w. w) (λ t s e. e)))
+      (λ c.
+      by-up-to (z .M) (suc (σ cursorPosition)) (suc (τ cursorPosition)) (ap suc cursor-same)
+      (by-cond (eqb (suc (σ cursorPosition)) (σ foundPosition)) (eqb (suc (τ cursorPosition)) (τ foundPosition)) (rw (cursor-same, found-same) refl)
+      (λ d. by-plain (pair .stores) going toItem toItem refl (λ s w. w) (λ t s e. e))
+      (λ d.
+      by-plain (pair .stores) going (cursorPosition := suc (σ cursorPosition) ∷ []) (cursorPosition := suc (τ cursorPosition) ∷ []) (rw cursor-same refl) (λ s w. w) (λ t s e. e)))))))
+
+  -- 6. Read call number and value.
+  pub read-item-alike : Like z σ τ (readItem z σ) (readItem z τ)
+  unfolding readItem
+  read-item-alike =
+      by-need (pair .stores) (σ foundRecord) (τ foundRecord) _ _ (a .words foundRecord tt)
+      (λ r q.
+      let u : σ (used r) ≡ 2 = found-linked m r q in
+      by-inside r (f r) (σ foundPosition) (τ foundPosition) (place-same r u) found-same
+      (λ i.
+      let number : τ (entryNumber (f r) i) ≡ σ (entryNumber r i) = a .linked r u .entries i 1 in
+      let what : τ (entryValue (f r) i) ≡ σ (entryValue r i) = a .linked r u .entries i 2 in
+      by-plain (pair .stores) going (itemNumber := σ (entryNumber r i) ∷ itemValue := σ (entryValue r i) ∷ consumerPhase := 7 ∷ [])
+      (itemNumber := τ (entryNumber (f r) i) ∷ itemValue := τ (entryValue (f r) i) ∷ consumerPhase := 7 ∷ []) (rw (number, what) refl) (λ s w. w) (λ t s e. e)))
+
+  -- 7. Mark handled. Reply item.
+  pub mark-handled-alike : Like z σ τ (markHandled z σ) (markHandled z τ)
+  unfolding markHandled
+  mark-handled-alike =
+      by-need (pair .stores) (σ foundRecord) (τ foundRecord) _ _ (a .words foundRecord tt)
+      (λ r q.
+      let u : σ (used r) ≡ 2 = found-linked m r q in
+      by-inside r (f r) (σ foundPosition) (τ foundPosition) (place-same r u) found-same
+      (λ i.
+      by-cond (eqb (σ foundPosition) (σ headPosition)) (eqb (τ foundPosition) (τ headPosition)) (rw (found-same, position-same) refl)
+      (λ b.
+      by-up-to (z .M) (suc (σ headPosition)) (suc (τ headPosition)) (ap suc position-same)
+      (gives (state r i := 2 ∷ headPosition := suc (σ headPosition) ∷ clearConsumer ∷ [])
+      (state (f r) i := 2 ∷ headPosition := suc (τ headPosition) ∷ clearConsumer ∷ []) (rw position-same refl) (λ s w. w) (λ t s e. e)))
+      (λ b. gives (state r i := 2 ∷ clearConsumer ∷ []) (state (f r) i := 2 ∷ clearConsumer ∷ []) refl (λ s w. w) (λ t s e. e))))
+    where
+      gives : (ws vs : List Write) → vs ≡ writesTo f ws
+          → ((s : ℕ) → after σ ws (used s) ≡ 2 → σ (used s) ≡ 2)
+          → ((t s : ℕ) → after σ ws (held t) ≡ suc s → σ (held t) ≡ suc s)
+          → Like z σ τ (reply (item (σ itemNumber) (σ itemValue)) ws) (reply (item (τ itemNumber) (τ itemValue)) vs)
+      gives ws vs e links holds =
+          let number : τ itemNumber ≡ σ itemNumber = a .words itemNumber tt in
+          let what : τ itemValue ≡ σ itemValue = a .words itemValue tt in
+          rw (number, what) (by-plain (pair .stores) (item (σ itemNumber) (σ itemValue)) ws vs e links holds)

@@ -1,0 +1,115 @@
+-- Every request on two stores alike that only the engine has written is answered alike, whichever free record each claim takes.
+-- From the phases, one by one.
+use mathlib.Core.Path.{_≡_, refl}
+use mathlib.Core.Logic.{_≢_}
+use mathlib.Core.Bool.{_||_, not}
+use mathlib.Core.List.{[], _∷_}
+use Prim.Native.Nat.{ℕ, zero, suc, _≤_}
+use native.Mathlib.Omega.{arith}
+use lib.Dec.{eqb, ltb}
+use lib.ListN.{getD}
+use borrow.Author.Tests.{eqb-false, ltb-false}
+use Rattle.rules.specs.Sizes.{Sizes}
+use Rattle.rules.specs.Cell.{Reader, _:=_, starts, consumerPhase, phase, call, value}
+use Rattle.rules.specs.Free.{Picker, Picks, Choice}
+use Rattle.rules.specs.Rule.{refuse, ok, started}
+use Rattle.rules.specs.Producer.{producerRules, producerStep}
+use Rattle.rules.specs.Consumer.{consumerRules, consumerStep}
+use Rattle.rules.specs.Request.{Request, startEnqueue, startDequeue, step, startingEnqueue, startingDequeue, stepping, answer}
+use Rattle.renaming.specs.AlikeAnswers.{Like, by-refusal, by-cond, by-plain}
+use Rattle.renaming.specs.AlikeRecords.{Twins}
+use Rattle.renaming.specs.AlikeProducer.{take-position-alike, load-tail-alike, look-next-alike, link-claimed-alike, link-ahead-alike, shift-tail-alike, go-back-alike, write-entry-alike, set-entry-alike}
+use Rattle.renaming.specs.AlikeClaims.{claim-record-alike, claim-ahead-alike}
+use Rattle.renaming.specs.AlikeConsumer.{front-alike, read-tail-alike, scan-alike, read-entry-alike, rescan-alike, read-item-alike, mark-handled-alike}
+
+module _ {z : Sizes} {σ τ : Reader} (pair : Twins z σ τ) where
+  idle-alike : Like z σ τ (refuse 7) (refuse 7)
+  idle-alike = by-refusal 7
+
+  consumer-phase : τ consumerPhase ≡ σ consumerPhase
+  consumer-phase = pair .stores .alike .words consumerPhase tt
+
+  phase-same : (t : ℕ) → τ (phase t) ≡ σ (phase t)
+  phase-same t = pair .stores .alike .words (phase t) tt
+
+  consumer-alike : Like z σ τ (consumerStep z σ) (consumerStep z τ)
+  unfolding consumerStep
+  consumer-alike = rw consumer-phase (by-phase (σ consumerPhase))
+    where
+      by-phase : (p : ℕ) → Like z σ τ (getD consumerRules p (λ z σ. refuse 7) z σ) (getD consumerRules p (λ z σ. refuse 7) z τ)
+      by-phase zero = idle-alike
+      by-phase (suc zero) = front-alike pair
+      by-phase (suc (suc zero)) = read-tail-alike pair
+      by-phase (suc (suc (suc zero))) = scan-alike pair
+      by-phase (suc (suc (suc (suc zero)))) = read-entry-alike pair
+      by-phase (suc (suc (suc (suc (suc zero))))) = rescan-alike pair
+      by-phase (suc (suc (suc (suc (suc (suc zero)))))) = read-item-alike pair
+      by-phase (suc (suc (suc (suc (suc (suc (suc zero))))))) = mark-handled-alike pair
+      by-phase (suc (suc (suc (suc (suc (suc (suc (suc p)))))))) = idle-alike
+
+  producer-alike : (t : ℕ) → (1 ≤ t) × (t ≤ z .P) → (c d : ℕ) → Choice z σ c → Choice z τ d → Like z σ τ (producerStep c z σ t) (producerStep d z τ t)
+  unfolding producerStep
+  producer-alike t is c d left right = rw (phase-same t) (by-phase (σ (phase t)) refl)
+    where
+      by-phase : (p : ℕ) → σ (phase t) ≡ p
+          → Like z σ τ (getD (producerRules c) p (λ z σ t. refuse 7) z σ t) (getD (producerRules d) p (λ z σ t. refuse 7) z τ t)
+      by-phase zero e = idle-alike
+      by-phase (suc zero) e = take-position-alike pair t
+      by-phase (suc (suc zero)) e = load-tail-alike pair t
+      by-phase (suc (suc (suc zero))) e = look-next-alike pair t
+      by-phase (suc (suc (suc (suc zero)))) e = claim-record-alike pair t c d left right
+      by-phase (suc (suc (suc (suc (suc zero))))) e = link-claimed-alike pair t
+      by-phase (suc (suc (suc (suc (suc (suc zero)))))) e = shift-tail-alike pair t
+      by-phase (suc (suc (suc (suc (suc (suc (suc zero))))))) e = go-back-alike pair t is e
+      by-phase (suc (suc (suc (suc (suc (suc (suc (suc zero)))))))) e = write-entry-alike pair t
+      by-phase (suc (suc (suc (suc (suc (suc (suc (suc (suc zero))))))))) e = set-entry-alike pair t
+      by-phase (suc (suc (suc (suc (suc (suc (suc (suc (suc (suc zero)))))))))) e = claim-ahead-alike pair t c d left right
+      by-phase (suc (suc (suc (suc (suc (suc (suc (suc (suc (suc (suc zero))))))))))) e = link-ahead-alike pair t
+      by-phase (suc (suc (suc (suc (suc (suc (suc (suc (suc (suc (suc (suc p)))))))))))) e = idle-alike
+
+  step-alike : (pick pick′ : Picker) → Picks pick → Picks pick′ → (t : ℕ) → Like z σ τ (stepping pick t z σ) (stepping pick′ t z τ)
+  unfolding stepping
+  step-alike pick pick′ right right′ t =
+      by-cond (ltb (z .P) t) (ltb (z .P) t) refl
+      (λ b. by-refusal 4)
+      (λ b.
+      by-cond (eqb t 0) (eqb t 0) refl
+      (λ c.
+      by-cond (eqb (σ consumerPhase) 0) (eqb (τ consumerPhase) 0) (rw consumer-phase refl)
+      (λ d. idle-alike)
+      (λ d. consumer-alike))
+      (λ c.
+      let n : t ≢ 0 = eqb-false t 0 c in
+      by-cond (eqb (σ (phase t)) 0) (eqb (τ (phase t)) 0) (rw (phase-same t) refl)
+      (λ d. idle-alike)
+      (λ d. producer-alike t (omega arith, ltb-false (z .P) t b) (pick z σ) (pick′ z τ) (right z σ) (right′ z τ))))
+
+  start-enqueue-alike : (t v : ℕ) → Like z σ τ (startingEnqueue t v z σ) (startingEnqueue t v z τ)
+  unfolding startingEnqueue
+  start-enqueue-alike t v =
+      let count : τ starts ≡ σ starts = pair .stores .alike .words starts tt in
+      by-cond (eqb t 0 || ltb (z .P) t) (eqb t 0 || ltb (z .P) t) refl
+      (λ b. by-refusal 4)
+      (λ b.
+      by-cond (not (eqb (σ (phase t)) 0)) (not (eqb (τ (phase t)) 0)) (rw (phase-same t) refl)
+      (λ c. by-refusal 5)
+      (λ c.
+      by-cond (eqb (σ starts) (z .M)) (eqb (τ starts) (z .M)) (rw count refl)
+      (λ d. by-refusal 6)
+      (λ d.
+      rw count
+      (by-plain (pair .stores) (started (suc (σ starts))) (starts := suc (σ starts) ∷ phase t := 1 ∷ call t := suc (σ starts) ∷ value t := v ∷ []) _ refl
+      (λ s u. u) (λ u s e. e)))))
+
+  start-dequeue-alike : Like z σ τ (startingDequeue z σ) (startingDequeue z τ)
+  unfolding startingDequeue
+  start-dequeue-alike =
+      by-cond (not (eqb (σ consumerPhase) 0)) (not (eqb (τ consumerPhase) 0)) (rw consumer-phase refl)
+      (λ b. by-refusal 5)
+      (λ b. by-plain (pair .stores) ok (consumerPhase := 1 ∷ []) _ refl (λ s u. u) (λ u s e. e))
+
+  pub answer-alike : (pick pick′ : Picker) → Picks pick → Picks pick′ → (q : Request) → Like z σ τ (answer pick q z σ) (answer pick′ q z τ)
+  unfolding answer
+  answer-alike pick pick′ right right′ (startEnqueue t v) = start-enqueue-alike t v
+  answer-alike pick pick′ right right′ startDequeue = start-dequeue-alike
+  answer-alike pick pick′ right right′ (step t) = step-alike pick pick′ right right′ t

@@ -1,0 +1,8 @@
+pub mod Renaming
+pub mod Alike
+pub mod AlikeAnswers
+pub mod AlikeRecords
+pub mod AlikeProducer
+pub mod AlikeConsumer
+pub mod AlikeClaims
+pub mod AlikeEvery

@@ -1,0 +1,1 @@
+// Two runs of the same calls whose claims take other records answer alike. All of it stands in specs/.

@@ -1,0 +1,170 @@
+-- Consumer phases 6 and 7, which read the item and take it.
+use mathlib.Core.Path.{_≡_, refl, ap, ap₂, _∙_, subst}
+use mathlib.Core.Bool.{true, cond, and-false}
+use mathlib.Core.List.{[], _∷_}
+use Prim.Native.Nat.{ℕ, suc, _≤_}
+use native.Mathlib.Omega.{arith}
+use lib.Dec.{eqb}
+use borrow.Author.Tests.{eqb-true, eq-eqb}
+use Rattle.history.specs.Event.{gaveItem}
+use Rattle.history.specs.Form.{wellFormed}
+use Rattle.history.specs.Linearization.{Item}
+use Rattle.criterion.specs.Growth.{dequeue-may-give}
+use Rattle.rules.specs.Sizes.{Sizes}
+use Rattle.rules.specs.Cell.{Reader, _:=_, clearConsumer, headPosition, consumer, consumerPhase, foundRecord, foundPosition, itemNumber, itemValue, place, used, state, entryNumber, entryValue, entry}
+use Rattle.rules.specs.Update.{after, update}
+use Rattle.rules.specs.Range.{number, foundSorts}
+use Rattle.rules.specs.Rule.{goes, item, reply, upTo, index}
+use Rattle.rules.specs.Consumer.{readItem, markHandled}
+use Rattle.rules.specs.Request.{step}
+use Rattle.model.specs.State
+use Rattle.model.specs.State.{gone, at}
+use Rattle.model.specs.Facts.{at-same, at-other}
+use Rattle.model.specs.Invariant.{Inside, Found, dequeues}
+use Rattle.model.specs.Scanning.{read-item}
+use Rattle.model.specs.Dequeues.{take-item, take-front}
+use Rattle.model.specs.Bounds.{found-found, holding-found}
+use Rattle.memory.specs.Memory.{Memory}
+use Rattle.simulation.specs.View.{Ghost, placesOf, placeOf, view, AgreesWith}
+use Rattle.simulation.specs.Good.{Good, Goes, Fine, by-need, by-cond, by-up-to}
+use Rattle.simulation.specs.Rows.{ConsumerWords, of-sort, has-sort}
+use Rattle.simulation.specs.Entries.{other-record, other-entry, by-inside, Slot, slot, slot-changes, slot-number, slot-value}
+use Rattle.simulation.specs.ConsumerCursor.{some-record}
+use Rattle.simulation.specs.ConsumerSteps.{consumer-words, consumer-at, tail-fits, resting-in-range, consumer-goes, consumer-light}
+
+module _ (z : Sizes) (σ : Reader) (γ : Ghost) (good : Good z σ γ) where
+  m : Memory z σ (γ .shape)
+  m = good .memory
+
+  -- found's record is linked, and its position is inside it
+  found-slot : (r : ℕ) → σ foundRecord ≡ suc r → Inside (z .B) (σ foundPosition) (placeOf (placesOf σ) (σ foundRecord))
+      → Inside (z .B) (σ foundPosition) (σ (place r)) × Slot z σ (γ .shape) r (σ foundPosition)
+  found-slot r q i =
+      let j : Inside (z .B) (σ foundPosition) (σ (place r)) = subst (Inside (z .B) (σ foundPosition)) (ap (placeOf (placesOf σ)) q) i in
+      (j, slot z σ (γ .shape) (m .chain) r (σ foundPosition) (rw q at (m .found)) j)
+
+  -- 6. Read call number and value; to 7.
+  pub read-item-fine : σ consumerPhase ≡ 6 → Fine z σ γ (step 0) (readItem z σ)
+  unfolding readItem
+  read-item-fine e =
+      by-need (Fine z σ γ (step 0)) (σ foundRecord) _ (some-record z σ γ good (σ foundRecord) (found .3))
+      (λ r q.
+      let s = found-slot r q (found .5) in
+      by-inside z σ r (σ foundPosition) (s .0) (Fine z σ γ (step 0))
+      (λ i. goes (itemNumber := σ (entryNumber r i) ∷ itemValue := σ (entryValue r i) ∷ consumerPhase := 7 ∷ []))
+      (consumer-goes z σ γ good
+      (itemNumber := σ (entryNumber r (index z σ r (σ foundPosition))) ∷ itemValue := σ (entryValue r (index z σ r (σ foundPosition))) ∷ consumerPhase := 7 ∷ [])
+      7
+      _
+      ((refl, omega arith), ((refl, omega arith), ((refl, omega arith), tt)))
+      refl
+      (omega arith)
+      (record {
+        cursor-record = words .cursor-record;
+        cursor-position = words .cursor-position;
+        found-record = words .found-record;
+        found-position = words .found-position;
+        item-number =
+            has-sort z number (σ (entryNumber r (index z σ r (σ foundPosition))))
+            (good .range .words (entryNumber r (index z σ r (σ foundPosition))) (s .1 .fits, s .1 .here .below, omega arith));
+        item-value = tt;
+        spare = words .spare;
+      })
+      (m .cursor, m .found)
+      (ap₂ (λ (n v : ℕ). State.holding (σ foundPosition) (placeOf (placesOf σ) (σ foundRecord)) (record { number = n; value = v }))
+      (slot-number z σ γ r (σ foundPosition) (s .1) (good .agrees)) (slot-value z σ γ r (σ foundPosition) (s .1) (good .agrees)))
+      (read-item (z .B) (view σ γ) (good .model) _ _ seen)))
+    where
+      seen : view σ γ .consumer ≡ State.found (σ foundPosition) (placeOf (placesOf σ) (σ foundRecord))
+      seen = consumer-at z σ γ good 6 e
+
+      found : Found (z .B) (view σ γ) (σ foundPosition) (placeOf (placesOf σ) (σ foundRecord))
+      found = found-found (z .B) (view σ γ) (good .model) _ _ seen
+
+      words : ConsumerWords z (λ j. σ (consumer j)) foundSorts
+      words = consumer-words z σ γ good 6 e
+
+  -- 7. Mark handled; if found is the head position, it advances. Reply item.
+  module _ (e : σ consumerPhase ≡ 7) (r : ℕ) (q : σ foundRecord ≡ suc r) (s : Slot z σ (γ .shape) r (σ foundPosition)) where
+    abbrev i : ℕ
+    i = index z σ r (σ foundPosition)
+
+    abbrev x : Item
+    x = record { number = σ itemNumber; value = σ itemValue }
+
+    seen : view σ γ .consumer ≡ State.holding (σ foundPosition) (placeOf (placesOf σ) (σ foundRecord)) x
+    seen = consumer-at z σ γ good 7 e
+
+    -- the entry is handled, and nothing else of the entries changes
+    marked : AgreesWith (z .B) (update σ (state r i := 2)) (record { shape = γ .shape; entry = at (γ .entry) (σ foundPosition) gone; owner = γ .owner; content = γ .content; history = γ .history })
+    marked =
+        slot-changes z σ (update σ (state r i := 2)) (γ .shape) (m .chain) r (σ foundPosition) s (γ .entry) (at (γ .entry) (σ foundPosition) gone) (γ .content) (γ .content)
+        (λ p n. (at-other (γ .entry) (σ foundPosition) gone p n, refl))
+        (λ y a k n. rw (other-entry r i y a n, and-false (eqb 0 k)) refl)
+        (rw (at-same (γ .entry) (σ foundPosition) gone, eq-eqb r r refl, eq-eqb i i refl) refl)
+        (slot-number z σ γ r (σ foundPosition) s (good .agrees))
+        (slot-value z σ γ r (σ foundPosition) s (good .agrees))
+        (good .agrees)
+
+    light : (y : ℕ) → (σ (used y) ≡ 2 → ⊥) → (a k : ℕ) → update σ (state r i := 2) (entry y a k) ≡ σ (entry y a k)
+    light y n a k = rw (other-record σ r (s .linked) y n, and-false (eqb i a), and-false (eqb 0 k)) refl
+
+    formed : wellFormed (gaveItem (σ itemNumber) (σ itemValue) ∷ γ .history) ≡ true
+    formed = dequeue-may-give (γ .history) (good .formed) (σ itemNumber) (σ itemValue) (good .model .calls .of-consumer ∙ ap dequeues seen)
+
+    takes-item : Goes z σ γ (step 0) (item (σ itemNumber) (σ itemValue)) (state r i := 2 ∷ clearConsumer ∷ [])
+    takes-item =
+        consumer-light z σ γ good (item (σ itemNumber) (σ itemValue)) (state r i := 2 ∷ clearConsumer ∷ []) (at (γ .entry) (σ foundPosition) gone)
+        (gaveItem (σ itemNumber) (σ itemValue) ∷ γ .history)
+        (refl, (refl, tt))
+        ((s .fits, s .here .below, omega arith), (tt, tt))
+        (record { parts = λ y k. refl; entries = light })
+        (λ u k. refl)
+        (refl, refl)
+        (resting-in-range z σ γ good (after σ (state r i := 2 ∷ clearConsumer ∷ [])) (λ k. refl))
+        (tt, tt)
+        marked
+        (take-item (z .B) (view σ γ) (good .model) _ _ _ seen)
+        formed
+        refl
+        (omega arith)
+
+    takes-front : σ foundPosition ≡ σ headPosition → suc (σ headPosition) ≤ z .M
+        → Goes z σ γ (step 0) (item (σ itemNumber) (σ itemValue)) (state r i := 2 ∷ headPosition := suc (σ headPosition) ∷ clearConsumer ∷ [])
+    takes-front f room =
+        consumer-light z σ γ good (item (σ itemNumber) (σ itemValue)) (state r i := 2 ∷ headPosition := suc (σ headPosition) ∷ clearConsumer ∷ [])
+        (at (γ .entry) (σ foundPosition) gone)
+        (gaveItem (σ itemNumber) (σ itemValue) ∷ γ .history)
+        (refl, (of-sort z number (suc (σ headPosition)) room, (refl, tt)))
+        ((s .fits, s .here .below, omega arith), (omega arith, (tt, tt)))
+        (record { parts = λ y k. refl; entries = light })
+        (λ u k. refl)
+        (refl, refl)
+        (resting-in-range z σ γ good (after σ (state r i := 2 ∷ headPosition := suc (σ headPosition) ∷ clearConsumer ∷ [])) (λ k. refl))
+        (tt, tt)
+        marked
+        (take-front (z .B) (view σ γ) (good .model) _ _ _ seen f)
+        formed
+        refl
+        (omega arith)
+
+  pub mark-handled-fine : σ consumerPhase ≡ 7 → Fine z σ γ (step 0) (markHandled z σ)
+  unfolding markHandled
+  mark-handled-fine e =
+      by-need (Fine z σ γ (step 0)) (σ foundRecord) _ (some-record z σ γ good (σ foundRecord) (found .3))
+      (λ r q.
+      let s = found-slot r q (found .5) in
+      by-inside z σ r (σ foundPosition) (s .0) (Fine z σ γ (step 0))
+      (λ i. cond (eqb (σ foundPosition) (σ headPosition))
+      (upTo (z .M) (suc (σ headPosition))
+      (reply (item (σ itemNumber) (σ itemValue)) (state r i := 2 ∷ headPosition := suc (σ headPosition) ∷ clearConsumer ∷ [])))
+      (reply (item (σ itemNumber) (σ itemValue)) (state r i := 2 ∷ clearConsumer ∷ [])))
+      (by-cond (Fine z σ γ (step 0)) (eqb (σ foundPosition) (σ headPosition)) _ _
+      (λ b.
+      let f : σ foundPosition ≡ σ headPosition = eqb-true (σ foundPosition) (σ headPosition) b in
+      let room : suc (σ headPosition) ≤ z .M = omega (arith, found .1, tail-fits z σ γ good) in
+      by-up-to (Fine z σ γ (step 0)) (z .M) (suc (σ headPosition)) _ room (takes-front e r q (s .1) f room))
+      (λ b. takes-item e r q (s .1))))
+    where
+      found : Found (z .B) (view σ γ) (σ foundPosition) (placeOf (placesOf σ) (σ foundRecord))
+      found = holding-found (z .B) (view σ γ) (good .model) _ _ _ (consumer-at z σ γ good 7 e)

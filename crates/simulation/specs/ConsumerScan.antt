@@ -1,0 +1,148 @@
+-- Consumer phases 3 and 4, the scan.
+use mathlib.Core.Path.{_≡_, refl, ap, ap₂, sym, _∙_}
+use mathlib.Core.Logic.{_≢_}
+use mathlib.Core.Bool.{cond}
+use mathlib.Core.List.{List, [], _∷_}
+use Prim.Native.Nat.{ℕ, suc, _*_, _≤_}
+use native.Mathlib.Omega.{arith}
+use lib.Dec.{eqb}
+use borrow.Author.Tests.{eqb-true, eqb-false}
+use Rattle.rules.specs.Sizes.{Sizes}
+use Rattle.rules.specs.Cell.{Reader, Write, _:=_, tail, tailRecord, headRecord, headPosition, consumer, consumerPhase, cursorRecord, cursorPosition, foundRecord, foundPosition, place, state}
+use Rattle.rules.specs.Range.{cursorSorts}
+use Rattle.rules.specs.Rule.{Answer, goes, upTo, atEnd, index, cross}
+use Rattle.rules.specs.Consumer.{scan, readEntry}
+use Rattle.rules.specs.Request.{step}
+use Rattle.model.specs.State
+use Rattle.model.specs.State.{put}
+use Rattle.model.specs.Invariant.{Inside, Reached, dequeues}
+use Rattle.model.specs.Dequeues.{empty-scanned-records, empty-scanned-tail}
+use Rattle.model.specs.Scanning.{scan-cross, scan-look, look-found, look-pass}
+use Rattle.model.specs.Bounds.{scanning-reached, scanning-crosses, looking-inside, looking-below-tail}
+use Rattle.memory.specs.Memory.{Memory}
+use Rattle.simulation.specs.View.{Ghost, placesOf, placeOf, view}
+use Rattle.simulation.specs.Good.{Good, Fine, by-need, by-cond, by-up-to}
+use Rattle.simulation.specs.Rows.{ConsumerWords}
+use Rattle.simulation.specs.Entries.{by-inside, slot-state}
+use Rattle.simulation.specs.ConsumerCursor.{head-most, position-most, linked-most, some-record, stays, placed, linked, at-end, entry-slot}
+use Rattle.simulation.specs.ConsumerSteps.{is-set, is-not-set, consumer-words, consumer-at, tail-fits, head-placed, head-linked, tail-record-is, not-tail-record, by-cross, answers-empty, consumer-goes}
+
+module _ (z : Sizes) (σ : Reader) (γ : Ghost) (good : Good z σ γ) where
+  m : Memory z σ (γ .shape)
+  m = good .memory
+
+  -- 3. If the cursor stands at its record's end: empty if that is the tail record, otherwise cross to next, the cursor at its
+  -- first position (so in every crossing); stay. Else read tail: cursor at tail is empty; otherwise to 4.
+  module _ (e : σ consumerPhase ≡ 3) where
+    seen-scanning : view σ γ .consumer ≡ State.scanning (σ cursorPosition) (placeOf (placesOf σ) (σ cursorRecord))
+    seen-scanning = consumer-at z σ γ good 3 e
+
+    reached : (σ cursorPosition ≤ σ tail) × Reached (z .B) (view σ γ) (σ cursorPosition) (placeOf (placesOf σ) (σ cursorRecord))
+    reached = scanning-reached (z .B) (view σ γ) (good .model) _ _ seen-scanning
+
+    cursor-words : ConsumerWords z (λ k. σ (consumer k)) cursorSorts
+    cursor-words = consumer-words z σ γ good 3 e
+
+    crosses : (r : ℕ) (q : σ cursorRecord ≡ suc r) → σ cursorPosition ≡ z .B * σ (place r) → σ (place r) ≢ γ .shape .tp
+        → Fine z σ γ (step 0) (cross z σ r λ n p. goes (cursorRecord := suc n ∷ cursorPosition := p ∷ []))
+    crosses r q end not-tail =
+        let other : placeOf (placesOf σ) (σ cursorRecord) ≢ γ .shape .tp = λ x. not-tail (sym (placed z σ γ good r q) ∙ x) in
+        let fits : z .B * σ (place r) ≤ z .M = omega (arith, reached .0, tail-fits z σ γ good) in
+        by-cross z σ γ good (Fine z σ γ (step 0)) r (λ n p. goes (cursorRecord := suc n ∷ cursorPosition := p ∷ [])) (linked z σ γ good r q)
+        (rw (placed z σ γ good r q) at (scanning-crosses (z .B) (view σ γ) (good .model) _ _ seen-scanning other))
+        fits
+        (λ n is u w.
+        consumer-goes z σ γ good (cursorRecord := suc n ∷ cursorPosition := z .B * σ (place r) ∷ []) 3 _
+        ((refl, omega arith), ((refl, omega arith), tt))
+        e
+        (omega arith)
+        (record { cursor-record = linked-most z σ γ good n u; cursor-position = fits; found-record = cursor-words .found-record; found-position = cursor-words .found-position; item-number = cursor-words .item-number; item-value = cursor-words .item-value; spare = cursor-words .spare })
+        (u, m .found)
+        (stays z σ γ good 3 e (z .B * σ (place r)) (σ (place n)) (σ foundPosition) _ _ ∙ ap₂ State.scanning (sym end) (w ∙ ap suc (sym (placed z σ γ good r q))))
+        (scan-cross (z .B) (view σ γ) (good .model) _ _ seen-scanning (at-end z σ γ good r q (σ cursorPosition) end) other))
+
+  pub scan-fine : σ consumerPhase ≡ 3 → Fine z σ γ (step 0) (scan z σ)
+  unfolding scan
+  scan-fine e =
+      by-need (Fine z σ γ (step 0)) (σ cursorRecord) _ (some-record z σ γ good (σ cursorRecord) (reached e .1 .0))
+      (λ r q.
+      by-cond (Fine z σ γ (step 0)) (atEnd z σ r (σ cursorPosition)) _ _
+      (λ b.
+      let end : σ cursorPosition ≡ z .B * σ (place r) = eqb-true (σ cursorPosition) (z .B * σ (place r)) b in
+      by-cond (Fine z σ γ (step 0)) (eqb (σ tailRecord) (suc r)) _ _
+      (λ c.
+      answers-empty z σ γ good (ap dequeues (seen-scanning e))
+      (empty-scanned-records (z .B) (view σ γ) (good .model) _ _ (seen-scanning e) (at-end z σ γ good r q (σ cursorPosition) end)
+      (placed z σ γ good r q ∙ tail-record-is z σ γ good r (linked z σ γ good r q) (eqb-true (σ tailRecord) (suc r) c))))
+      (λ c. crosses e r q end (not-tail-record z σ γ good r (linked z σ γ good r q) (eqb-false (σ tailRecord) (suc r) c))))
+      (λ b.
+      by-cond (Fine z σ γ (step 0)) (eqb (σ cursorPosition) (σ tail)) _ _
+      (λ c.
+      answers-empty z σ γ good (ap dequeues (seen-scanning e))
+      (empty-scanned-tail (z .B) (view σ γ) (good .model) _ _ (seen-scanning e) (eqb-true (σ cursorPosition) (σ tail) c)))
+      (λ c.
+      let w = cursor-words e in
+      consumer-goes z σ γ good (consumerPhase := 4 ∷ []) 4 _ ((refl, omega arith), tt) refl (omega arith) (record { cursor-record = w .cursor-record; cursor-position = w .cursor-position; found-record = w .found-record; found-position = w .found-position; item-number = w .item-number; item-value = w .item-value; spare = w .spare }) (m .cursor, m .found) refl
+      (scan-look (z .B) (view σ γ) (good .model) _ _ (seen-scanning e)
+      (λ x. eqb-false (σ cursorPosition) (z .B * σ (place r)) b (x ∙ ap (λ (y : ℕ). z .B * y) (placed z σ γ good r q)))
+      (eqb-false (σ cursorPosition) (σ tail) c)))))
+
+  -- 4. Read the entry: set makes it found, and the cursor returns to the head; to 5. Otherwise advance; to 3.
+  pub read-entry-fine : σ consumerPhase ≡ 4 → Fine z σ γ (step 0) (readEntry z σ)
+  unfolding readEntry
+  read-entry-fine e =
+      by-need (Fine z σ γ (step 0)) (σ cursorRecord) _ (some-record z σ γ good (σ cursorRecord) (inner .0))
+      (λ r q.
+      let s = entry-slot z σ γ good r q (σ cursorPosition) (inner .2) in
+      by-inside z σ r (σ cursorPosition) (s .0) (Fine z σ γ (step 0)) (reads r)
+      (by-cond (Fine z σ γ (step 0)) (eqb (σ (state r (index z σ r (σ cursorPosition)))) 1) _ _
+      (λ b. finds r q (is-set _ _ (slot-state z σ γ r (σ cursorPosition) (s .1) (good .agrees)) b))
+      (λ b. passes (is-not-set _ _ (slot-state z σ γ r (σ cursorPosition) (s .1) (good .agrees)) b))))
+    where
+      seen : view σ γ .consumer ≡ State.looking (σ cursorPosition) (placeOf (placesOf σ) (σ cursorRecord))
+      seen = consumer-at z σ γ good 4 e
+
+      inner : (γ .shape .lo ≤ placeOf (placesOf σ) (σ cursorRecord)) × (placeOf (placesOf σ) (σ cursorRecord) ≤ γ .shape .tp) × Inside (z .B) (σ cursorPosition) (placeOf (placesOf σ) (σ cursorRecord))
+      inner = looking-inside (z .B) (view σ γ) (good .model) _ _ seen
+
+      words : ConsumerWords z (λ k. σ (consumer k)) cursorSorts
+      words = consumer-words z σ γ good 4 e
+
+      found : (r : ℕ) → List Write
+      found r =
+          foundRecord := suc r
+          ∷ foundPosition := σ cursorPosition
+          ∷ cursorRecord := σ headRecord
+          ∷ cursorPosition := σ headPosition
+          ∷ consumerPhase := 5
+          ∷ []
+
+      advanced : Answer
+      advanced = upTo (z .M) (suc (σ cursorPosition)) (goes (cursorPosition := suc (σ cursorPosition) ∷ consumerPhase := 3 ∷ []))
+
+      reads : (r i : ℕ) → Answer
+      reads r i = cond (eqb (σ (state r i)) 1) (goes (found r)) advanced
+
+      finds : (r : ℕ) → σ cursorRecord ≡ suc r → γ .entry (σ cursorPosition) ≡ put → Fine z σ γ (step 0) (goes (found r))
+      finds r q p =
+          consumer-goes z σ γ good (found r) 5 _
+          ((refl, omega arith), ((refl, omega arith), ((refl, omega arith), ((refl, omega arith), ((refl, omega arith), tt)))))
+          refl
+          (omega arith)
+          (record { cursor-record = head-most z σ γ good; cursor-position = position-most z σ γ good; found-record = linked-most z σ γ good r (linked z σ γ good r q); found-position = words .cursor-position; item-number = words .item-number; item-value = words .item-value; spare = words .spare })
+          (head-linked z σ γ good, linked z σ γ good r q)
+          (ap₂ (λ (k g : ℕ). State.rescanning (σ headPosition) k (σ cursorPosition) g) (head-placed z σ γ good) (sym (placed z σ γ good r q)))
+          (look-found (z .B) (view σ γ) (good .model) _ _ seen p)
+
+      passes : (γ .entry (σ cursorPosition) ≡ put → ⊥) → Fine z σ γ (step 0) advanced
+      passes n =
+          let room : suc (σ cursorPosition) ≤ z .M = omega (arith, looking-below-tail (z .B) (view σ γ) (good .model) _ _ seen, tail-fits z σ γ good) in
+          by-up-to (Fine z σ γ (step 0)) (z .M) (suc (σ cursorPosition)) _ room
+          (consumer-goes z σ γ good (cursorPosition := suc (σ cursorPosition) ∷ consumerPhase := 3 ∷ []) 3 _
+          ((refl, omega arith), ((refl, omega arith), tt))
+          refl
+          (omega arith)
+          (record { cursor-record = words .cursor-record; cursor-position = room; found-record = words .found-record; found-position = words .found-position; item-number = words .item-number; item-value = words .item-value; spare = words .spare })
+          (m .cursor, m .found)
+          refl
+          (look-pass (z .B) (view σ γ) (good .model) _ _ seen n))

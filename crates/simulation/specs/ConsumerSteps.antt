@@ -1,0 +1,173 @@
+-- What the consumer's steps share: its words by its phase, the records it stands in, and the empty answer.
+use mathlib.Core.Path.{_≡_, refl, ap, sym, _∙_}
+use mathlib.Core.Logic.{_≢_}
+use mathlib.Core.Bool.{true, false}
+use mathlib.Core.List.{List, [], _∷_, _++_}
+use Prim.Native.Nat.{ℕ, suc, _+_, _*_, _≤_, _<_}
+use native.Mathlib.Omega.{arith}
+use lib.Dec.{eqb}
+use lib.ListN.{getD}
+use borrow.Author.Tests.{eqb-true, eqb-false}
+use Rattle.history.specs.Lists.{All}
+use Rattle.history.specs.Event.{History, gaveEmpty}
+use Rattle.history.specs.Form.{wellFormed}
+use Rattle.criterion.specs.Growth.{dequeue-may-be-empty}
+use Rattle.rules.specs.Sizes.{Sizes}
+use Rattle.rules.specs.Cell.{Reader, Write, clearConsumer, consumer, consumerPhase, cursorRecord, cursorPosition, foundRecord, foundPosition, itemNumber, itemValue, tail, tailRecord, headRecord, place, next, used, ofConsumer}
+use Rattle.rules.specs.Update.{after, Own}
+use Rattle.rules.specs.Range.{number, consumerSorts, consumerInRange}
+use Rattle.rules.specs.Rule.{Answer, Reply, going, empty, cross}
+use Rattle.rules.specs.Consumer.{byState, endsEmpty}
+use Rattle.rules.specs.Request.{step}
+use Rattle.rules.specs.Play.{replyEvents}
+use Rattle.rules.specs.Readback.{WriteThere}
+use Rattle.rules.specs.InRange.{InSort, writes-keep-range}
+use Rattle.model.specs.State.{Entry, blank, put, gone, Consumer, resting}
+use Rattle.model.specs.Invariant.{Invariant, dequeues}
+use Rattle.model.specs.Moves.{withConsumer, answerEmpty}
+use Rattle.memory.specs.Memory.{rowOf, Linked}
+use Rattle.memory.specs.Light.{Light, consumer-keeps}
+use Rattle.simulation.specs.View.{Ghost, placesOf, placeOf, consumerAt, consumerOf, view, codeOf, AgreesWith}
+use Rattle.simulation.specs.Good.{Good, Goes, Fine, places-stay, by-need, by-up-to}
+use Rattle.simulation.specs.Rows.{has-sort, ConsumerWords, consumer-row-has, consumer-row-of}
+use Rattle.simulation.specs.OwnWords.{consumer-own}
+
+-- an entry's state by cases
+pub by-state : (P : Answer → Type 0) (x : ℕ) (e : Entry) (a b c : Answer) → x ≡ codeOf e
+    → (e ≡ blank → P a) → (e ≡ put → P b) → (e ≡ gone → P c) → P (byState x a b c)
+by-state P x blank a b c q f g h = rw q (f refl)
+by-state P x put a b c q f g h = rw q (g refl)
+by-state P x gone a b c q f g h = rw q (h refl)
+
+-- whether an entry is set, by its state
+pub is-set : (x : ℕ) (e : Entry) → x ≡ codeOf e → eqb x 1 ≡ true → e ≡ put
+is-set x blank q b = absurd (omega (arith, eqb-true x 1 b))
+is-set x put q b = refl
+is-set x gone q b = absurd (omega (arith, eqb-true x 1 b))
+
+pub is-not-set : (x : ℕ) (e : Entry) → x ≡ codeOf e → eqb x 1 ≡ false → e ≡ put → ⊥
+is-not-set x e q b p = eqb-false x 1 b (q ∙ ap codeOf p)
+
+module _ (z : Sizes) (σ : Reader) (γ : Ghost) (good : Good z σ γ) where
+  -- the consumer's words 1 to 7, by its phase
+  pub consumer-words : (p : ℕ) → σ consumerPhase ≡ p → ConsumerWords z (λ k. σ (consumer k)) (getD consumerSorts p [])
+  consumer-words = consumer-row-has z (λ k. σ (consumer k)) (good .range .consuming)
+
+  -- the consumer of the position machine, by its phase
+  pub consumer-at : (p : ℕ) → σ consumerPhase ≡ p
+      → view σ γ .consumer
+      ≡ consumerAt p (σ cursorPosition) (placeOf (placesOf σ) (σ cursorRecord)) (σ foundPosition) (placeOf (placesOf σ) (σ foundRecord))
+      (record { number = σ itemNumber; value = σ itemValue })
+  consumer-at p e =
+      ap
+      (λ (x : ℕ). consumerAt x (σ cursorPosition) (placeOf (placesOf σ) (σ cursorRecord)) (σ foundPosition) (placeOf (placesOf σ) (σ foundRecord))
+      (record { number = σ itemNumber; value = σ itemValue }))
+      e
+
+  -- A position up to tail is a number in range.
+  pub tail-fits : σ tail ≤ z .M
+  tail-fits = has-sort z number (σ tail) (good .range .words tail (omega arith))
+
+  -- The head record is that of place lo.
+  pub head-placed : placeOf (placesOf σ) (σ headRecord) ≡ γ .shape .lo
+  head-placed =
+      ap (placeOf (placesOf σ)) (good .memory .head-is)
+      ∙ good .memory .chain .placed (γ .shape .lo) (omega arith) (omega (arith, good .memory .head-tail, good .memory .tail-last))
+
+  pub head-linked : Linked σ (σ headRecord)
+  head-linked =
+      rw (good .memory .head-is)
+      (good .memory .chain .linked (γ .shape .lo) (omega arith) (omega (arith, good .memory .head-tail, good .memory .tail-last)))
+
+  -- A linked record whose place is not the tail's: it is not the tail record, and it has a next, one place on.
+  pub tail-record-is : (r : ℕ) → σ (used r) ≡ 2 → σ tailRecord ≡ suc r → σ (place r) ≡ γ .shape .tp
+  tail-record-is r u e =
+      let is : r ≡ γ .shape .at (γ .shape .tp) = omega (arith, good .memory .tail-is) in
+      ap (λ (x : ℕ). σ (place x)) is ∙ good .memory .chain .placed (γ .shape .tp) (good .memory .head-tail) (good .memory .tail-last)
+
+  pub not-tail-record : (r : ℕ) → σ (used r) ≡ 2 → (σ tailRecord ≡ suc r → ⊥) → σ (place r) ≢ γ .shape .tp
+  not-tail-record r u n e = n (good .memory .tail-is ∙ ap suc (ap (γ .shape .at) (sym e) ∙ good .memory .chain .only r u .2))
+
+  -- To cross from a linked record before the tail record leads to the first position of the next one, where this one ends.
+  pub by-cross : (P : Answer → Type 0) (r : ℕ) (f : ℕ → ℕ → Answer) → σ (used r) ≡ 2 → σ (place r) < γ .shape .tp
+      → z .B * σ (place r) ≤ z .M
+      → ((n : ℕ) → n ≡ γ .shape .at (suc (σ (place r))) → σ (used n) ≡ 2 → σ (place n) ≡ suc (σ (place r)) → P (f n (z .B * σ (place r))))
+      → P (cross z σ r f)
+  by-cross P r f u l fits each =
+      let m = good .memory in
+      let o = m .chain .only r u in
+      let high : suc (σ (place r)) ≤ γ .shape .hi = omega (arith, m .tail-last) in
+      let low : γ .shape .lo ≤ suc (σ (place r)) = omega (arith, o .0) in
+      let onward : σ (next r) ≡ suc (γ .shape .at (suc (σ (place r)))) =
+      ap (λ (x : ℕ). σ (next x)) (sym (o .2)) ∙ m .chain .nexts (σ (place r)) (o .0) high in
+      by-need P (σ (next r)) _ (λ e. omega arith)
+      (λ n e.
+      let is : n ≡ γ .shape .at (suc (σ (place r))) = omega arith in
+      let placed : σ (place n) ≡ suc (σ (place r)) = ap (λ (x : ℕ). σ (place x)) is ∙ m .chain .placed (suc (σ (place r))) low high in
+      by-need P (σ (place n)) _ (λ q. omega arith)
+      (λ q w.
+      let same : σ (place r) ≡ q = omega arith in
+      by-up-to P (z .M) (z .B * q) _ (rw (← same) fits)
+      (rw (← same) (each n is (ap (λ (x : ℕ). σ (used x)) is ∙ m .chain .linked (suc (σ (place r))) low high) placed))))
+
+  -- A consumer whose words are all zero is idle.
+  pub resting-in-range : (σ′ : Reader) → ((k : ℕ) → σ′ (consumer k) ≡ 0) → consumerInRange z σ′ ≡ true
+  resting-in-range σ′ none =
+      consumer-row-of z (λ k. σ′ (consumer k)) 0 (none 0) (omega arith)
+      (record { cursor-record = none 1; cursor-position = none 2; found-record = none 3; found-position = none 4; item-number = none 5; item-value = none 6; spare = none 7 })
+
+  -- The dequeue answers empty.
+  pub answers-empty : dequeues (view σ γ .consumer) ≡ true → Invariant (z .B) (answerEmpty (view σ γ)) → Fine z σ γ (step 0) endsEmpty
+  answers-empty busy model =
+      consumer-own z σ γ good (step 0) refl empty (clearConsumer ∷ []) resting (gaveEmpty ∷ γ .history) ((refl, omega arith), tt)
+      (resting-in-range (after σ (clearConsumer ∷ [])) (λ k. refl))
+      (tt, tt)
+      refl
+      model
+      (dequeue-may-be-empty (γ .history) (good .formed) (good .model .calls .of-consumer ∙ busy))
+      refl
+
+  -- A step of the consumer that writes its own words alone, and goes on to phase p.
+  pub consumer-goes : (ws : List Write) (p : ℕ) (x : Consumer) → All (Own ofConsumer) ws → after σ ws consumerPhase ≡ p → p ≤ 7
+      → ConsumerWords z (λ k. after σ ws (consumer k)) (getD consumerSorts p [])
+      → Linked σ (after σ ws cursorRecord) × Linked σ (after σ ws foundRecord)
+      → consumerOf (after σ ws) ≡ x
+      → Invariant (z .B) (withConsumer (view σ γ) x)
+      → Goes z σ γ (step 0) going ws
+  consumer-goes ws p x own phase l row linked seen model =
+      consumer-own z σ γ good (step 0) refl going ws x (γ .history) own (consumer-row-of z (λ k. after σ ws (consumer k)) p phase l row) linked seen model
+      (good .formed)
+      refl
+
+  -- A step of the consumer that writes none of the records' words outside the entries, nor the head record.
+  pub consumer-light : (r : Reply) (ws : List Write) (entries : ℕ → Entry) (h : History)
+      → let γ′ : Ghost = record { shape = γ .shape; entry = entries; owner = γ .owner; content = γ .content; history = h } in
+      All (InSort z 0) ws
+      → All (WriteThere z) ws
+      → Light σ (after σ ws)
+      → ((u k : ℕ) → rowOf (after σ ws) u k ≡ rowOf σ u k)
+      → (after σ ws tailRecord ≡ σ tailRecord) × (after σ ws headRecord ≡ σ headRecord)
+      → consumerInRange z (after σ ws) ≡ true
+      → Linked σ (after σ ws cursorRecord) × Linked σ (after σ ws foundRecord)
+      → AgreesWith (z .B) (after σ ws) γ′
+      → Invariant (z .B) (view (after σ ws) γ′)
+      → wellFormed h ≡ true
+      → h ≡ replyEvents (step 0) (γ .history) r ++ γ .history
+      → σ tail ≤ after σ ws tail
+      → Goes z σ γ (step 0) r ws
+  consumer-light r ws entries h in-sort there light rows ends in-row linked agrees model formed grown grows =
+      record {
+        there = there;
+        next = record { shape = γ .shape; entry = entries; owner = γ .owner; content = γ .content; history = h };
+        good =
+            record {
+              sizes = good .sizes;
+              range = writes-keep-range z 0 σ ws in-sort (good .range) (λ e. in-row) (λ l. absurd (omega arith));
+              memory = consumer-keeps z σ (after σ ws) (γ .shape) (good .memory) light rows (ends .0) (ends .1) (linked .0) (linked .1);
+              agrees = agrees;
+              model = model;
+              formed = formed;
+            };
+        grown = grown;
+        moved = places-stay z 0 σ (γ .shape) (γ .shape) ws in-sort (λ x. light .parts x 0) grows (omega arith) (omega arith);
+      }

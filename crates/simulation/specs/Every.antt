@@ -1,0 +1,88 @@
+-- Every request on a store that only the engine has written goes on so, whichever free record a claim takes.
+use mathlib.Core.Path.{_≡_, refl}
+use mathlib.Core.Logic.{_≢_}
+use Prim.Native.Nat.{ℕ, zero, suc, _≤_}
+use native.Mathlib.Omega.{arith}
+use lib.Dec.{eqb, ltb}
+use lib.ListN.{getD}
+use borrow.Author.Tests.{eqb-true, eqb-false, ltb-false}
+use Rattle.rules.specs.Sizes.{Sizes}
+use Rattle.rules.specs.Cell.{Reader, consumerPhase, phase}
+use Rattle.rules.specs.Free.{Picker, Picks, Choice}
+use Rattle.rules.specs.Rule.{refuse}
+use Rattle.rules.specs.Producer.{producerRules, producerStep}
+use Rattle.rules.specs.Consumer.{consumerRules, consumerStep}
+use Rattle.rules.specs.Request.{Request, startEnqueue, startDequeue, step, stepping, answer}
+use Rattle.simulation.specs.View.{Ghost}
+use Rattle.simulation.specs.Good.{Good, Fine, by-cond}
+use Rattle.simulation.specs.ProducerWalk.{load-tail-fine, look-next-fine, shift-tail-fine, go-back-fine}
+use Rattle.simulation.specs.ProducerClaim.{claim-record-fine, claim-ahead-fine}
+use Rattle.simulation.specs.ProducerLink.{link-claimed-fine, link-ahead-fine}
+use Rattle.simulation.specs.ProducerEntry.{take-position-fine, write-entry-fine, set-entry-fine}
+use Rattle.simulation.specs.ConsumerFront.{front-fine, read-tail-fine}
+use Rattle.simulation.specs.ConsumerScan.{scan-fine, read-entry-fine}
+use Rattle.simulation.specs.ConsumerRescan.{rescan-fine}
+use Rattle.simulation.specs.ConsumerItem.{read-item-fine, mark-handled-fine}
+use Rattle.simulation.specs.Starts.{start-enqueue-fine, start-dequeue-fine}
+
+module _ (z : Sizes) (σ : Reader) (γ : Ghost) (good : Good z σ γ) where
+  -- a refusal that is none of 3 and 9
+  idle-fine : (q : Request) → Fine z σ γ q (refuse 7)
+  idle-fine q = ((λ e. omega arith), (λ e. omega arith))
+
+  consumer-fine : Fine z σ γ (step 0) (consumerStep z σ)
+  unfolding consumerStep
+  consumer-fine = by-phase (σ consumerPhase) refl
+    where
+      by-phase : (p : ℕ) → σ consumerPhase ≡ p → Fine z σ γ (step 0) (getD consumerRules p (λ z σ. refuse 7) z σ)
+      by-phase zero e = idle-fine (step 0)
+      by-phase (suc zero) e = front-fine z σ γ good e
+      by-phase (suc (suc zero)) e = read-tail-fine z σ γ good e
+      by-phase (suc (suc (suc zero))) e = scan-fine z σ γ good e
+      by-phase (suc (suc (suc (suc zero)))) e = read-entry-fine z σ γ good e
+      by-phase (suc (suc (suc (suc (suc zero))))) e = rescan-fine z σ γ good e
+      by-phase (suc (suc (suc (suc (suc (suc zero)))))) e = read-item-fine z σ γ good e
+      by-phase (suc (suc (suc (suc (suc (suc (suc zero))))))) e = mark-handled-fine z σ γ good e
+      by-phase (suc (suc (suc (suc (suc (suc (suc (suc p)))))))) e = idle-fine (step 0)
+
+  producer-fine : (t : ℕ) → (1 ≤ t) × (t ≤ z .P) → (c : ℕ) → Choice z σ c → Fine z σ γ (step t) (producerStep c z σ t)
+  unfolding producerStep
+  producer-fine t a c choice = by-phase (σ (phase t)) refl
+    where
+      by-phase : (p : ℕ) → σ (phase t) ≡ p → Fine z σ γ (step t) (getD (producerRules c) p (λ z σ t. refuse 7) z σ t)
+      by-phase zero e = idle-fine (step t)
+      by-phase (suc zero) e = take-position-fine z σ γ good t a e
+      by-phase (suc (suc zero)) e = load-tail-fine z σ γ good t a e
+      by-phase (suc (suc (suc zero))) e = look-next-fine z σ γ good t a e
+      by-phase (suc (suc (suc (suc zero)))) e = claim-record-fine z σ γ good t a e c choice
+      by-phase (suc (suc (suc (suc (suc zero))))) e = link-claimed-fine z σ γ good t a e
+      by-phase (suc (suc (suc (suc (suc (suc zero)))))) e = shift-tail-fine z σ γ good t a e
+      by-phase (suc (suc (suc (suc (suc (suc (suc zero))))))) e = go-back-fine z σ γ good t a e
+      by-phase (suc (suc (suc (suc (suc (suc (suc (suc zero)))))))) e = write-entry-fine z σ γ good t a e
+      by-phase (suc (suc (suc (suc (suc (suc (suc (suc (suc zero))))))))) e = set-entry-fine z σ γ good t a e
+      by-phase (suc (suc (suc (suc (suc (suc (suc (suc (suc (suc zero)))))))))) e = claim-ahead-fine z σ γ good t a e c choice
+      by-phase (suc (suc (suc (suc (suc (suc (suc (suc (suc (suc (suc zero))))))))))) e = link-ahead-fine z σ γ good t a e
+      by-phase (suc (suc (suc (suc (suc (suc (suc (suc (suc (suc (suc (suc p)))))))))))) e = idle-fine (step t)
+
+  step-fine : (pick : Picker) → Picks pick → (t : ℕ) → Fine z σ γ (step t) (stepping pick t z σ)
+  unfolding stepping
+  step-fine pick right t =
+      by-cond (Fine z σ γ (step t)) (ltb (z .P) t) _ _
+      (λ b. ((λ e. omega arith), (λ e. omega arith)))
+      (λ b.
+      by-cond (Fine z σ γ (step t)) (eqb t 0) _ _
+      (λ c.
+      by-cond (Fine z σ γ (step t)) (eqb (σ consumerPhase) 0) _ _
+      (λ d. idle-fine (step t))
+      (λ d. rw (eqb-true t 0 c) consumer-fine))
+      (λ c.
+      let n : t ≢ 0 = eqb-false t 0 c in
+      by-cond (Fine z σ γ (step t)) (eqb (σ (phase t)) 0) _ _
+      (λ d. idle-fine (step t))
+      (λ d. producer-fine t (omega arith, ltb-false (z .P) t b) (pick z σ) (right z σ))))
+
+  pub answer-fine : (pick : Picker) → Picks pick → (q : Request) → Fine z σ γ q (answer pick q z σ)
+  unfolding answer
+  answer-fine pick right (startEnqueue t v) = start-enqueue-fine z σ γ good t v
+  answer-fine pick right startDequeue = start-dequeue-fine z σ γ good
+  answer-fine pick right (step t) = step-fine pick right t

@@ -1,0 +1,76 @@
+-- What holds of a store that only the engine has written: its words are in range, its records are in order, and the position
+-- machine that it stands for keeps its invariant.
+use mathlib.Core.Path.{_≡_, refl, sym}
+use mathlib.Core.Logic.{_≢_}
+use mathlib.Core.Bool.{Bool, true, false, cond}
+use mathlib.Core.List.{List, _++_}
+use Prim.Native.Nat.{ℕ, zero, suc, _≤_}
+use borrow.Author.Tests.{le-leb}
+use Rattle.history.specs.Lists.{All}
+use Rattle.history.specs.Form.{wellFormed}
+use Rattle.rules.specs.Sizes.{Sizes, sizesInRange}
+use Rattle.rules.specs.Cell.{Cell, Reader, Write, tail, place}
+use Rattle.rules.specs.Update.{areaOf, after}
+use Rattle.rules.specs.Rule.{Answer, refuse, reply, need, upTo}
+use Rattle.rules.specs.Request.{Request, startEnqueue, startDequeue, step}
+use Rattle.rules.specs.Play.{replyEvents}
+use Rattle.rules.specs.Readback.{WriteThere}
+use Rattle.rules.specs.InRange.{InSort, OtherThread, others-untouched, InRange}
+use Rattle.model.specs.Invariant.{Invariant}
+use Rattle.memory.specs.Memory.{ChainShape, Memory}
+use Rattle.simulation.specs.View.{Ghost, view, AgreesWith}
+
+pub record Good (z : Sizes) (σ : Reader) (γ : Ghost) : Type 0 where
+  pub sizes : sizesInRange z ≡ true
+  pub range : InRange z σ
+  pub memory : Memory z σ (γ .shape)
+  pub agrees : AgreesWith (z .B) σ γ
+  pub model : Invariant (z .B) (view σ γ)
+  pub formed : wellFormed (γ .history) ≡ true
+
+-- The thread that a request is of.
+abbrev pub threadOf : Request → ℕ
+threadOf (startEnqueue t v) = t
+threadOf startDequeue = 0
+threadOf (step t) = t
+
+-- What a call of thread t moves: other threads' words stay; tail, the place of the tail record and the last place only grow; a
+-- record with a place up to the old last one had it before.
+pub record Moved (t : ℕ) (σ σ′ : Reader) (g g′ : ChainShape) : Type 0 where
+  pub others : (d : Cell) → OtherThread t (areaOf d) → σ′ d ≡ σ d
+  pub tail-grows : σ tail ≤ σ′ tail
+  pub shifts-on : g .tp ≤ g′ .tp
+  pub last-grows : g .hi ≤ g′ .hi
+  pub had-place : (r : ℕ) → 1 ≤ σ′ (place r) → σ′ (place r) ≤ g .hi → σ (place r) ≡ σ′ (place r)
+
+-- Writes in range that write no place.
+pub places-stay : (z : Sizes) (t : ℕ) (σ : Reader) (g g′ : ChainShape) (ws : List Write) → All (InSort z t) ws → ((r : ℕ) → after σ ws (place r) ≡ σ (place r))
+    → σ tail ≤ after σ ws tail → g .tp ≤ g′ .tp → g .hi ≤ g′ .hi → Moved t σ (after σ ws) g g′
+places-stay z t σ g g′ ws in-sort places a b c =
+    record { others = others-untouched z t σ ws in-sort; tail-grows = a; shifts-on = b; last-grows = c; had-place = λ r l h. sym (places r) }
+
+-- An answer to request q that goes on so: a refusal is none of 3 and 9, and a reply leaves such a store, with the history that
+-- the reply makes.
+pub record Goes (z : Sizes) (σ : Reader) (γ : Ghost) (q : Request) (r : Rattle.rules.specs.Rule.Reply) (ws : List Write) : Type 0 where
+  pub there : All (WriteThere z) ws
+  pub next : Ghost
+  pub good : Good z (after σ ws) next
+  pub grown : next .history ≡ replyEvents q (γ .history) r ++ γ .history
+  pub moved : Moved (threadOf q) σ (after σ ws) (γ .shape) (next .shape)
+
+abbrev pub Fine : (z : Sizes) (σ : Reader) (γ : Ghost) → Request → Answer → Type 0
+Fine z σ γ q (refuse n) = (n ≢ 3) × (n ≢ 9)
+Fine z σ γ q (reply r ws) = Goes z σ γ q r ws
+
+-- To show something of a rule's answer, show it at each leaf.
+module _ (P : Answer → Type 0) where
+  pub by-need : (x : ℕ) (f : ℕ → Answer) → (x ≡ 0 → ⊥) → ((r : ℕ) → x ≡ suc r → P (f r)) → P (need x f)
+  by-need zero f some each = absurd (some refl)
+  by-need (suc r) f some each = each r refl
+
+  pub by-cond : (b : Bool) (a c : Answer) → (b ≡ true → P a) → (b ≡ false → P c) → P (cond b a c)
+  by-cond true a c f g = f refl
+  by-cond false a c f g = g refl
+
+  pub by-up-to : (most x : ℕ) (a : Answer) → x ≤ most → P a → P (upTo most x a)
+  by-up-to most x a h f = rw (le-leb x most h) f

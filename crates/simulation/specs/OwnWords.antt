@@ -1,0 +1,210 @@
+-- A step that writes its own thread's words alone: what is left to show of it is that thread's.
+use mathlib.Core.Path.{_≡_, refl, ap, ap₂, sym, _∙_, subst, subst⁻¹, fun-ext}
+use mathlib.Core.Bool.{true}
+use mathlib.Core.List.{List, [], _∷_, _++_}
+use Prim.Native.Nat.{ℕ, _≤_, _<_}
+use native.Mathlib.Omega.{arith}
+use Rattle.history.specs.Lists.{All}
+use Rattle.history.specs.Event.{History}
+use Rattle.history.specs.Form.{wellFormed}
+use Rattle.rules.specs.Sizes.{Sizes}
+use Rattle.rules.specs.Cell.{Cell, content, consumer, producer, part, entry, Reader, Area, contents, ofConsumer, ofProducer, ofRecord, Write, _:=_, clear, tailRecord, headRecord, cursorRecord, foundRecord, tail, headPosition, starts, place}
+use Rattle.rules.specs.Update.{areaOf, after, Apart, kinds-apart, Own, own-leaves}
+use Rattle.rules.specs.Address.{AreaThere}
+use Rattle.rules.specs.Range.{producerInRange, consumerInRange}
+use Rattle.rules.specs.Rule.{Reply}
+use Rattle.rules.specs.Request.{Request, step}
+use Rattle.rules.specs.Play.{replyEvents}
+use Rattle.rules.specs.Readback.{WriteThere}
+use Rattle.rules.specs.InRange.{InSort, writes-keep-range}
+use Rattle.model.specs.State.{Producer, Consumer, State, at}
+use Rattle.model.specs.Invariant.{Invariant}
+use Rattle.model.specs.Moves.{withProducer, withConsumer}
+use Rattle.memory.specs.Memory.{ThreadOk, rowOf, Linked}
+use Rattle.memory.specs.Frames.{others-kept}
+use Rattle.memory.specs.Light.{consumer-keeps}
+use Rattle.simulation.specs.View.{Ghost, placesOf, placeOf, producerOf, producersOf, consumerFrom, consumerOf, view, Agrees, cellOf}
+use Rattle.simulation.specs.Good.{Good, Goes, threadOf, Moved, places-stay}
+use Rattle.simulation.specs.ProducerSteps.{producers-after, producer-goes}
+
+-- An area that a call of thread t may write as it likes: its own.
+pub record Thread (z : Sizes) (t : ℕ) (a : Area) : Type 0 where
+  pub in-sort : InSort z t (clear a)
+  pub is-there : AreaThere z a
+  pub no-contents : Apart contents a
+  pub no-record : (r : ℕ) → Apart (ofRecord r) a
+
+pub a-consumer : (z : Sizes) → Thread z 0 ofConsumer
+a-consumer z = record { in-sort = refl; is-there = tt; no-contents = refl; no-record = λ r. refl }
+
+pub of-producer : (z : Sizes) (t : ℕ) → (1 ≤ t) × (t ≤ z .P) → Thread z t (ofProducer t)
+of-producer z t h = record { in-sort = refl; is-there = h; no-contents = refl; no-record = λ r. refl }
+
+-- Its words are in range and there.
+pub own-sorted : (z : Sizes) (t : ℕ) (a : Area) → Thread z t a → (w : Write) → Own a w → InSort z t w × WriteThere z w
+own-sorted z t a th (content k := v) h = absurd (kinds-apart contents a (th .no-contents) (h .0))
+own-sorted z t a th (consumer k := v) h = (subst⁻¹ (λ (b : Area). InSort z t (clear b)) (h .0) (th .in-sort), h .1)
+own-sorted z t a th (producer u k := v) h =
+    let is : AreaThere z (ofProducer u) = subst⁻¹ (AreaThere z) (h .0) (th .is-there) in
+    (subst⁻¹ (λ (b : Area). InSort z t (clear b)) (h .0) (th .in-sort), (is .0, is .1, h .1))
+own-sorted z t a th (part r k := v) h = absurd (kinds-apart (ofRecord r) a (th .no-record r) (h .0))
+own-sorted z t a th (entry r i k := v) h = absurd (kinds-apart (ofRecord r) a (th .no-record r) (h .0))
+own-sorted z t a th (clear b) h =
+    (subst⁻¹ (λ (x : Area). InSort z t (clear x)) (h .0) (th .in-sort), subst⁻¹ (AreaThere z) (h .0) (th .is-there))
+
+all-map : {A : Type 0} (P Q : A → Type 0) → ((x : A) → P x → Q x) → (xs : List A) → All P xs → All Q xs
+all-map P Q f [] h = tt
+all-map P Q f (x ∷ xs) h = (f x (h .0), all-map P Q f xs (h .1))
+
+-- the same of a list
+pub own-in-sort : (z : Sizes) (t : ℕ) (a : Area) → Thread z t a → (ws : List Write) → All (Own a) ws → All (InSort z t) ws
+own-in-sort z t a th ws = all-map (Own a) (InSort z t) (λ w h. own-sorted z t a th w h .0) ws
+
+pub own-there : (z : Sizes) (t : ℕ) (a : Area) → Thread z t a → (ws : List Write) → All (Own a) ws → All (WriteThere z) ws
+own-there z t a th ws = all-map (Own a) (WriteThere z) (λ w h. own-sorted z t a th w h .1) ws
+
+-- a state with another history
+abbrev pub withHistory : State → History → State
+withHistory s h =
+    record {
+      tail = s .tail;
+      hp = s .hp;
+      lo = s .lo;
+      tp = s .tp;
+      hi = s .hi;
+      starts = s .starts;
+      entry = s .entry;
+      owner = s .owner;
+      content = s .content;
+      producer = s .producer;
+      consumer = s .consumer;
+      history = h;
+    }
+
+-- what stands beside the store, with another history
+abbrev pub later : Ghost → History → Ghost
+later γ h = record { shape = γ .shape; entry = γ .entry; owner = γ .owner; content = γ .content; history = h }
+
+module _ (z : Sizes) (σ : Reader) (γ : Ghost) (good : Good z σ γ) where
+  -- Cells outside the threads that stay as they were.
+  places-same : (σ′ : Reader) → ((r k : ℕ) → σ′ (part r k) ≡ σ (part r k)) → placesOf σ′ ≡ placesOf σ
+  places-same σ′ e = fun-ext (λ r. e r 0)
+
+  cells-same : (σ′ : Reader) → ((r i k : ℕ) → σ′ (entry r i k) ≡ σ (entry r i k)) → cellOf σ ≡ cellOf σ′
+  cells-same σ′ e = fun-ext (λ r. fun-ext (λ i. fun-ext (λ k. sym (e r i k))))
+
+  -- A step of producer t that writes its own words alone.
+  pub producer-own : (t : ℕ) → (1 ≤ t) × (t ≤ z .P) → (r : Reply) (ws : List Write) (x : Producer) (h : History)
+      → All (Own (ofProducer t)) ws
+      → producerInRange z (after σ ws) t ≡ true
+      → ThreadOk (z .N) (γ .shape .lo) σ (rowOf (after σ ws) t)
+      → rowOf (after σ ws) t 5 ≡ 0
+      → producersOf (after σ ws) t ≡ x
+      → Invariant (z .B) (withHistory (withProducer (view σ γ) t x) h)
+      → wellFormed h ≡ true
+      → h ≡ replyEvents (step t) (γ .history) r ++ γ .history
+      → Goes z σ γ (step t) r ws
+  producer-own t a r ws x h own in-row thread none seen model formed grown =
+      producer-goes z σ γ good t a r ws (γ .shape .tp) (γ .entry) (γ .owner) (γ .content) h in-sort
+      (own-there z t (ofProducer t) (of-producer z t a) ws own)
+      (record { parts = λ y k. same (part y k) refl; entries = λ y n i k. same (entry y i k) refl })
+      (same headRecord refl, same cursorRecord refl, same foundRecord refl)
+      in-row
+      thread
+      none
+      (good .memory .head-tail, good .memory .tail-last, same tailRecord refl ∙ good .memory .tail-is)
+      (subst (Agrees (z .B) (γ .shape .lo) (γ .shape .hi) (γ .shape .at) (γ .entry) (γ .content)) (cells-same σ′ (λ y i k. same (entry y i k) refl)) (good .agrees))
+      (subst (Invariant (z .B)) moves model)
+      formed
+      grown
+      (omega (arith, same tail refl), omega arith)
+    where
+      σ′ : Reader
+      σ′ = after σ ws
+
+      same : (c : Cell) → Apart (ofProducer t) (areaOf c) → σ′ c ≡ σ c
+      same = own-leaves (ofProducer t) σ ws own
+
+      in-sort : All (InSort z t) ws
+      in-sort = own-in-sort z t (ofProducer t) (of-producer z t a) ws own
+
+      moves : withHistory (withProducer (view σ γ) t x) h ≡ view (after σ ws) (later γ h)
+      moves =
+          λ i. record {
+            tail = sym (same tail refl) i;
+            hp = sym (same headPosition refl) i;
+            lo = γ .shape .lo;
+            tp = γ .shape .tp;
+            hi = γ .shape .hi;
+            starts = sym (same starts refl) i;
+            entry = γ .entry;
+            owner = γ .owner;
+            content = γ .content;
+            producer =
+                producers-after t σ σ′ (others-kept z t σ ws in-sort)
+                (λ u n. ap (λ (f : ℕ → ℕ). placeOf f (rowOf σ u 4)) (places-same σ′ (λ y k. same (part y k) refl))) x seen i;
+            consumer = ap₂ consumerFrom (sym (places-same σ′ (λ y k. same (part y k) refl))) (fun-ext (λ k. sym (same (consumer k) refl))) i;
+            history = h;
+          }
+
+  -- A step of the consumer that writes its own words alone.
+  pub consumer-own : (q : Request) → threadOf q ≡ 0 → (r : Reply) (ws : List Write) (x : Consumer) (h : History)
+      → All (Own ofConsumer) ws
+      → consumerInRange z (after σ ws) ≡ true
+      → Linked σ (after σ ws cursorRecord) × Linked σ (after σ ws foundRecord)
+      → consumerOf (after σ ws) ≡ x
+      → Invariant (z .B) (withHistory (withConsumer (view σ γ) x) h)
+      → wellFormed h ≡ true
+      → h ≡ replyEvents q (γ .history) r ++ γ .history
+      → Goes z σ γ q r ws
+  consumer-own q of r ws x h own in-row linked seen model formed grown =
+      record {
+        there = own-there z 0 ofConsumer (a-consumer z) ws own;
+        next = later γ h;
+        good =
+            record {
+              sizes = good .sizes;
+              range = writes-keep-range z 0 σ ws in-sort (good .range) (λ e. in-row) (λ l. absurd (omega arith));
+              memory =
+                  consumer-keeps z σ σ′ (γ .shape) (good .memory)
+                  (record { parts = λ y k. same (part y k) refl; entries = λ y n i k. same (entry y i k) refl })
+                  (λ u k. same (producer u k) refl)
+                  (same tailRecord refl)
+                  (same headRecord refl)
+                  (linked .0)
+                  (linked .1);
+              agrees = subst (Agrees (z .B) (γ .shape .lo) (γ .shape .hi) (γ .shape .at) (γ .entry) (γ .content)) (cells-same σ′ (λ y i k. same (entry y i k) refl)) (good .agrees);
+              model = subst (Invariant (z .B)) moves model;
+              formed = formed;
+            };
+        grown = grown;
+        moved =
+            subst⁻¹ (λ (t : ℕ). Moved t σ σ′ (γ .shape) (γ .shape)) of
+            (places-stay z 0 σ (γ .shape) (γ .shape) ws in-sort (λ x. same (place x) refl) (omega (arith, same tail refl)) (omega arith) (omega arith));
+      }
+    where
+      σ′ : Reader
+      σ′ = after σ ws
+
+      same : (c : Cell) → Apart ofConsumer (areaOf c) → σ′ c ≡ σ c
+      same = own-leaves ofConsumer σ ws own
+
+      in-sort : All (InSort z 0) ws
+      in-sort = own-in-sort z 0 ofConsumer (a-consumer z) ws own
+
+      moves : withHistory (withConsumer (view σ γ) x) h ≡ view (after σ ws) (later γ h)
+      moves =
+          λ i. record {
+            tail = sym (same tail refl) i;
+            hp = sym (same headPosition refl) i;
+            lo = γ .shape .lo;
+            tp = γ .shape .tp;
+            hi = γ .shape .hi;
+            starts = sym (same starts refl) i;
+            entry = γ .entry;
+            owner = γ .owner;
+            content = γ .content;
+            producer = λ u. ap₂ producerOf (sym (places-same σ′ (λ y k. same (part y k) refl))) (fun-ext (λ k. sym (same (producer u k) refl))) i;
+            consumer = sym seen i;
+            history = h;
+          }
