@@ -20,14 +20,14 @@ pub record Chain (N lo hi : ℕ) (r place next prev used : ℕ → ℕ) : Type 0
   pub only : (x : ℕ) → used x ≡ 2 → (lo ≤ place x) × (place x ≤ hi) × (r (place x) ≡ x)
 
 -- the places, with the record x at place k
-abbrev pub at : (ℕ → ℕ) → ℕ → ℕ → ℕ → ℕ
-at r k x j = cond (eqb k j) x (r j)
+abbrev pub withPlace : (ℕ → ℕ) → ℕ → ℕ → ℕ → ℕ
+withPlace r k x j = cond (eqb k j) x (r j)
 
-pub at-same : (r : ℕ → ℕ) (k x : ℕ) → at r k x k ≡ x
-at-same r k x = rw (eq-eqb k k refl)
+pub with-place-same : (r : ℕ → ℕ) (k x : ℕ) → withPlace r k x k ≡ x
+with-place-same r k x = rw (eq-eqb k k refl)
 
-pub at-other : (r : ℕ → ℕ) (k x j : ℕ) → (k ≡ j → ⊥) → at r k x j ≡ r j
-at-other r k x j n = rw (ne-eqb k j n)
+pub with-place-other : (r : ℕ → ℕ) (k x j : ℕ) → (k ≡ j → ⊥) → withPlace r k x j ≡ r j
+with-place-other r k x j n = rw (ne-eqb k j n)
 
 module _ {N lo hi : ℕ} {r place next prev used : ℕ → ℕ} (nonempty : lo ≤ hi) (c : Chain N lo hi r place next prev used) where
   -- A linked record without a next is the last one.
@@ -70,7 +70,7 @@ module _ {N lo hi : ℕ} {r place next prev used : ℕ → ℕ} (nonempty : lo �
       → next′ (r hi) ≡ suc x
       → ((y : ℕ) → (y ≡ x → ⊥) → (place′ y ≡ place y) × (prev′ y ≡ prev y) × (used′ y ≡ used y))
       → ((y : ℕ) → (y ≡ x → ⊥) → (y ≡ r hi → ⊥) → next′ y ≡ next y)
-      → Chain N lo (suc hi) (at r (suc hi) x) place′ next′ prev′ used′
+      → Chain N lo (suc hi) (withPlace r (suc hi) x) place′ next′ prev′ used′
   chain-grows place′ next′ prev′ used′ x fits unlinked p n v u joined same others =
       record {
         fits = each (λ k y. y < N) fits (c .fits);
@@ -82,35 +82,35 @@ module _ {N lo hi : ℕ} {r place next prev used : ℕ → ℕ} (nonempty : lo �
         only = λ y w. found y w (ℕ-discrete y x);
       }
     where
-      new : at r (suc hi) x (suc hi) ≡ x
-      new = at-same r (suc hi) x
+      new : withPlace r (suc hi) x (suc hi) ≡ x
+      new = with-place-same r (suc hi) x
 
-      old : (k : ℕ) → k ≤ hi → at r (suc hi) x k ≡ r k
-      old k b = at-other r (suc hi) x k (λ e. omega arith)
+      old : (k : ℕ) → k ≤ hi → withPlace r (suc hi) x k ≡ r k
+      old k b = with-place-other r (suc hi) x k (λ e. omega arith)
 
       other : (k : ℕ) → lo ≤ k → k ≤ hi → r k ≡ x → ⊥
       other k a b e = unlinked (subst (λ (y : ℕ). used y ≡ 2) e (c .linked k a b))
 
-      each : (Q : ℕ → ℕ → Type 0) → Q (suc hi) x → ((k : ℕ) → lo ≤ k → k ≤ hi → Q k (r k)) → (k : ℕ) → lo ≤ k → k ≤ suc hi → Q k (at r (suc hi) x k)
+      each : (Q : ℕ → ℕ → Type 0) → Q (suc hi) x → ((k : ℕ) → lo ≤ k → k ≤ hi → Q k (r k)) → (k : ℕ) → lo ≤ k → k ≤ suc hi → Q k (withPlace r (suc hi) x k)
       each Q here there k a b = go (decLe k hi)
         where
-          go : Dec (k ≤ hi) → Q k (at r (suc hi) x k)
+          go : Dec (k ≤ hi) → Q k (withPlace r (suc hi) x k)
           go (yes l) = rw (old k l) (there k a l)
           go (no l) = let e : k ≡ suc hi = omega arith in rw (e, new) here
 
-      behind : (k : ℕ) → lo ≤ k → k < suc hi → Dec (k ≡ hi) → next′ (r k) ≡ suc (at r (suc hi) x (suc k))
+      behind : (k : ℕ) → lo ≤ k → k < suc hi → Dec (k ≡ hi) → next′ (r k) ≡ suc (withPlace r (suc hi) x (suc k))
       behind k a b (yes e) = rw (e, new) joined
       behind k a b (no l) =
           rw (old (suc k) (omega arith))
           (others (r k) (other k a (omega arith)) (λ e. l (sym (c .placed k a (omega arith)) ∙ ap place e ∙ c .placed hi nonempty (omega arith)))
           ∙ c .nexts k a (omega arith))
 
-      before : (k : ℕ) → lo ≤ k → k < suc hi → Dec (k ≡ hi) → prev′ (at r (suc hi) x (suc k)) ≡ suc (r k)
+      before : (k : ℕ) → lo ≤ k → k < suc hi → Dec (k ≡ hi) → prev′ (withPlace r (suc hi) x (suc k)) ≡ suc (r k)
       before k a b (yes e) = rw (e, new) v
       before k a b (no l) =
           rw (old (suc k) (omega arith)) (same (r (suc k)) (other (suc k) (omega arith) (omega arith)) .1 ∙ c .prevs k a (omega arith))
 
-      found : (y : ℕ) → used′ y ≡ 2 → Dec (y ≡ x) → (lo ≤ place′ y) × (place′ y ≤ suc hi) × (at r (suc hi) x (place′ y) ≡ y)
+      found : (y : ℕ) → used′ y ≡ 2 → Dec (y ≡ x) → (lo ≤ place′ y) × (place′ y ≤ suc hi) × (withPlace r (suc hi) x (place′ y) ≡ y)
       found y w (yes e) = rw (e, p, new) (omega arith, omega arith, refl)
       found y w (no l) =
           let q = same y l in

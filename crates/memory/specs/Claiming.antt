@@ -16,7 +16,7 @@ use Rattle.rules.specs.InRange.{InSort}
 use Rattle.memory.specs.Chain.{chain-kept}
 use Rattle.memory.specs.Memory.{ChainShape, Holdable, Blank, ThreadOk, rowOf, Linked, Memory, claimed-is}
 use Rattle.memory.specs.Loose.{Loose}
-use Rattle.memory.specs.Frames.{held-kept, thread-kept, Untouched, holdable-kept, blank-kept, OthersKept, others-kept, every-row, outside-kept}
+use Rattle.memory.specs.OtherThreads.{held-kept, thread-kept, Untouched, holdable-kept, blank-kept, OthersKept, others-kept, every-row, outside-kept}
 
 -- What a claim by thread t writes, on its way to phase p.
 abbrev pub claimWrites : (t r p : ℕ) → List Write

@@ -1,7 +1,7 @@
 pub mod Chain
 pub mod Memory
-pub mod Ends
-pub mod Frames
+pub mod LastRecord
+pub mod OtherThreads
 pub mod Loose
 pub mod Claiming
 pub mod Linking

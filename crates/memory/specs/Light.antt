@@ -6,7 +6,7 @@ use Rattle.rules.specs.Sizes.{Sizes}
 use Rattle.rules.specs.Cell.{Reader, part, entry, tailRecord, headRecord, cursorRecord, foundRecord, place, next, prev, used, state}
 use Rattle.memory.specs.Chain.{chain-kept}
 use Rattle.memory.specs.Memory.{ChainShape, ChainOf, ThreadOk, rowOf, Linked, Memory}
-use Rattle.memory.specs.Frames.{thread-kept, holdable-kept, blank-kept, OthersKept, every-row, outside-kept, apart-kept}
+use Rattle.memory.specs.OtherThreads.{thread-kept, holdable-kept, blank-kept, OthersKept, every-row, outside-kept, apart-kept}
 
 -- The words of records outside their entries stay, and so do the entries of records that are not linked.
 pub record Light (σ σ′ : Reader) : Type 0 where

@@ -6,10 +6,10 @@ use native.Mathlib.Decide.{ℕ-discrete}
 use native.Mathlib.Omega.{arith}
 use Rattle.rules.specs.Sizes.{Sizes}
 use Rattle.rules.specs.Cell.{Reader, entry, tailRecord, headRecord, cursorRecord, foundRecord, place, next, prev, used, claimed, state, held}
-use Rattle.memory.specs.Chain.{at, at-other, chain-kept, chain-grows}
+use Rattle.memory.specs.Chain.{withPlace, with-place-other, chain-kept, chain-grows}
 use Rattle.memory.specs.Memory.{ChainShape, Holdable, Blank, ThreadOk, rowOf, Linked, Memory, claimed-is}
-use Rattle.memory.specs.Ends.{held-last}
-use Rattle.memory.specs.Frames.{held-kept, thread-kept, Untouched, holdable-kept, blank-kept, OthersKept, every-row, outside-kept, apart-kept}
+use Rattle.memory.specs.LastRecord.{held-last}
+use Rattle.memory.specs.OtherThreads.{held-kept, thread-kept, Untouched, holdable-kept, blank-kept, OthersKept, every-row, outside-kept, apart-kept}
 
 -- What thread t's words are after it has let go of its claim: it holds what it held, or nothing and is idle.
 pub record LetGo (σ σ′ : Reader) (t : ℕ) : Type 0 where
@@ -109,7 +109,7 @@ module _ (z : Sizes) (σ σ′ : Reader) (g : ChainShape) (m : Memory z σ g) (t
       (entries : (x i k : ℕ) → σ′ (entry x i k) ≡ σ (entry x i k)) where
     -- the chain with the claimed record behind the last one
     abbrev pub grown : ChainShape
-    grown = record { lo = g .lo; tp = g .tp; hi = suc (g .hi); at = at (g .at) (suc (g .hi)) c }
+    grown = record { lo = g .lo; tp = g .tp; hi = suc (g .hi); at = withPlace (g .at) (suc (g .hi)) c }
 
     link-linked : (x : ℕ) → Linked σ x → Linked σ′ x
     link-linked zero l = l
@@ -157,8 +157,8 @@ module _ (z : Sizes) (σ σ′ : Reader) (g : ChainShape) (m : Memory z σ g) (t
               (rw (l .2) next-h)
               others
               (λ x n k. nexts x n (λ e. k (e ∙ sym (l .2))));
-          tail-is = tail-kept ∙ m .tail-is ∙ ap suc (sym (at-other (g .at) (suc (g .hi)) c (g .tp) (λ e. omega (arith, m .tail-last))));
-          head-is = head-kept ∙ m .head-is ∙ ap suc (sym (at-other (g .at) (suc (g .hi)) c (g .lo) (λ e. omega arith)));
+          tail-is = tail-kept ∙ m .tail-is ∙ ap suc (sym (with-place-other (g .at) (suc (g .hi)) c (g .tp) (λ e. omega (arith, m .tail-last))));
+          head-is = head-kept ∙ m .head-is ∙ ap suc (sym (with-place-other (g .at) (suc (g .hi)) c (g .lo) (λ e. omega arith)));
           threads =
               every-row t σ σ′ kept (λ u row. ThreadOk (z .N) (g .lo) σ′ row) (own-row link-holdable)
               (λ u n.

@@ -11,7 +11,7 @@ use Rattle.rules.specs.Cell.{Reader, Write, _:=_, headRecord, headPosition, cur
 use Rattle.rules.specs.Update.{after}
 use Rattle.memory.specs.Chain.{chain-shrinks}
 use Rattle.memory.specs.Memory.{ChainShape, Holdable, Blank, rowOf, Memory}
-use Rattle.memory.specs.Frames.{thread-kept}
+use Rattle.memory.specs.OtherThreads.{thread-kept}
 
 -- What the consumer writes when record n takes h's place as head record, at position p.
 abbrev pub retireWrites : (h n p : ℕ) → List Write

@@ -7,7 +7,7 @@ use native.Mathlib.Nat.{lt-of-mul-lt-mul-left}
 use native.Mathlib.Omega.{arith}
 use Rattle.history.specs.Linearization.{Item}
 use Rattle.model.specs.State.{gone, behind, writing, setting, scanning, looking, rescanning, found, holding, State}
-use Rattle.model.specs.Invariant.{Placed, Inside, Reached, Found, Invariant}
+use Rattle.model.specs.Invariant.{AtPosition, Inside, Reached, Found, Invariant}
 use Rattle.model.specs.Facts.{gone-not-blank}
 use Rattle.model.specs.Known.{lt-unless, blank-past-head}
 use Rattle.model.specs.Walking.{producer-clause}
@@ -18,11 +18,11 @@ module _ (B : ℕ) (s : State) (i : Invariant B s) where
 
   -- producers
 
-  pub placed-past-head : (n v L : ℕ) → Placed tail n v L entry owner history → hp ≤ L
+  pub placed-past-head : (n v L : ℕ) → AtPosition tail n v L entry owner history → hp ≤ L
   placed-past-head n v L o = blank-past-head B s i L (o .is-blank)
 
   -- a record that a blank position does not lie past is not before the head record
-  placed-place : (n v L k : ℕ) → Placed tail n v L entry owner history → L < B * k → lo ≤ k
+  placed-place : (n v L k : ℕ) → AtPosition tail n v L entry owner history → L < B * k → lo ≤ k
   placed-place n v L k o l =
       let below : lo < suc k = lt-of-mul-lt-mul-left B (omega (arith, i .places, placed-past-head n v L o)) in
       omega arith

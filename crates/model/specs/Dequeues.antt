@@ -10,7 +10,7 @@ use Rattle.history.specs.Event.{Event, History, dequeueStarted, gaveItem, gaveE
 use Rattle.history.specs.Linearization.{Item}
 use Rattle.criterion.specs.Explained.{Started, Taken, EndedBefore, EndedBeforeDequeue, MayGive, MayBeEmpty}
 use Rattle.model.specs.State.{blank, put, gone, Consumer, resting, front, scanning, holding, State, at}
-use Rattle.model.specs.Invariant.{Has, Places, Owners, Contents, Past, Calls, ConsumerOk, Invariant, dequeues}
+use Rattle.model.specs.Invariant.{Has, Places, Owners, Contents, Past, Calls, ConsumerOk, Invariant, isBusy}
 use Rattle.model.specs.Moves.{withConsumer, withEvent, withPlaces, beginDequeue, answerEmpty, takeItem, takeFront}
 use Rattle.model.specs.Facts.{ended-before-ended, ended-before-dequeue-ended, put-not-blank, put-not-gone, at-same, at-other, at-all}
 use Rattle.model.specs.Frame.{Kept, KeptCall, same-call, same-owner, same-entry, producer-kept}
@@ -25,7 +25,7 @@ module _ (B : ℕ) (s : State) (i : Invariant B s) where
 
   -- an event of the consumer that says nothing of any enqueue
   dequeue-event : (d : Event) (c : Consumer) → Owners tail owner (d ∷ history) → Contents entry owner content (d ∷ history)
-      → Past tail (s .starts) entry owner (d ∷ history) → Calls (s .producer) (dequeues c) (d ∷ history)
+      → Past tail (s .starts) entry owner (d ∷ history) → Calls (s .producer) (isBusy c) (d ∷ history)
       → ((n : ℕ) → KeptCall n history (d ∷ history)) → ConsumerOk B (withEvent (withConsumer s c) d) c
       → Invariant B (withEvent (withConsumer s c) d)
   dequeue-event d c owners contents past calls same ok =

@@ -9,7 +9,7 @@ use Rattle.history.specs.Event.{History}
 use Rattle.history.specs.Linearization.{Item}
 use Rattle.criterion.specs.Explained.{Started, Ended, Taken, EndedBefore, EndedBeforeDequeue}
 use Rattle.model.specs.State.{Entry, blank, put, Producer, idle, started, seeking, ahead, shifting, behind, writing, setting, done, Consumer, resting, front, reading, scanning, looking, rescanning, found, holding, State, callOf}
-use Rattle.model.specs.Invariant.{Open, Placed, ProducerOk, ConsumerOk, Passed, Rescanned, Reached, Found}
+use Rattle.model.specs.Invariant.{Open, AtPosition, ProducerOk, ConsumerOk, Passed, Rescanned, Reached, Found}
 
 -- call n stays as it is: started, open, taken
 pub record KeptCall (n : ℕ) (h h′ : History) : Type 0 where
@@ -52,8 +52,8 @@ module _ (B : ℕ) (s s′ : State) where
   open-kept n v k o =
       record { is-started = k .call .stays-started v (o .is-started); not-ended = λ e. o .not-ended (k .call .stays-open e) }
 
-  placed-kept : (n v L : ℕ) → Kept s s′ n → Placed (s .tail) n v L (s .entry) (s .owner) (s .history)
-      → Placed (s′ .tail) n v L (s′ .entry) (s′ .owner) (s′ .history)
+  placed-kept : (n v L : ℕ) → Kept s s′ n → AtPosition (s .tail) n v L (s .entry) (s .owner) (s .history)
+      → AtPosition (s′ .tail) n v L (s′ .entry) (s′ .owner) (s′ .history)
   placed-kept n v L k o =
       record {
         is-open = open-kept n v k (o .is-open);

@@ -68,7 +68,7 @@ pub record Open (n v : ℕ) (h : History) : Type 0 where
   pub not-ended : Ended n h → ⊥
 
 -- a producer with a position whose entry is empty
-pub record Placed (tail n v L : ℕ) (entry : ℕ → Entry) (owner : ℕ → ℕ) (h : History) : Type 0 where
+pub record AtPosition (tail n v L : ℕ) (entry : ℕ → Entry) (owner : ℕ → ℕ) (h : History) : Type 0 where
   pub is-open : Open n v h
   pub taken : L < tail
   pub is-blank : entry L ≡ blank
@@ -84,13 +84,13 @@ module _ (B : ℕ) (s : State) where
   abbrev pub ProducerOk : Producer → Type 0
   ProducerOk idle = Unit
   ProducerOk (started n v) = Open n v history × ((p : ℕ) → p < tail → owner p ≢ n)
-  ProducerOk (seeking n v L) = Placed tail n v L entry owner history
-  ProducerOk (ahead n v L k) = Placed tail n v L entry owner history × (k ≤ tp) × (B * k ≤ L)
-  ProducerOk (shifting n v L k) = Placed tail n v L entry owner history × (k ≤ tp) × (B * k ≤ L) × (k < hi)
-  ProducerOk (behind n v L k) = Placed tail n v L entry owner history × (k ≤ tp) × (L + B < B * k)
-  ProducerOk (writing n v L k) = Placed tail n v L entry owner history × (k ≤ tp) × Inside B L k
+  ProducerOk (seeking n v L) = AtPosition tail n v L entry owner history
+  ProducerOk (ahead n v L k) = AtPosition tail n v L entry owner history × (k ≤ tp) × (B * k ≤ L)
+  ProducerOk (shifting n v L k) = AtPosition tail n v L entry owner history × (k ≤ tp) × (B * k ≤ L) × (k < hi)
+  ProducerOk (behind n v L k) = AtPosition tail n v L entry owner history × (k ≤ tp) × (L + B < B * k)
+  ProducerOk (writing n v L k) = AtPosition tail n v L entry owner history × (k ≤ tp) × Inside B L k
   ProducerOk (setting n v L k) =
-      Placed tail n v L entry owner history × (k ≤ tp) × Inside B L k × (content L ≡ record { number = n; value = v })
+      AtPosition tail n v L entry owner history × (k ≤ tp) × Inside B L k × (content L ≡ record { number = n; value = v })
   ProducerOk (done n v L k) =
       Open n v history × (L < tail) × (owner L ≡ n) × (k ≤ tp) × Inside B L k × (Taken n history ⊎ (entry L ≡ put))
 
@@ -121,15 +121,15 @@ module _ (B : ℕ) (s : State) where
   ConsumerOk (holding f g x) = (hp < B * lo) × Found f g × Rescanned f f × (content f ≡ x)
 
 -- Whether a dequeue is under way.
-abbrev pub dequeues : Consumer → Bool
-dequeues resting = false
-dequeues front = true
-dequeues reading = true
-dequeues (scanning c k) = true
-dequeues (looking c k) = true
-dequeues (rescanning c k f g) = true
-dequeues (found f g) = true
-dequeues (holding f g x) = true
+abbrev pub isBusy : Consumer → Bool
+isBusy resting = false
+isBusy front = true
+isBusy reading = true
+isBusy (scanning c k) = true
+isBusy (looking c k) = true
+isBusy (rescanning c k f g) = true
+isBusy (found f g) = true
+isBusy (holding f g x) = true
 
 pub record Invariant (B : ℕ) (s : State) : Type 0 where
   pub places : Places B (s .tail) (s .hp) (s .lo) (s .tp) (s .hi)
@@ -137,6 +137,6 @@ pub record Invariant (B : ℕ) (s : State) : Type 0 where
   pub owners : Owners (s .tail) (s .owner) (s .history)
   pub contents : Contents (s .entry) (s .owner) (s .content) (s .history)
   pub past : Past (s .tail) (s .starts) (s .entry) (s .owner) (s .history)
-  pub calls : Calls (s .producer) (dequeues (s .consumer)) (s .history)
+  pub calls : Calls (s .producer) (isBusy (s .consumer)) (s .history)
   pub producers : (t : ℕ) → ProducerOk B s (s .producer t)
   pub consuming : ConsumerOk B s (s .consumer)

@@ -13,7 +13,7 @@ use Rattle.history.specs.Event.{History, enqueueStarted, enqueueEnded}
 use Rattle.history.specs.Linearization.{Item}
 use Rattle.criterion.specs.Explained.{current}
 use Rattle.model.specs.State.{gone, Producer, idle, started, seeking, ahead, shifting, behind, writing, setting, done, Consumer, State, at, callOf}
-use Rattle.model.specs.Invariant.{Open, Calls, ProducerOk, ConsumerOk, Invariant, dequeues}
+use Rattle.model.specs.Invariant.{Open, Calls, ProducerOk, ConsumerOk, Invariant, isBusy}
 use Rattle.model.specs.Moves.{withProducer, withConsumer}
 use Rattle.model.specs.Facts.{at-all}
 use Rattle.model.specs.Frame.{Kept, same-call, same-owner, same-entry, producer-kept, Watched, consumer-kept}
@@ -143,7 +143,7 @@ module _ (s : State) (hp lo tp hi : ℕ) (f : ℕ → Producer) (c : Consumer) w
 module _ (B : ℕ) (s : State) (i : Invariant B s) where
   -- a producer goes on, and the tail record or the last record may move on
   pub producer-moves : (tp hi : ℕ) → s .tp ≤ tp → s .hi ≤ hi → tp ≤ hi → (f : ℕ → Producer)
-      → Calls f (dequeues (s .consumer)) (s .history)
+      → Calls f (isBusy (s .consumer)) (s .history)
       → let s′ = moved s (s .hp) (s .lo) tp hi f (s .consumer) in ((u : ℕ) → ProducerOk B s′ (f u)) → Invariant B s′
   producer-moves tp hi tp-up hi-up below f calls ok =
       record {
@@ -179,7 +179,7 @@ module _ (B : ℕ) (s : State) (i : Invariant B s) where
   -- the consumer goes on, and the head or the head record may move on
   pub consumer-moves : (hp lo : ℕ) (c : Consumer) → 1 ≤ lo → lo ≤ s .tp → B * lo ≤ hp + B → hp ≤ B * lo → hp ≤ s .tail
       → ((p : ℕ) → p < hp → s .entry p ≡ gone)
-      → dequeues c ≡ dequeues (s .consumer)
+      → isBusy c ≡ isBusy (s .consumer)
       → let s′ = moved s hp lo (s .tp) (s .hi) (s .producer) c in ConsumerOk B s′ c → Invariant B s′
   consumer-moves hp lo c first below from to tail gone-below same ok =
       record {
@@ -197,8 +197,8 @@ module _ (B : ℕ) (s : State) (i : Invariant B s) where
       }
 
   -- the consumer goes on, and nothing else changes
-  pub consumer-goes-on : (x c : Consumer) → s .consumer ≡ x → dequeues c ≡ dequeues x
+  pub consumer-goes-on : (x c : Consumer) → s .consumer ≡ x → isBusy c ≡ isBusy x
       → ConsumerOk B (withConsumer s c) c → Invariant B (withConsumer s c)
   consumer-goes-on x c is-x same ok =
       consumer-moves (s .hp) (s .lo) c (i .places .first) (i .places .head-tail) (i .places .head-from) (i .places .head-to)
-      (i .places .head-below) (i .entries .gone-below) (same ∙ sym (ap dequeues is-x)) ok
+      (i .places .head-below) (i .entries .gone-below) (same ∙ sym (ap isBusy is-x)) ok

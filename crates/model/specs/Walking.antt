@@ -7,7 +7,7 @@ use native.Mathlib.Omega.{arith}
 use lib.Dec.{leb, ltb}
 use borrow.Author.Tests.{leb-true, leb-false, ltb-true, ltb-false}
 use Rattle.model.specs.State.{Producer, seeking, ahead, shifting, behind, writing, State, at, callOf}
-use Rattle.model.specs.Invariant.{Placed, ProducerOk, Invariant}
+use Rattle.model.specs.Invariant.{AtPosition, ProducerOk, Invariant}
 use Rattle.model.specs.Moves.{withProducer, chosen, loadTail, passOn, linkLast, shiftTail, leaveTail, goBack}
 use Rattle.model.specs.Frame.{producer-kept}
 use Rattle.model.specs.Threads.{calls-same, producers-after, kept-moved, producer-moves, producer-goes-on}
@@ -32,7 +32,7 @@ module _ (B : ℕ) (s : State) (i : Invariant B s) (t : ℕ) where
   producer-clause x e = subst (ProducerOk B s) e (i .producers t)
 
   choose : (n v L k : ℕ) (x : Producer) → s .producer t ≡ x → callOf x ≡ some (record { number = n; value = v })
-      → Placed (s .tail) n v L (s .entry) (s .owner) (s .history) → k ≤ s .tp → Invariant B (withProducer s t (chosen B n v L k))
+      → AtPosition (s .tail) n v L (s .entry) (s .owner) (s .history) → k ≤ s .tp → Invariant B (withProducer s t (chosen B n v L k))
   choose n v L k x is-x has o below =
       chosen-all (λ z. Invariant B (withProducer s t z)) B n v L k
       (λ l. producer-goes-on B s i t x (ahead n v L k) _ is-x has refl (o, below, l))

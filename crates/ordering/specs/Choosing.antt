@@ -14,7 +14,7 @@ use Rattle.rules.specs.Play.{Played, events, playOne, play}
 use Rattle.rules.specs.Readback.{reader-writes}
 use Rattle.simulation.specs.Good.{Fine}
 use Rattle.simulation.specs.Every.{answer-fine}
-use Rattle.ordering.specs.Theorem.{Kept, result-is, keeps, opened-kept}
+use Rattle.ordering.specs.Theorem.{Maintained, result-is, keeps, opened-kept}
 use Rattle.renaming.specs.Renaming.{unchanged}
 use Rattle.renaming.specs.Alike.{alike-itself}
 use Rattle.renaming.specs.AlikeAnswers.{Stores, Like}
@@ -24,8 +24,8 @@ use Rattle.ordering.specs.Choice.{SameReplies, No-Reply-Depends}
 
 -- What every call keeps of two runs.
 record Together (z : Sizes) (p p′ : Played) : Type 0 where
-  first : Kept z p
-  second : Kept z p′
+  first : Maintained z p
+  second : Maintained z p′
   stores : Stores z (reader z (p .words)) (reader z (p′ .words))
   so-far : SameReplies p p′
 
@@ -96,7 +96,7 @@ plays picks picks′ right right′ (q ∷ qs) {p} {p′} k =
 -- No reply depends on the choice.
 pub no-reply-depends : No-Reply-Depends
 no-reply-depends z m requests picks picks′ opens right right′ =
-    let start : Kept z (record { words = open-store z m .words; replies = []; history = [] }) = opened-kept z m opens in
+    let start : Maintained z (record { words = open-store z m .words; replies = []; history = [] }) = opened-kept z m opens in
     plays picks picks′ right right′ requests
     (record {
       first = start;

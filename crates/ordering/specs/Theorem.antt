@@ -30,7 +30,7 @@ use Rattle.simulation.specs.Admission.{sizes-are, admitted-is}
 use Rattle.ordering.specs.Demand.{Ordered, Demand-3}
 
 -- What every call keeps.
-pub record Kept (z : Sizes) (p : Played) : Type 0 where
+pub record Maintained (z : Sizes) (p : Played) : Type 0 where
   pub fits : storeWords z ≤ length (p .words)
   pub beside : Ghost
   pub good : Good z (reader z (p .words)) beside
@@ -42,7 +42,7 @@ refused-number : {a b : ℕ} → refused a ≡ refused b → a ≡ b
 refused-number e = cc
 
 -- Of what is kept, what is owed.
-owed : {z : Sizes} {p : Played} → Kept z p → Ordered z p
+owed : {z : Sizes} {p : Played} → Maintained z p → Ordered z p
 owed {z} {p} k =
     let h : History = k .beside .history in
     let s : State = view (reader z (p .words)) (k .beside) in
@@ -58,7 +58,7 @@ owed {z} {p} k =
     }
 
 -- One call.
-module _ {z : Sizes} {p : Played} (k : Kept z p) (pick : Picker) (right : Picks pick) (q : Request) where
+module _ {z : Sizes} {p : Played} (k : Maintained z p) (pick : Picker) (right : Picks pick) (q : Request) where
   pub result-is : result pick q (p .words) ≡ applied z (p .words) (answer pick q z (reader z (p .words)))
   unfolding result
   result-is =
@@ -69,7 +69,7 @@ module _ {z : Sizes} {p : Played} (k : Kept z p) (pick : Picker) (right : Picks 
   abbrev played : Result → Played
   played r = record { words = r .words; replies = r .reply ∷ p .replies; history = events q (p .history) (r .reply) ++ p .history }
 
-  by-answer : (a : Answer) → Fine z (reader z (p .words)) (k .beside) q a → Kept z (played (applied z (p .words) a))
+  by-answer : (a : Answer) → Fine z (reader z (p .words)) (k .beside) q a → Maintained z (played (applied z (p .words) a))
   unfolding applied
   by-answer (refuse n) f =
       record {
@@ -88,20 +88,20 @@ module _ {z : Sizes} {p : Played} (k : Kept z p) (pick : Picker) (right : Picks 
         answered = ((accepted-not-refused, accepted-not-refused), k .answered);
       }
 
-  pub keeps : Kept z (playOne pick q p)
+  pub keeps : Maintained z (playOne pick q p)
   keeps =
-      subst⁻¹ (λ (r : Result). Kept z (played r)) result-is
+      subst⁻¹ (λ (r : Result). Maintained z (played r)) result-is
       (by-answer (answer pick q z (reader z (p .words))) (answer-fine z (reader z (p .words)) (k .beside) (k .good) pick right q))
 
 -- All of them.
-plays : {z : Sizes} (picks : ℕ → Picker) → ((k : ℕ) → Picks (picks k)) → (qs : List Request) {p : Played} → Kept z p → Kept z (play picks qs p)
+plays : {z : Sizes} (picks : ℕ → Picker) → ((k : ℕ) → Picks (picks k)) → (qs : List Request) {p : Played} → Maintained z p → Maintained z (play picks qs p)
 unfolding play
 plays picks right [] k = k
 plays picks right (q ∷ qs) {p} k =
     plays picks right qs (keeps k (picks (length (p .replies))) (right (length (p .replies))) q)
 
 -- An accepted open.
-pub opened-kept : (z : Sizes) (m : List ℕ) → open-store z m .reply ≡ accepted ok → Kept z (record { words = open-store z m .words; replies = []; history = [] })
+pub opened-kept : (z : Sizes) (m : List ℕ) → open-store z m .reply ≡ accepted ok → Maintained z (record { words = open-store z m .words; replies = []; history = [] })
 unfolding open-store
 opened-kept z m = go (sizesInRange z) refl (ltb (length m) 16 || ltb (length m) (storeWords z)) refl
   where
@@ -111,7 +111,7 @@ opened-kept z m = go (sizesInRange z) refl (ltb (length m) 16 || ltb (length m) 
         (cond b (record { reply = refused 2; words = m }) (record { reply = accepted ok; words = opened z m }))
 
     go : (a : Bool) → sizesInRange z ≡ a → (b : Bool) → (ltb (length m) 16 || ltb (length m) (storeWords z)) ≡ b
-        → answered a b .reply ≡ accepted ok → Kept z (record { words = answered a b .words; replies = []; history = [] })
+        → answered a b .reply ≡ accepted ok → Maintained z (record { words = answered a b .words; replies = []; history = [] })
     go false e b f r = absurd (accepted-not-refused (sym r))
     go true e true f r = absurd (accepted-not-refused (sym r))
     go true e false f r =

@@ -12,7 +12,7 @@ use Rattle.history.specs.Lists.{All}
 use Rattle.rules.specs.Sizes.{Sizes}
 use Rattle.rules.specs.Cell.{Cell, content, consumer, producer, part, entry, Reader, Area, contents, ofConsumer, ofProducer, ofRecord, Write, _:=_, clear}
 use Rattle.rules.specs.Range.{Sort, any, ofSort, contentSorts, partSorts, entrySorts, consumerSorts, producerSorts, lastConsumerPhase, lastProducerPhase, ofSorts, every, threadInRange, consumerInRange, producerInRange, recordInRange, threadsInRange, recordsInRange, inRange}
-use Rattle.rules.specs.Update.{areaOf, touches, written, update, after, areaTouched, same-eq, same-area-eq, other-area, both, and-true}
+use Rattle.rules.specs.Update.{areaOf, touches, valueLeft, update, after, areaTouched, same-eq, same-area-eq, other-area, both, and-true}
 use Rattle.rules.specs.Address.{There}
 
 -- a test that passes everywhere below n
@@ -170,14 +170,14 @@ module _ (z : Sizes) (t : ℕ) where
   zero-in-sort a h (part r k) e = zero-part z k
   zero-in-sort a h (entry r i k) e = zero-entry z k
 
-  written-in-sort : (w : Write) → InSort z t w → (d : Cell) → touches w d ≡ true → ofSort z (sortOf z d) (written w) ≡ true
+  written-in-sort : (w : Write) → InSort z t w → (d : Cell) → touches w d ≡ true → ofSort z (sortOf z d) (valueLeft w) ≡ true
   written-in-sort (c := v) h d e = subst (λ (x : Cell). ofSort z (sortOf z x) v ≡ true) (same-eq c d e) (put-in-sort c v h)
   written-in-sort (clear a) h d e = zero-in-sort a h d (same-area-eq a (areaOf d) e)
 
   write-in-sort : (σ : Reader) (w : Write) → InSort z t w → Words σ → Words (update σ w)
   write-in-sort σ w h i d g = go (touches w d) refl
     where
-      go : (b : Bool) → touches w d ≡ b → ofSort z (sortOf z d) (cond b (written w) (σ d)) ≡ true
+      go : (b : Bool) → touches w d ≡ b → ofSort z (sortOf z d) (cond b (valueLeft w) (σ d)) ≡ true
       go true e = written-in-sort w h d e
       go false e = i d g
 
@@ -185,7 +185,7 @@ module _ (z : Sizes) (t : ℕ) where
   writes-in-sort σ [] h i = i
   writes-in-sort σ (w ∷ ws) h i = writes-in-sort (update σ w) ws (h .1) (write-in-sort σ w (h .0) i)
 
-  -- no other thread's words are written
+  -- no other thread's words are valueLeft
   writes-own : (w : Write) → InSort z t w → OtherThread t (areaTouched w) → ⊥
   writes-own (content k := v) h o = o
   writes-own (consumer k := v) h o = o h

@@ -37,42 +37,42 @@ abbrev pub sameArea : Area → Area → Bool
 sameArea a b = eqb (areaKind a) (areaKind b) && eqb (areaNumber a) (areaNumber b)
 
 -- A cell by its kind, its field, the entry that it belongs to, and its area's number.
-abbrev pub kind : Cell → ℕ
-kind (content k) = 0
-kind (consumer k) = 1
-kind (producer t k) = 2
-kind (part r k) = 3
-kind (entry r i k) = 4
+abbrev pub cellKind : Cell → ℕ
+cellKind (content k) = 0
+cellKind (consumer k) = 1
+cellKind (producer t k) = 2
+cellKind (part r k) = 3
+cellKind (entry r i k) = 4
 
-abbrev pub field : Cell → ℕ
-field (content k) = k
-field (consumer k) = k
-field (producer t k) = k
-field (part r k) = k
-field (entry r i k) = k
+abbrev pub cellField : Cell → ℕ
+cellField (content k) = k
+cellField (consumer k) = k
+cellField (producer t k) = k
+cellField (part r k) = k
+cellField (entry r i k) = k
 
-abbrev pub slot : Cell → ℕ
-slot (content k) = 0
-slot (consumer k) = 0
-slot (producer t k) = 0
-slot (part r k) = 0
-slot (entry r i k) = i
+abbrev pub cellEntry : Cell → ℕ
+cellEntry (content k) = 0
+cellEntry (consumer k) = 0
+cellEntry (producer t k) = 0
+cellEntry (part r k) = 0
+cellEntry (entry r i k) = i
 
 abbrev pub same : Cell → Cell → Bool
-same c d = eqb (kind c) (kind d) && (eqb (field c) (field d) && (eqb (slot c) (slot d) && eqb (areaNumber (areaOf c)) (areaNumber (areaOf d))))
+same c d = eqb (cellKind c) (cellKind d) && (eqb (cellField c) (cellField d) && (eqb (cellEntry c) (cellEntry d) && eqb (areaNumber (areaOf c)) (areaNumber (areaOf d))))
 
 -- Whether a write touches a cell, and what it leaves there.
 abbrev pub touches : Write → Cell → Bool
 touches (c := v) d = same c d
 touches (clear a) d = sameArea a (areaOf d)
 
-abbrev pub written : Write → ℕ
-written (c := v) = v
-written (clear a) = 0
+abbrev pub valueLeft : Write → ℕ
+valueLeft (c := v) = v
+valueLeft (clear a) = 0
 
 -- A write, and a list of them in order, on a reader.
 abbrev pub update : Reader → Write → Reader
-update σ w d = cond (touches w d) (written w) (σ d)
+update σ w d = cond (touches w d) (valueLeft w) (σ d)
 
 abbrev pub after : Reader → List Write → Reader
 after σ [] = σ
@@ -91,7 +91,7 @@ pub true-false : {b : Bool} → b ≡ true → b ≡ false → ⊥
 true-false p q = let z : _≡_ {A = ℕ} 0 1 = cc in omega arith
 
 -- an area and a cell are known by their numbers
-areaFrom : (kind number : ℕ) → Area
+areaFrom : (cellKind number : ℕ) → Area
 areaFrom k n = getD (contents ∷ ofConsumer ∷ ofProducer n ∷ ofRecord n ∷ []) k contents
 
 area-from : (a : Area) → areaFrom (areaKind a) (areaNumber a) ≡ a
@@ -101,10 +101,10 @@ area-from ofConsumer = refl
 area-from (ofProducer t) = refl
 area-from (ofRecord r) = refl
 
-cellFrom : (kind field slot number : ℕ) → Cell
+cellFrom : (cellKind cellField cellEntry number : ℕ) → Cell
 cellFrom x k i n = getD (content k ∷ consumer k ∷ producer n k ∷ part n k ∷ entry n i k ∷ []) x (content k)
 
-cell-from : (c : Cell) → cellFrom (kind c) (field c) (slot c) (areaNumber (areaOf c)) ≡ c
+cell-from : (c : Cell) → cellFrom (cellKind c) (cellField c) (cellEntry c) (areaNumber (areaOf c)) ≡ c
 unfolding cellFrom
 cell-from (content k) = refl
 cell-from (consumer k) = refl
@@ -123,20 +123,20 @@ same-area a = and-true (eq-eqb (areaKind a) (areaKind a) refl) (eq-eqb (areaNumb
 pub same-eq : (c d : Cell) → same c d ≡ true → c ≡ d
 same-eq c d e =
     let n : Cell → ℕ = λ x. areaNumber (areaOf x) in
-    let p = both (eqb (kind c) (kind d)) (eqb (field c) (field d) && (eqb (slot c) (slot d) && eqb (n c) (n d))) e in
-    let q = both (eqb (field c) (field d)) (eqb (slot c) (slot d) && eqb (n c) (n d)) (p .1) in
-    let r = both (eqb (slot c) (slot d)) (eqb (n c) (n d)) (q .1) in
-    let a = eqb-true (kind c) (kind d) (p .0) in
-    let b = eqb-true (field c) (field d) (q .0) in
-    let i = eqb-true (slot c) (slot d) (r .0) in
+    let p = both (eqb (cellKind c) (cellKind d)) (eqb (cellField c) (cellField d) && (eqb (cellEntry c) (cellEntry d) && eqb (n c) (n d))) e in
+    let q = both (eqb (cellField c) (cellField d)) (eqb (cellEntry c) (cellEntry d) && eqb (n c) (n d)) (p .1) in
+    let r = both (eqb (cellEntry c) (cellEntry d)) (eqb (n c) (n d)) (q .1) in
+    let a = eqb-true (cellKind c) (cellKind d) (p .0) in
+    let b = eqb-true (cellField c) (cellField d) (q .0) in
+    let i = eqb-true (cellEntry c) (cellEntry d) (r .0) in
     let k = eqb-true (n c) (n d) (r .1) in
     sym (cell-from c) ∙ (λ x. cellFrom (a x) (b x) (i x) (k x)) ∙ cell-from d
 
 pub same-cell : (c : Cell) → same c c ≡ true
 same-cell c =
-    and-true (eq-eqb (kind c) (kind c) refl)
-    (and-true (eq-eqb (field c) (field c) refl)
-    (and-true (eq-eqb (slot c) (slot c) refl) (eq-eqb (areaNumber (areaOf c)) (areaNumber (areaOf c)) refl)))
+    and-true (eq-eqb (cellKind c) (cellKind c) refl)
+    (and-true (eq-eqb (cellField c) (cellField c) refl)
+    (and-true (eq-eqb (cellEntry c) (cellEntry c) refl) (eq-eqb (areaNumber (areaOf c)) (areaNumber (areaOf c)) refl)))
 
 -- The frame law: a write leaves a cell that it does not touch.
 pub untouched : (σ : Reader) (w : Write) (d : Cell) → touches w d ≡ false → update σ w d ≡ σ d
@@ -155,27 +155,27 @@ touches-area (clear a) d e = same-area-eq a (areaOf d) e
 pub other-area : (σ : Reader) (w : Write) (d : Cell) → (areaTouched w ≡ areaOf d → ⊥) → update σ w d ≡ σ d
 other-area σ w d n = go (touches w d) refl
   where
-    go : (b : Bool) → touches w d ≡ b → cond b (written w) (σ d) ≡ σ d
+    go : (b : Bool) → touches w d ≡ b → cond b (valueLeft w) (σ d) ≡ σ d
     go true e = absurd (n (touches-area w d e))
     go false e = refl
 
 -- Areas of two kinds.
-abbrev pub Apart : Area → Area → Type 0
-Apart a b = eqb (areaKind a) (areaKind b) ≡ false
+abbrev pub OtherKind : Area → Area → Type 0
+OtherKind a b = eqb (areaKind a) (areaKind b) ≡ false
 
-pub kinds-apart : (a b : Area) → Apart a b → a ≡ b → ⊥
-kinds-apart a b n e = true-false (eq-eqb (areaKind a) (areaKind b) (ap areaKind e)) n
+pub other-kind : (a b : Area) → OtherKind a b → a ≡ b → ⊥
+other-kind a b n e = true-false (eq-eqb (areaKind a) (areaKind b) (ap areaKind e)) n
 
 -- A write of one of the words of a thread's area.
 abbrev pub fieldTouched : Write → ℕ
-fieldTouched (c := v) = field c
+fieldTouched (c := v) = cellField c
 fieldTouched (clear a) = 0
 
 abbrev pub Own : Area → Write → Type 0
 Own a w = (areaTouched w ≡ a) × (fieldTouched w < threadWords)
 
 -- Writes of an area's words leave the cells of areas of other kinds.
-pub own-leaves : (a : Area) (σ : Reader) (ws : List Write) → All (Own a) ws → (d : Cell) → Apart a (areaOf d) → after σ ws d ≡ σ d
+pub own-leaves : (a : Area) (σ : Reader) (ws : List Write) → All (Own a) ws → (d : Cell) → OtherKind a (areaOf d) → after σ ws d ≡ σ d
 own-leaves a σ [] h d n = refl
 own-leaves a σ (w ∷ ws) h d n =
-    own-leaves a (update σ w) ws (h .1) d n ∙ other-area σ w d (λ e. kinds-apart a (areaOf d) n (sym (h .0 .0) ∙ e))
+    own-leaves a (update σ w) ws (h .1) d n ∙ other-area σ w d (λ e. other-kind a (areaOf d) n (sym (h .0 .0) ∙ e))

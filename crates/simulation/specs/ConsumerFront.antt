@@ -16,7 +16,7 @@ use Rattle.rules.specs.Request.{step}
 use Rattle.rules.specs.InRange.{InSort, others-untouched, writes-keep-range}
 use Rattle.model.specs.State.{gone, State}
 use Rattle.model.specs.State
-use Rattle.model.specs.Invariant.{Inside, dequeues}
+use Rattle.model.specs.Invariant.{Inside, isBusy}
 use Rattle.model.specs.Dequeues.{empty-at-head-end, empty-at-tail}
 use Rattle.model.specs.Scanning.{retire-head, advance-head, front-found, front-blank, read-tail}
 use Rattle.model.specs.Bounds.{head-inside, gone-head-below-tail, read-head-below-tail}
@@ -37,7 +37,7 @@ module _ (z : Sizes) (σ : Reader) (γ : Ghost) (good : Good z σ γ) where
   unfolding readTail
   read-tail-fine e =
       by-cond (Fine z σ γ (step 0)) (eqb (σ tail) (σ headPosition)) _ _
-      (λ b. answers-empty z σ γ good (ap dequeues seen) (empty-at-tail (z .B) (view σ γ) (good .model) (eqb-true (σ tail) (σ headPosition) b)))
+      (λ b. answers-empty z σ γ good (ap isBusy seen) (empty-at-tail (z .B) (view σ γ) (good .model) (eqb-true (σ tail) (σ headPosition) b)))
       (λ b.
       let n : σ tail ≢ σ headPosition = eqb-false (σ tail) (σ headPosition) b in
       let room : suc (σ headPosition) ≤ z .M = omega (arith, read-head-below-tail (z .B) (view σ γ) (good .model) n, tail-fits z σ γ good) in
@@ -222,7 +222,7 @@ module _ (z : Sizes) (σ : Reader) (γ : Ghost) (good : Good z σ γ) where
       let at-end : σ headPosition ≡ z .B * γ .shape .lo = eqb-true (σ headPosition) (z .B * σ (place h)) b ∙ ap (λ (x : ℕ). z .B * x) (placed e h q) in
       by-cond (Fine z σ γ (step 0)) (eqb (σ tailRecord) (suc h)) _ _
       (λ c.
-      answers-empty z σ γ good (ap dequeues (seen-front e h q))
+      answers-empty z σ γ good (ap isBusy (seen-front e h q))
       (empty-at-head-end (z .B) (view σ γ) (good .model) at-end
       (sym (placed e h q) ∙ tail-record-is z σ γ good h (linked e h q) (eqb-true (σ tailRecord) (suc h) c))))
       (λ c.

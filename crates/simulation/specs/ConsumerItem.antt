@@ -20,7 +20,7 @@ use Rattle.rules.specs.Request.{step}
 use Rattle.model.specs.State
 use Rattle.model.specs.State.{gone, at}
 use Rattle.model.specs.Facts.{at-same, at-other}
-use Rattle.model.specs.Invariant.{Inside, Found, dequeues}
+use Rattle.model.specs.Invariant.{Inside, Found, isBusy}
 use Rattle.model.specs.Scanning.{read-item}
 use Rattle.model.specs.Dequeues.{take-item, take-front}
 use Rattle.model.specs.Bounds.{found-found, holding-found}
@@ -110,7 +110,7 @@ module _ (z : Sizes) (σ : Reader) (γ : Ghost) (good : Good z σ γ) where
     light y n a k = rw (other-record σ r (s .linked) y n, and-false (eqb i a), and-false (eqb 0 k)) refl
 
     formed : wellFormed (gaveItem (σ itemNumber) (σ itemValue) ∷ γ .history) ≡ true
-    formed = dequeue-may-give (γ .history) (good .formed) (σ itemNumber) (σ itemValue) (good .model .calls .of-consumer ∙ ap dequeues seen)
+    formed = dequeue-may-give (γ .history) (good .formed) (σ itemNumber) (σ itemValue) (good .model .calls .of-consumer ∙ ap isBusy seen)
 
     takes-item : Goes z σ γ (step 0) (item (σ itemNumber) (σ itemValue)) (state r i := 2 ∷ clearConsumer ∷ [])
     takes-item =

@@ -15,7 +15,7 @@ use Rattle.rules.specs.Consumer.{scan, readEntry}
 use Rattle.rules.specs.Request.{step}
 use Rattle.model.specs.State
 use Rattle.model.specs.State.{put}
-use Rattle.model.specs.Invariant.{Inside, Reached, dequeues}
+use Rattle.model.specs.Invariant.{Inside, Reached, isBusy}
 use Rattle.model.specs.Dequeues.{empty-scanned-records, empty-scanned-tail}
 use Rattle.model.specs.Scanning.{scan-cross, scan-look, look-found, look-pass}
 use Rattle.model.specs.Bounds.{scanning-reached, scanning-crosses, looking-inside, looking-below-tail}
@@ -71,14 +71,14 @@ module _ (z : Sizes) (σ : Reader) (γ : Ghost) (good : Good z σ γ) where
       let end : σ cursorPosition ≡ z .B * σ (place r) = eqb-true (σ cursorPosition) (z .B * σ (place r)) b in
       by-cond (Fine z σ γ (step 0)) (eqb (σ tailRecord) (suc r)) _ _
       (λ c.
-      answers-empty z σ γ good (ap dequeues (seen-scanning e))
+      answers-empty z σ γ good (ap isBusy (seen-scanning e))
       (empty-scanned-records (z .B) (view σ γ) (good .model) _ _ (seen-scanning e) (at-end z σ γ good r q (σ cursorPosition) end)
       (placed z σ γ good r q ∙ tail-record-is z σ γ good r (linked z σ γ good r q) (eqb-true (σ tailRecord) (suc r) c))))
       (λ c. crosses e r q end (not-tail-record z σ γ good r (linked z σ γ good r q) (eqb-false (σ tailRecord) (suc r) c))))
       (λ b.
       by-cond (Fine z σ γ (step 0)) (eqb (σ cursorPosition) (σ tail)) _ _
       (λ c.
-      answers-empty z σ γ good (ap dequeues (seen-scanning e))
+      answers-empty z σ γ good (ap isBusy (seen-scanning e))
       (empty-scanned-tail (z .B) (view σ γ) (good .model) _ _ (seen-scanning e) (eqb-true (σ cursorPosition) (σ tail) c)))
       (λ c.
       let w = cursor-words e in

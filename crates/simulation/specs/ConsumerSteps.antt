@@ -23,7 +23,7 @@ use Rattle.rules.specs.Play.{replyEvents}
 use Rattle.rules.specs.Readback.{WriteThere}
 use Rattle.rules.specs.InRange.{InSort, writes-keep-range}
 use Rattle.model.specs.State.{Entry, blank, put, gone, Consumer, resting}
-use Rattle.model.specs.Invariant.{Invariant, dequeues}
+use Rattle.model.specs.Invariant.{Invariant, isBusy}
 use Rattle.model.specs.Moves.{withConsumer, answerEmpty}
 use Rattle.memory.specs.Memory.{rowOf, Linked}
 use Rattle.memory.specs.Light.{Light, consumer-keeps}
@@ -117,7 +117,7 @@ module _ (z : Sizes) (σ : Reader) (γ : Ghost) (good : Good z σ γ) where
       (record { cursor-record = none 1; cursor-position = none 2; found-record = none 3; found-position = none 4; item-number = none 5; item-value = none 6; spare = none 7 })
 
   -- The dequeue answers empty.
-  pub answers-empty : dequeues (view σ γ .consumer) ≡ true → Invariant (z .B) (answerEmpty (view σ γ)) → Fine z σ γ (step 0) endsEmpty
+  pub answers-empty : isBusy (view σ γ .consumer) ≡ true → Invariant (z .B) (answerEmpty (view σ γ)) → Fine z σ γ (step 0) endsEmpty
   answers-empty busy model =
       consumer-own z σ γ good (step 0) refl empty (clearConsumer ∷ []) resting (gaveEmpty ∷ γ .history) ((refl, omega arith), tt)
       (resting-in-range (after σ (clearConsumer ∷ [])) (λ k. refl))

@@ -9,7 +9,7 @@ use Rattle.history.specs.Event.{History}
 use Rattle.history.specs.Form.{wellFormed}
 use Rattle.rules.specs.Sizes.{Sizes}
 use Rattle.rules.specs.Cell.{Cell, content, consumer, producer, part, entry, Reader, Area, contents, ofConsumer, ofProducer, ofRecord, Write, _:=_, clear, tailRecord, headRecord, cursorRecord, foundRecord, tail, headPosition, starts, place}
-use Rattle.rules.specs.Update.{areaOf, after, Apart, kinds-apart, Own, own-leaves}
+use Rattle.rules.specs.Update.{areaOf, after, OtherKind, other-kind, Own, own-leaves}
 use Rattle.rules.specs.Address.{AreaThere}
 use Rattle.rules.specs.Range.{producerInRange, consumerInRange}
 use Rattle.rules.specs.Rule.{Reply}
@@ -21,7 +21,7 @@ use Rattle.model.specs.State.{Producer, Consumer, State, at}
 use Rattle.model.specs.Invariant.{Invariant}
 use Rattle.model.specs.Moves.{withProducer, withConsumer}
 use Rattle.memory.specs.Memory.{ThreadOk, rowOf, Linked}
-use Rattle.memory.specs.Frames.{others-kept}
+use Rattle.memory.specs.OtherThreads.{others-kept}
 use Rattle.memory.specs.Light.{consumer-keeps}
 use Rattle.simulation.specs.View.{Ghost, placesOf, placeOf, producerOf, producersOf, consumerFrom, consumerOf, view, Agrees, cellOf}
 use Rattle.simulation.specs.Good.{Good, Goes, threadOf, Moved, places-stay}
@@ -31,8 +31,8 @@ use Rattle.simulation.specs.ProducerSteps.{producers-after, producer-goe
 pub record Thread (z : Sizes) (t : ℕ) (a : Area) : Type 0 where
   pub in-sort : InSort z t (clear a)
   pub is-there : AreaThere z a
-  pub no-contents : Apart contents a
-  pub no-record : (r : ℕ) → Apart (ofRecord r) a
+  pub no-contents : OtherKind contents a
+  pub no-record : (r : ℕ) → OtherKind (ofRecord r) a
 
 pub a-consumer : (z : Sizes) → Thread z 0 ofConsumer
 a-consumer z = record { in-sort = refl; is-there = tt; no-contents = refl; no-record = λ r. refl }
@@ -42,13 +42,13 @@ of-producer z t h = record { in-sort = refl; is-there = h; no-contents = refl; n
 
 -- Its words are in range and there.
 pub own-sorted : (z : Sizes) (t : ℕ) (a : Area) → Thread z t a → (w : Write) → Own a w → InSort z t w × WriteThere z w
-own-sorted z t a th (content k := v) h = absurd (kinds-apart contents a (th .no-contents) (h .0))
+own-sorted z t a th (content k := v) h = absurd (other-kind contents a (th .no-contents) (h .0))
 own-sorted z t a th (consumer k := v) h = (subst⁻¹ (λ (b : Area). InSort z t (clear b)) (h .0) (th .in-sort), h .1)
 own-sorted z t a th (producer u k := v) h =
     let is : AreaThere z (ofProducer u) = subst⁻¹ (AreaThere z) (h .0) (th .is-there) in
     (subst⁻¹ (λ (b : Area). InSort z t (clear b)) (h .0) (th .in-sort), (is .0, is .1, h .1))
-own-sorted z t a th (part r k := v) h = absurd (kinds-apart (ofRecord r) a (th .no-record r) (h .0))
-own-sorted z t a th (entry r i k := v) h = absurd (kinds-apart (ofRecord r) a (th .no-record r) (h .0))
+own-sorted z t a th (part r k := v) h = absurd (other-kind (ofRecord r) a (th .no-record r) (h .0))
+own-sorted z t a th (entry r i k := v) h = absurd (other-kind (ofRecord r) a (th .no-record r) (h .0))
 own-sorted z t a th (clear b) h =
     (subst⁻¹ (λ (x : Area). InSort z t (clear x)) (h .0) (th .in-sort), subst⁻¹ (AreaThere z) (h .0) (th .is-there))
 
@@ -122,7 +122,7 @@ module _ (z : Sizes) (σ : Reader) (γ : Ghost) (good : Good z σ γ) where
       σ′ : Reader
       σ′ = after σ ws
 
-      same : (c : Cell) → Apart (ofProducer t) (areaOf c) → σ′ c ≡ σ c
+      same : (c : Cell) → OtherKind (ofProducer t) (areaOf c) → σ′ c ≡ σ c
       same = own-leaves (ofProducer t) σ ws own
 
       in-sort : All (InSort z t) ws
@@ -186,7 +186,7 @@ module _ (z : Sizes) (σ : Reader) (γ : Ghost) (good : Good z σ γ) where
       σ′ : Reader
       σ′ = after σ ws
 
-      same : (c : Cell) → Apart ofConsumer (areaOf c) → σ′ c ≡ σ c
+      same : (c : Cell) → OtherKind ofConsumer (areaOf c) → σ′ c ≡ σ c
       same = own-leaves ofConsumer σ ws own
 
       in-sort : All (InSort z 0) ws

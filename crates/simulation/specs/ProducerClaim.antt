@@ -23,7 +23,7 @@ use Rattle.rules.specs.InRange.{InSort, others-untouched}
 use Rattle.model.specs.State.{idle, callOf}
 use Rattle.model.specs.Enqueues.{finish-keeps}
 use Rattle.memory.specs.Memory.{rowOf, Memory}
-use Rattle.memory.specs.Frames.{others-kept}
+use Rattle.memory.specs.OtherThreads.{others-kept}
 use Rattle.memory.specs.Loose.{Loose, free-loose}
 use Rattle.memory.specs.Claiming.{claimWrites, claim-keeps}
 use Rattle.simulation.specs.View.{Ghost, placesOf, placeOf, producerAt, producersOf, view, cellOf}

@@ -13,7 +13,7 @@ use Rattle.history.specs.Event.{History, enqueueEnded}
 use Rattle.history.specs.Form.{wellFormed}
 use Rattle.history.specs.Linearization.{Item}
 use Rattle.rules.specs.Sizes.{Sizes}
-use Rattle.rules.specs.Update.{after, both, update, areaOf, Apart, Own, own-leaves}
+use Rattle.rules.specs.Update.{after, both, update, areaOf, OtherKind, Own, own-leaves}
 use Rattle.rules.specs.Cell.{Cell, Reader, Write, _:=_, clearProducer, tail, tailRecord, headRecord, headPosition, starts, cursorRecord, foundRecord, consumer, producer, part, entry, place, used, state, entryNumber, entryValue, phase, call, value, position, held, backed, ofProducer}
 use Rattle.rules.specs.Range.{number, startedSorts, placedSorts, producerSorts, producerInRange}
 use Rattle.rules.specs.Rule.{Reply, going, ended, goes, reply, index}
@@ -31,7 +31,7 @@ use Rattle.model.specs.Enqueues.{finish-keeps}
 use Rattle.model.specs.Count.{tail-below}
 use Rattle.model.specs.Bounds.{writing-place, setting-place}
 use Rattle.memory.specs.Memory.{Holdable, ThreadOk, rowOf, held-is}
-use Rattle.memory.specs.Frames.{others-kept}
+use Rattle.memory.specs.OtherThreads.{others-kept}
 use Rattle.simulation.specs.View.{Ghost, placesOf, placeOf, producersOf, consumerFrom, view}
 use Rattle.simulation.specs.Good.{Good, Goes, Fine, by-need, by-cond, by-up-to}
 use Rattle.simulation.specs.Rows.{ProducerWords, of-sort, has-sort, producer-row-of}
@@ -221,7 +221,7 @@ module _ (z : Sizes) (σ : Reader) (γ : Ghost) (good : Good z σ γ) (t : ℕ) 
         σ′ : Reader
         σ′ = after σ ws
 
-        same : (d : Cell) → Apart (ofProducer t) (areaOf d) → σ′ d ≡ update σ (state h i := 1) d
+        same : (d : Cell) → OtherKind (ofProducer t) (areaOf d) → σ′ d ≡ update σ (state h i := 1) d
         same = own-leaves (ofProducer t) (update σ (state h i := 1)) rest own
 
         places : placesOf σ′ ≡ placesOf σ

@@ -15,7 +15,7 @@ use Rattle.history.specs.Event.{History, enqueueEnded}
 use Rattle.history.specs.Form.{wellFormed}
 use Rattle.rules.specs.Sizes.{Sizes, mostPlace}
 use Rattle.rules.specs.Cell.{Cell, Reader, Write, _:=_, clearProducer, tail, headPosition, starts, producer, part, entry, consumer, place, next, prev, used, phase, call, value, position, held, claimed, tailRecord, headRecord, cursorRecord, foundRecord, ofProducer}
-use Rattle.rules.specs.Update.{after, update, areaOf, Apart, Own, own-leaves}
+use Rattle.rules.specs.Update.{after, update, areaOf, OtherKind, Own, own-leaves}
 use Rattle.rules.specs.Range.{number, link, most, producerSorts, producerInRange}
 use Rattle.rules.specs.Rule.{Reply, Answer, going, ended, goes, reply}
 use Rattle.rules.specs.Producer.{linked, linkClaimed, linkAhead}
@@ -28,10 +28,10 @@ use Rattle.model.specs.Invariant.{Invariant}
 use Rattle.model.specs.Moves.{withProducer, linkLast}
 use Rattle.model.specs.Walking.{producer-clause, pass-on, link-last}
 use Rattle.model.specs.Enqueues.{finish-keeps}
-use Rattle.memory.specs.Chain.{at}
+use Rattle.memory.specs.Chain.{withPlace}
 use Rattle.memory.specs.Memory.{Blank, rowOf, Memory, claimed-is, held-is}
-use Rattle.memory.specs.Ends.{held-last, held-before-last}
-use Rattle.memory.specs.Frames.{Untouched, OthersKept, others-kept}
+use Rattle.memory.specs.LastRecord.{held-last, held-before-last}
+use Rattle.memory.specs.OtherThreads.{Untouched, OthersKept, others-kept}
 use Rattle.memory.specs.Linking.{LetGo, give-back-keeps, link-keeps}
 use Rattle.simulation.specs.View.{Ghost, placesOf, placeOf, producerAt, producerOf, producersOf, view, cellOf}
 use Rattle.simulation.specs.Good.{Good, Goes, Fine, places-stay, by-need, by-cond, by-up-to}
@@ -110,7 +110,7 @@ module _ (z : Sizes) (σ : Reader) (γ : Ghost) (good : Good z σ γ) (t : ℕ) 
           σ′ : Reader
           σ′ = after σ giveWrites
 
-          same : (d : Cell) → Apart (ofProducer t) (areaOf d) → σ′ d ≡ update σ (used c := 0) d
+          same : (d : Cell) → OtherKind (ofProducer t) (areaOf d) → σ′ d ≡ update σ (used c := 0) d
           same = own-leaves (ofProducer t) (update σ (used c := 0)) rest own
 
           in-sort : All (InSort z t) giveWrites
@@ -130,7 +130,7 @@ module _ (z : Sizes) (σ : Reader) (γ : Ghost) (good : Good z σ γ) (t : ℕ) 
     abbrev linkedGhost : Ghost
     linkedGhost =
         record {
-          shape = record { lo = γ .shape .lo; tp = γ .shape .tp; hi = suc (γ .shape .hi); at = at (γ .shape .at) (suc (γ .shape .hi)) c };
+          shape = record { lo = γ .shape .lo; tp = γ .shape .tp; hi = suc (γ .shape .hi); at = withPlace (γ .shape .at) (suc (γ .shape .hi)) c };
           entry = γ .entry;
           owner = γ .owner;
           content = γ .content;
@@ -147,7 +147,7 @@ module _ (z : Sizes) (σ : Reader) (γ : Ghost) (good : Good z σ γ) (t : ℕ) 
       σ′ : Reader
       σ′ = after σ linkWrites
 
-      same : (d : Cell) → Apart (ofProducer t) (areaOf d) → σ′ d ≡ τ d
+      same : (d : Cell) → OtherKind (ofProducer t) (areaOf d) → σ′ d ≡ τ d
       unfolding σ′ τ
       same = own-leaves (ofProducer t) τ rest own
 

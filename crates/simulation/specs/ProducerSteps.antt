@@ -26,7 +26,7 @@ use Rattle.model.specs.State.{Entry, Producer, State, at}
 use Rattle.model.specs.Invariant.{Invariant}
 use Rattle.model.specs.Moves.{withProducer}
 use Rattle.memory.specs.Memory.{ChainShape, Held, ThreadOk, rowOf}
-use Rattle.memory.specs.Frames.{OthersKept, others-kept}
+use Rattle.memory.specs.OtherThreads.{OthersKept, others-kept}
 use Rattle.memory.specs.Light.{Light, producer-keeps}
 use Rattle.simulation.specs.View.{Ghost, placesOf, placeOf, producerAt, producerOf, producersOf, view, Agrees, cellOf}
 use Rattle.simulation.specs.Good.{Good, Goes, places-stay}

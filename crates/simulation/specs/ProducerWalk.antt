@@ -23,8 +23,8 @@ use Rattle.model.specs.Moves.{withProducer, chosen}
 use Rattle.model.specs.Walking.{producer-clause, pass-on, load-tail, go-back, shift-tail, leave-tail}
 use Rattle.model.specs.Bounds.{behind-past-first}
 use Rattle.memory.specs.Memory.{Holdable, Held, rowOf, Memory, held-is}
-use Rattle.memory.specs.Ends.{held-before-last}
-use Rattle.memory.specs.Frames.{others-kept}
+use Rattle.memory.specs.LastRecord.{held-before-last}
+use Rattle.memory.specs.OtherThreads.{others-kept}
 use Rattle.simulation.specs.View.{Ghost, placesOf, placeOf, producerAt, producersOf, view}
 use Rattle.simulation.specs.Good.{Good, Goes, Fine, by-need, by-cond}
 use Rattle.simulation.specs.Rows.{ProducerWords, of-sort, has-sort, producer-row-of}

@@ -112,7 +112,7 @@ agrees-kept B lo hi at entry content cell cell′ same a =
 -- They agree with one more record, of zero entries, behind the last one.
 pub agrees-grows : (B lo hi : ℕ) (at : ℕ → ℕ) (entry : ℕ → Entry) (content : ℕ → Item) (cell cell′ : ℕ → ℕ → ℕ → ℕ) (c : ℕ)
     → ((y i j : ℕ) → cell′ y i j ≡ cell y i j) → ((i j : ℕ) → cell c i j ≡ 0) → ((p : ℕ) → B * hi ≤ p → entry p ≡ blank)
-    → Agrees B lo hi at entry content cell → Agrees B lo (suc hi) (Chain.at at (suc hi) c) entry content cell′
+    → Agrees B lo hi at entry content cell → Agrees B lo (suc hi) (Chain.withPlace at (suc hi) c) entry content cell′
 agrees-grows B lo hi at entry content cell cell′ c same zeros blanks a =
     record {
       states =
@@ -130,9 +130,9 @@ agrees-grows B lo hi at entry content cell cell′ c same zeros blanks a =
     }
   where
     each : (Q : ℕ → ℕ → Type 0) → Q hi c → ((k : ℕ) → lo ≤ suc k → suc k ≤ hi → Q k (at (suc k)))
-        → (k : ℕ) → lo ≤ suc k → suc k ≤ suc hi → Q k (Chain.at at (suc hi) c (suc k))
+        → (k : ℕ) → lo ≤ suc k → suc k ≤ suc hi → Q k (Chain.withPlace at (suc hi) c (suc k))
     each Q new old k l h = go (ℕ-discrete k hi)
       where
-        go : Dec (k ≡ hi) → Q k (Chain.at at (suc hi) c (suc k))
-        go (yes e) = rw (e, Chain.at-same at (suc hi) c) new
-        go (no n) = rw (Chain.at-other at (suc hi) c (suc k) (λ e. omega arith)) (old k l (omega arith))
+        go : Dec (k ≡ hi) → Q k (Chain.withPlace at (suc hi) c (suc k))
+        go (yes e) = rw (e, Chain.with-place-same at (suc hi) c) new
+        go (no n) = rw (Chain.with-place-other at (suc hi) c (suc k) (λ e. omega arith)) (old k l (omega arith))

@@ -19,11 +19,11 @@ use Rattle.rules.specs.Request.{startEnqueue, startDequeue, startingEnqueue, st
 use Rattle.rules.specs.InRange.{InSort}
 use Rattle.model.specs.State
 use Rattle.model.specs.State.{callOf}
-use Rattle.model.specs.Invariant.{dequeues}
+use Rattle.model.specs.Invariant.{isBusy}
 use Rattle.model.specs.Enqueues.{begin-enqueue}
 use Rattle.model.specs.Dequeues.{begin-dequeue}
 use Rattle.memory.specs.Memory.{rowOf, Memory}
-use Rattle.memory.specs.Frames.{others-kept}
+use Rattle.memory.specs.OtherThreads.{others-kept}
 use Rattle.memory.specs.Light.{producer-keeps}
 use Rattle.simulation.specs.View.{Ghost, view}
 use Rattle.simulation.specs.Good.{Good, Goes, Fine, by-cond, places-stay}
@@ -119,5 +119,5 @@ module _ (z : Sizes) (σ : Reader) (γ : Ghost) (good : Good z σ γ) where
       (good .memory .cursor, good .memory .found)
       refl
       (begin-dequeue (z .B) (view σ γ) (good .model))
-      (dequeue-may-start (γ .history) (good .formed) (good .model .calls .of-consumer ∙ ap dequeues (consumer-at z σ γ good 0 e)))
+      (dequeue-may-start (γ .history) (good .formed) (good .model .calls .of-consumer ∙ ap isBusy (consumer-at z σ γ good 0 e)))
       refl)
