@@ -2,6 +2,7 @@
 use mathlib.Core.Bool.{Bool, _&&_}
 use Prim.Native.Nat.{ℕ, _+_, _*_, suc}
 use lib.Dec.{leb}
+use Rattle.history.specs.Event.{mostProducers}
 
 -- B entries in a record, N records, P producers, M enqueue starts allowed.
 pub record Sizes : Type 0 where
@@ -19,9 +20,6 @@ mostEntries = 64
 
 abbrev pub mostRecords : ℕ
 mostRecords = 64
-
-abbrev pub mostProducers : ℕ
-mostProducers = 16
 
 abbrev pub mostStarts : ℕ
 mostStarts = 1000000

@@ -15,7 +15,7 @@ use Rattle.criterion.specs.Growth.{dequeue-may-be-empty}
 use Rattle.rules.specs.Sizes.{Sizes}
 use Rattle.rules.specs.Cell.{Reader, Write, clearConsumer, consumer, consumerPhase, cursorRecord, cursorPosition, foundRecord, foundPosition, itemNumber, itemValue, tail, tailRecord, headRecord, place, next, used, ofConsumer}
 use Rattle.rules.specs.Update.{after, Own}
-use Rattle.rules.specs.Range.{number, consumerSorts, consumerInRange}
+use Rattle.rules.specs.Range.{lastConsumerPhase, number, consumerSorts, consumerInRange}
 use Rattle.rules.specs.Rule.{Answer, Reply, going, empty, cross}
 use Rattle.rules.specs.Consumer.{byState, endsEmpty}
 use Rattle.rules.specs.Request.{step}
@@ -128,7 +128,7 @@ module _ (z : Sizes) (σ : Reader) (γ : Ghost) (good : Good z σ γ) where
       refl
 
   -- A step of the consumer that writes its own words alone, and goes on to phase p.
-  pub consumer-goes : (ws : List Write) (p : ℕ) (x : Consumer) → All (Own ofConsumer) ws → after σ ws consumerPhase ≡ p → p ≤ 7
+  pub consumer-goes : (ws : List Write) (p : ℕ) (x : Consumer) → All (Own ofConsumer) ws → after σ ws consumerPhase ≡ p → p ≤ lastConsumerPhase
       → ConsumerWords z (λ k. after σ ws (consumer k)) (getD consumerSorts p [])
       → Linked σ (after σ ws cursorRecord) × Linked σ (after σ ws foundRecord)
       → consumerOf (after σ ws) ≡ x

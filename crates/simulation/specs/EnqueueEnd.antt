@@ -14,7 +14,7 @@ use Rattle.criterion.specs.Explained.{current}
 use Rattle.criterion.specs.Growth.{enqueue-may-end}
 use Rattle.rules.specs.Sizes.{Sizes}
 use Rattle.rules.specs.Cell.{Reader, producer, value}
-use Rattle.rules.specs.Range.{threadInRange, producerSorts}
+use Rattle.rules.specs.Range.{lastProducerPhase, threadInRange, producerSorts}
 use Rattle.rules.specs.Play.{endOfEnqueue}
 use Rattle.model.specs.State.{idle, callOf}
 use Rattle.simulation.specs.View.{Ghost, placeOf, producerAt, producerOf, view}
@@ -59,7 +59,7 @@ module _ (z : Sizes) (σ : Reader) (γ : Ghost) (good : Good z σ γ) (t : ℕ) 
 
 -- A producer whose words are all zero is idle.
 module _ (z : Sizes) (lo : ℕ) (σ : Reader) (row : ℕ → ℕ) (none : (k : ℕ) → row k ≡ 0) where
-  pub idle-in-range : threadInRange z 11 producerSorts row ≡ true
+  pub idle-in-range : threadInRange z lastProducerPhase producerSorts row ≡ true
   idle-in-range =
       producer-row-of z row 0 (none 0) (omega arith)
       (record { call = none 1; value = none 2; position = none 3; held = none 4; claimed = none 5; backed = none 6; spare = none 7 })

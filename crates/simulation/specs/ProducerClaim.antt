@@ -14,7 +14,7 @@ use Rattle.history.specs.Event.{enqueueEnded}
 use Rattle.rules.specs.Sizes.{Sizes}
 use Rattle.rules.specs.Cell.{Reader, Write, clearProducer, place, used, phase, call, value, position, held, producer}
 use Rattle.rules.specs.Update.{after}
-use Rattle.rules.specs.Range.{producerSorts}
+use Rattle.rules.specs.Range.{lastProducerPhase, producerSorts}
 use Rattle.rules.specs.Free.{free, Choice}
 use Rattle.rules.specs.Rule.{going, ended}
 use Rattle.rules.specs.Producer.{claimRecord, claimAhead}
@@ -41,7 +41,7 @@ module _ (z : Sizes) (σ : Reader) (γ : Ghost) (good : Good z σ γ) (t : ℕ) 
   -- The claim of record r in phase p, on the way to p′, in which the producer is seen as before.
   claims : (p p′ r : ℕ) → σ (phase t) ≡ p → 3 ≤ p → r < z .N → Loose σ r
       → ((n v L k : ℕ) → producerAt p′ n v L k ≡ producerAt p n v L k)
-      → p′ ≤ 11 → ProducerWords z (rowOf (after σ (claimWrites t r p′)) t) (getD producerSorts p′ [])
+      → p′ ≤ lastProducerPhase → ProducerWords z (rowOf (after σ (claimWrites t r p′)) t) (getD producerSorts p′ [])
       → Goes z σ γ (step t) going (claimWrites t r p′)
   claims p p′ r e past fits loose same-seen l row =
       record-goes z σ γ good t a-producer (step t) going ws γ in-sort
