@@ -14,7 +14,8 @@ use Rattle.recording.specs.Report.{printedReading}
 use Rattle.session.specs.declared.Place.{Place}
 use Rattle.session.specs.declared.Next.{Next}
 use Rattle.session.specs.declared.Next.the-variants.{Stop, On}
-use Rattle.session.specs.Session.{mostInput, mostWords, blank, start, runLines, printedRun, output}
+use Rattle.rules.specs.Sizes.{mostWords}
+use Rattle.session.specs.Session.{mostInput, blank, start, runLines, printedRun, output}
 use Rattle.session.specs.Turns.{mostReplies, Leaves, Ran}
 use Rattle.session.specs.Reading.{words-read}
 use Rattle.session.specs.Reaching.{lines-formed, lines-named}

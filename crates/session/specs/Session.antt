@@ -7,7 +7,7 @@ use lib.Dec.{ltb}
 use lib.ListN.{length, replicate}
 use Rattle.history.specs.Event.{History}
 use Rattle.criterion.specs.Pass.{explains}
-use Rattle.rules.specs.Sizes.{Sizes}
+use Rattle.rules.specs.Sizes.{Sizes, mostWords}
 use Rattle.rules.specs.Free.{lowestFree}
 use Rattle.rules.specs.Rule.{Response, refused, accepted}
 use Rattle.rules.specs.Request.{Result, Request, startEnqueue, startDequeue, step, open-store, result}
@@ -22,10 +22,6 @@ use Rattle.protocol.specs.Printed.{printed, printedVerdict}
 abbrev pub mostInput : ℕ
 mostInput = 8192
 
--- the words of the store, as many as the largest sizes need
-abbrev pub mostWords : ℕ
-mostWords = 12696
-
 -- What stands between two lines: the words of the store, and the history since the last accepted open, or no events if there was
 -- none. The newest event comes first.
 pub record Session : Type 0 where
@@ -36,7 +32,7 @@ pub record Session : Type 0 where
 abbrev pub begun : List ℕ → Session
 begun m = record { words = m; history = [] }
 
--- Before any open the words are zero.
+-- Before any open the words are zero, as many as the largest sizes need.
 unfoldable pub blank : List ℕ
 blank = replicate mostWords 0
 
