@@ -13,8 +13,7 @@ use Rattle.rules.specs.Sizes.{Sizes}
 use Rattle.rules.specs.Cell.{Reader, Write, _:=_, wipe, cursorRecord, foundRecord, place, next, prev, used, claimed, phase, state, held}
 use Rattle.rules.specs.Update.{after}
 use Rattle.rules.specs.InRange.{InSort}
-use Rattle.memory.specs.Chain.{chain-kept}
-use Rattle.memory.specs.Memory.{ChainShape, Holdable, Blank, ThreadOk, rowOf, Linked, Memory, claimed-is}
+use Rattle.memory.specs.Memory.{ChainShape, Holdable, Blank, ThreadOk, rowOf, Linked, Memory, claimed-is, chain-stays}
 use Rattle.memory.specs.Loose.{Loose}
 use Rattle.memory.specs.OtherThreads.{held-kept, thread-kept, Untouched, holdable-kept, blank-kept, OthersKept, others-kept, every-row, outside-kept}
 
@@ -87,14 +86,7 @@ module _ (z : Sizes) (σ : Reader) (g : ChainShape) (m : Memory z σ g) (t r p :
       record {
         head-tail = m .head-tail;
         tail-last = m .tail-last;
-        chain =
-            chain-kept (omega (arith, m .head-tail, m .tail-last)) (m .chain)
-            (λ x. σ′ (place x))
-            (λ x. σ′ (next x))
-            (λ x. σ′ (prev x))
-            (λ x. σ′ (used x))
-            (λ x l. let o = others x (λ q. loose .not-linked (rw q l)) in (o .0 0, o .0 1, o .0 2, o .0 3 ∙ l))
-            used-word;
+        chain = chain-stays σ′ m (λ x l. others x (λ q. loose .not-linked (rw q l)) .0) used-word;
         tail-is = m .tail-is;
         head-is = m .head-is;
         threads = every-row t σ σ′ kept (λ u row. ThreadOk (z .N) (g .lo) σ′ row) own-row other-rows;

@@ -3,9 +3,8 @@ use mathlib.Core.Path.{_≡_, sym, _∙_, subst⁻¹, fun-ext}
 use Prim.Native.Nat.{ℕ, zero, suc, _≤_, _<_}
 use native.Mathlib.Omega.{arith}
 use Rattle.rules.specs.Sizes.{Sizes}
-use Rattle.rules.specs.Cell.{Reader, part, entry, tailRecord, headRecord, cursorRecord, foundRecord, place, next, prev, used, state}
-use Rattle.memory.specs.Chain.{chain-kept}
-use Rattle.memory.specs.Memory.{ChainShape, ChainOf, ThreadOk, rowOf, Linked, Memory}
+use Rattle.rules.specs.Cell.{Reader, part, entry, tailRecord, headRecord, cursorRecord, foundRecord, used, state}
+use Rattle.memory.specs.Memory.{ChainShape, ChainOf, ThreadOk, rowOf, Linked, Memory, chain-stays}
 use Rattle.memory.specs.OtherThreads.{thread-kept, holdable-kept, blank-kept, OthersKept, every-row, outside-kept, apart-kept}
 
 -- The words of records outside their entries stay, and so do the entries of records that are not linked.
@@ -15,10 +14,7 @@ pub record Light (σ σ′ : Reader) : Type 0 where
 
 module _ (z : Sizes) (σ σ′ : Reader) (g : ChainShape) (m : Memory z σ g) (light : Light σ σ′) where
   light-chain : ChainOf z σ′ g
-  light-chain =
-      chain-kept (omega (arith, m .head-tail, m .tail-last)) (m .chain) (λ x. σ′ (place x)) (λ x. σ′ (next x)) (λ x. σ′ (prev x)) (λ x. σ′ (used x))
-      (λ x l. (light .parts x 0, light .parts x 1, light .parts x 2, light .parts x 3 ∙ l))
-      (λ x e. sym (light .parts x 3) ∙ e)
+  light-chain = chain-stays σ′ m (λ x l. light .parts x) (λ x e. sym (light .parts x 3) ∙ e)
 
   light-linked : (x : ℕ) → Linked σ x → Linked σ′ x
   light-linked zero l = l

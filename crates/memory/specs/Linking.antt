@@ -6,8 +6,8 @@ use native.Mathlib.Decide.{ℕ-discrete}
 use native.Mathlib.Omega.{arith}
 use Rattle.rules.specs.Sizes.{Sizes}
 use Rattle.rules.specs.Cell.{Reader, entry, tailRecord, headRecord, cursorRecord, foundRecord, place, next, prev, used, claimed, state, held}
-use Rattle.memory.specs.Chain.{withPlace, with-place-other, chain-kept, chain-grows}
-use Rattle.memory.specs.Memory.{ChainShape, Holdable, Blank, ThreadOk, rowOf, Linked, Memory, claimed-is}
+use Rattle.memory.specs.Chain.{withPlace, with-place-other, chain-grows}
+use Rattle.memory.specs.Memory.{ChainShape, Holdable, Blank, ThreadOk, rowOf, Linked, Memory, claimed-is, chain-stays}
 use Rattle.memory.specs.LastRecord.{held-last}
 use Rattle.memory.specs.OtherThreads.{held-kept, thread-kept, Untouched, holdable-kept, blank-kept, OthersKept, every-row, outside-kept, apart-kept}
 
@@ -77,14 +77,7 @@ module _ (z : Sizes) (σ σ′ : Reader) (g : ChainShape) (m : Memory z σ g) (t
         record {
           head-tail = m .head-tail;
           tail-last = m .tail-last;
-          chain =
-              chain-kept (omega (arith, m .head-tail, m .tail-last)) (m .chain)
-              (λ x. σ′ (place x))
-              (λ x. σ′ (next x))
-              (λ x. σ′ (prev x))
-              (λ x. σ′ (used x))
-              (λ x l. let o = others x (linked-not-c x l) in (o .0 0, o .0 1, o .0 2, o .0 3 ∙ l))
-              give-used;
+          chain = chain-stays σ′ m (λ x l. others x (linked-not-c x l) .0) give-used;
           tail-is = tail-kept ∙ m .tail-is;
           head-is = head-kept ∙ m .head-is;
           threads =

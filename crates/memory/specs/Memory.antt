@@ -3,12 +3,13 @@
 -- Why it is inductive. A claim takes a record that is not linked, that no producer has claimed and, if it is retired, that none
 -- holds; so nothing that anyone can reach changes. A link is made only behind the last record, since only that one has no next.
 -- Only the consumer retires, and only the head record, which then has a next; so a held record is linked, or retired with a next.
-use mathlib.Core.Path.{_≡_, subst}
+use mathlib.Core.Path.{_≡_, _∙_, subst}
 use mathlib.Core.Logic.{_⊎_, _≢_}
 use Prim.Native.Nat.{ℕ, zero, suc, _≤_, _<_}
+use native.Mathlib.Omega.{arith}
 use Rattle.rules.specs.Sizes.{Sizes}
-use Rattle.rules.specs.Cell.{Reader, producer, entry, tailRecord, headRecord, cursorRecord, foundRecord, place, next, prev, used, state}
-use Rattle.memory.specs.Chain.{Chain}
+use Rattle.rules.specs.Cell.{Reader, producer, part, entry, tailRecord, headRecord, cursorRecord, foundRecord, place, next, prev, used, state}
+use Rattle.memory.specs.Chain.{Chain, chain-kept}
 
 -- Where the chain stands: the places of the head, tail and last record, and the record of each place.
 pub record ChainShape : Type 0 where
@@ -80,3 +81,10 @@ claimed-is {z} {σ} m t r e = subst (Claimed (z .N) σ) e (m .threads t .claimin
 -- the record that producer t holds
 pub held-is : {z : Sizes} {σ : Reader} {g : ChainShape} → Memory z σ g → (t r : ℕ) → rowOf σ t 4 ≡ suc r → Holdable (g .lo) σ r
 held-is {z} {σ} {g} m t r e = subst (Held (g .lo) σ) e (m .threads t .holding)
+
+-- The chain stays where the words of linked records outside their entries stay, and none is linked anew.
+pub chain-stays : {z : Sizes} {σ : Reader} {g : ChainShape} (σ′ : Reader) → Memory z σ g
+    → ((x : ℕ) → σ (used x) ≡ 2 → (k : ℕ) → σ′ (part x k) ≡ σ (part x k)) → ((x : ℕ) → σ′ (used x) ≡ 2 → σ (used x) ≡ 2) → ChainOf z σ′ g
+chain-stays σ′ m same none =
+    chain-kept (omega (arith, m .head-tail, m .tail-last)) (m .chain) (λ x. σ′ (place x)) (λ x. σ′ (next x)) (λ x. σ′ (prev x)) (λ x. σ′ (used x))
+    (λ x l. (same x l 0, same x l 1, same x l 2, same x l 3 ∙ l)) none

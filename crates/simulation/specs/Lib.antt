@@ -3,10 +3,10 @@ pub mod Good
 pub mod Rows
 pub mod Limits
 pub mod ProducerSteps
+pub mod RecordSteps
 pub mod OwnWords
 pub mod ProducerWalk
 pub mod Entries
-pub mod RecordSteps
 pub mod EnqueueEnd
 pub mod ProducerClaim
 pub mod ProducerLink

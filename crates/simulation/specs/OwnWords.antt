@@ -25,6 +25,7 @@ use Rattle.memory.specs.OtherThreads.{others-kept}
 use Rattle.memory.specs.Light.{consumer-keeps}
 use Rattle.simulation.specs.View.{Ghost, placesOf, placeOf, producerOf, producersOf, consumerFrom, consumerOf, view, Agrees, cellOf}
 use Rattle.simulation.specs.Good.{Good, Goes, threadOf, Moved, places-stay}
+use Rattle.simulation.specs.RecordSteps.{seen-as}
 use Rattle.simulation.specs.ProducerSteps.{producers-after, producer-goes}
 
 -- An area that a call of thread t may write as it likes: its own.
@@ -114,7 +115,10 @@ module _ (z : Sizes) (σ : Reader) (γ : Ghost) (good : Good z σ γ) where
       none
       (good .memory .head-tail, good .memory .tail-last, same tailRecord refl ∙ good .memory .tail-is)
       (subst (Agrees (z .B) (γ .shape .lo) (γ .shape .hi) (γ .shape .at) (γ .entry) (γ .content)) (cells-same σ′ (λ y i k. same (entry y i k) refl)) (good .agrees))
-      (subst (Invariant (z .B)) moves model)
+      (seen-as model (sym (same tail refl)) (sym (same headPosition refl)) (sym (same starts refl))
+      (producers-after t σ σ′ (others-kept z t σ ws in-sort)
+      (λ u n. ap (λ (f : ℕ → ℕ). placeOf f (rowOf σ u 4)) (places-same σ′ (λ y k. same (part y k) refl))) x seen)
+      (ap₂ consumerFrom (sym (places-same σ′ (λ y k. same (part y k) refl))) (fun-ext (λ k. sym (same (consumer k) refl)))))
       formed
       grown
       (omega (arith, same tail refl), omega arith)
@@ -127,25 +131,6 @@ module _ (z : Sizes) (σ : Reader) (γ : Ghost) (good : Good z σ γ) where
 
       in-sort : All (InSort z t) ws
       in-sort = own-in-sort z t (ofProducer t) (of-producer z t a) ws own
-
-      moves : withHistory (withProducer (view σ γ) t x) h ≡ view (after σ ws) (later γ h)
-      moves =
-          λ i. record {
-            tail = sym (same tail refl) i;
-            hp = sym (same headPosition refl) i;
-            lo = γ .shape .lo;
-            tp = γ .shape .tp;
-            hi = γ .shape .hi;
-            starts = sym (same starts refl) i;
-            entry = γ .entry;
-            owner = γ .owner;
-            content = γ .content;
-            producer =
-                producers-after t σ σ′ (others-kept z t σ ws in-sort)
-                (λ u n. ap (λ (f : ℕ → ℕ). placeOf f (rowOf σ u 4)) (places-same σ′ (λ y k. same (part y k) refl))) x seen i;
-            consumer = ap₂ consumerFrom (sym (places-same σ′ (λ y k. same (part y k) refl))) (fun-ext (λ k. sym (same (consumer k) refl))) i;
-            history = h;
-          }
 
   -- A step of the consumer that writes its own words alone.
   pub consumer-own : (q : Request) → threadOf q ≡ 0 → (r : Reply) (ws : List Write) (x : Consumer) (h : History)
@@ -174,7 +159,10 @@ module _ (z : Sizes) (σ : Reader) (γ : Ghost) (good : Good z σ γ) where
                   (linked .0)
                   (linked .1);
               agrees = subst (Agrees (z .B) (γ .shape .lo) (γ .shape .hi) (γ .shape .at) (γ .entry) (γ .content)) (cells-same σ′ (λ y i k. same (entry y i k) refl)) (good .agrees);
-              model = subst (Invariant (z .B)) moves model;
+              model =
+                  seen-as model (sym (same tail refl)) (sym (same headPosition refl)) (sym (same starts refl))
+                  (fun-ext (λ u. ap₂ producerOf (sym (places-same σ′ (λ y k. same (part y k) refl))) (fun-ext (λ k. sym (same (producer u k) refl)))))
+                  (sym seen);
               formed = formed;
             };
         grown = grown;
@@ -191,20 +179,3 @@ module _ (z : Sizes) (σ : Reader) (γ : Ghost) (good : Good z σ γ) where
 
       in-sort : All (InSort z 0) ws
       in-sort = own-in-sort z 0 ofConsumer (a-consumer z) ws own
-
-      moves : withHistory (withConsumer (view σ γ) x) h ≡ view (after σ ws) (later γ h)
-      moves =
-          λ i. record {
-            tail = sym (same tail refl) i;
-            hp = sym (same headPosition refl) i;
-            lo = γ .shape .lo;
-            tp = γ .shape .tp;
-            hi = γ .shape .hi;
-            starts = sym (same starts refl) i;
-            entry = γ .entry;
-            owner = γ .owner;
-            content = γ .content;
-            producer = λ u. ap₂ producerOf (sym (places-same σ′ (λ y k. same (part y k) refl))) (fun-ext (λ k. sym (same (producer u k) refl))) i;
-            consumer = sym seen i;
-            history = h;
-          }

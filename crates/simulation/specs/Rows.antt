@@ -9,7 +9,7 @@ use lib.Dec.{leb}
 use lib.ListN.{length, getD}
 use borrow.Author.Tests.{le-leb, leb-true, eq-eqb, eqb-true}
 use Rattle.rules.specs.Sizes.{Sizes}
-use Rattle.rules.specs.Range.{Sort, unused, exactly, number, link, record-number, most, any, producerSorts, consumerSorts, lastProducerPhase, lastConsumerPhase, ofSort, ofSorts, threadInRange}
+use Rattle.rules.specs.Range.{Sort, unused, exactly, number, link, record-number, most, any, producerSorts, consumerSorts, lastProducerPhase, lastConsumerPhase, ofSort, ofSorts, every, threadInRange}
 use Rattle.rules.specs.InRange.{every-at, sorts-at, sorts-of}
 use Rattle.rules.specs.Update.{and-true, both}
 
@@ -91,61 +91,57 @@ pub record ConsumerWords (z : Sizes) (row : ℕ → ℕ) (ss : List Sort) : Type
   pub item-value : OfSort z (getD ss 5 any) (row 6)
   pub spare : OfSort z (getD ss 6 any) (row 7)
 
-module _ (z : Sizes) (last : ℕ) (table : List (List Sort)) (row : ℕ → ℕ) where
-  -- A thread's words in range: its phase is listed, and its words are of that phase's sorts.
-  row-has : threadInRange z last table row ≡ true → (p : ℕ) → row 0 ≡ p → ofSorts z row 1 (getD table p []) ≡ true
-  row-has e p q =
-      subst (λ (x : ℕ). ofSorts z row 1 (getD table x []) ≡ true) q (both (leb (row 0) last) (ofSorts z row 1 (getD table (row 0) [])) e .1)
-
-  row-of : (p : ℕ) → row 0 ≡ p → p ≤ last → ofSorts z row 1 (getD table p []) ≡ true → threadInRange z last table row ≡ true
-  row-of p q l h =
-      and-true (le-leb (row 0) last (rw q l)) (subst⁻¹ (λ (x : ℕ). ofSorts z row 1 (getD table x []) ≡ true) q h)
-
 -- no phase has more than seven words
 fewWords : List (List Sort) → ℕ → Bool
 fewWords table p = leb (length (getD table p [])) 7
 
+-- what holds of 0 to 6
+seven : (Q : ℕ → Type 0) → Q 0 → Q 1 → Q 2 → Q 3 → Q 4 → Q 5 → Q 6 → (j : ℕ) → j < 7 → Q j
+seven Q a b c d e f g zero h = a
+seven Q a b c d e f g (suc zero) h = b
+seven Q a b c d e f g (suc (suc zero)) h = c
+seven Q a b c d e f g (suc (suc (suc zero))) h = d
+seven Q a b c d e f g (suc (suc (suc (suc zero)))) h = e
+seven Q a b c d e f g (suc (suc (suc (suc (suc zero))))) h = f
+seven Q a b c d e f g (suc (suc (suc (suc (suc (suc zero)))))) h = g
+seven Q a b c d e f g (suc (suc (suc (suc (suc (suc (suc j))))))) h = absurd (omega arith)
+
+module _ (z : Sizes) (last : ℕ) (table : List (List Sort)) (row : ℕ → ℕ) where
+  -- A thread's words in range: its phase is listed, and its words are of that phase's sorts.
+  row-has : threadInRange z last table row ≡ true → (p : ℕ) → row 0 ≡ p → (j : ℕ) → OfSort z (getD (getD table p []) j any) (row (suc j))
+  row-has e p q =
+      words-has z row (getD table p [])
+      (subst (λ (x : ℕ). ofSorts z row 1 (getD table x []) ≡ true) q (both (leb (row 0) last) (ofSorts z row 1 (getD table (row 0) [])) e .1))
+
+  row-of : every (suc last) (fewWords table) ≡ true → (p : ℕ) → row 0 ≡ p → p ≤ last
+      → ((j : ℕ) → j < 7 → OfSort z (getD (getD table p []) j any) (row (suc j))) → threadInRange z last table row ≡ true
+  unfolding fewWords
+  row-of few p q l each =
+      and-true (le-leb (row 0) last (rw q l))
+      (subst⁻¹ (λ (x : ℕ). ofSorts z row 1 (getD table x []) ≡ true) q
+      (words-of z row (getD table p []) 7 (leb-true (length (getD table p [])) 7 (every-at (suc last) (fewWords table) few p (omega arith))) each))
+
 module _ (z : Sizes) (row : ℕ → ℕ) where
   pub producer-row-has : threadInRange z lastProducerPhase producerSorts row ≡ true → (p : ℕ) → row 0 ≡ p → ProducerWords z row (getD producerSorts p [])
   producer-row-has e p q =
-      let w = words-has z row (getD producerSorts p []) (row-has z lastProducerPhase producerSorts row e p q) in
+      let w = row-has z lastProducerPhase producerSorts row e p q in
       record { call = w 0; value = w 1; position = w 2; held = w 3; claimed = w 4; backed = w 5; spare = w 6 }
 
   pub producer-row-of : (p : ℕ) → row 0 ≡ p → p ≤ lastProducerPhase → ProducerWords z row (getD producerSorts p []) → threadInRange z lastProducerPhase producerSorts row ≡ true
   unfolding fewWords
   producer-row-of p q l w =
-      row-of z lastProducerPhase producerSorts row p q l
-      (words-of z row (getD producerSorts p []) 7
-      (leb-true (length (getD producerSorts p [])) 7 (every-at 12 (fewWords producerSorts) refl p (omega arith))) each)
-    where
-      each : (j : ℕ) → j < 7 → OfSort z (getD (getD producerSorts p []) j any) (row (suc j))
-      each zero h = w .call
-      each (suc zero) h = w .value
-      each (suc (suc zero)) h = w .position
-      each (suc (suc (suc zero))) h = w .held
-      each (suc (suc (suc (suc zero)))) h = w .claimed
-      each (suc (suc (suc (suc (suc zero))))) h = w .backed
-      each (suc (suc (suc (suc (suc (suc zero)))))) h = w .spare
-      each (suc (suc (suc (suc (suc (suc (suc j))))))) h = absurd (omega arith)
+      row-of z lastProducerPhase producerSorts row refl p q l
+      (seven (λ j. OfSort z (getD (getD producerSorts p []) j any) (row (suc j)))
+      (w .call) (w .value) (w .position) (w .held) (w .claimed) (w .backed) (w .spare))
 
   pub consumer-row-has : threadInRange z lastConsumerPhase consumerSorts row ≡ true → (p : ℕ) → row 0 ≡ p → ConsumerWords z row (getD consumerSorts p [])
   consumer-row-has e p q =
-      let w = words-has z row (getD consumerSorts p []) (row-has z lastConsumerPhase consumerSorts row e p q) in
+      let w = row-has z lastConsumerPhase consumerSorts row e p q in
       record { cursor-record = w 0; cursor-position = w 1; found-record = w 2; found-position = w 3; item-number = w 4; item-value = w 5; spare = w 6 }
 
   pub consumer-row-of : (p : ℕ) → row 0 ≡ p → p ≤ lastConsumerPhase → ConsumerWords z row (getD consumerSorts p []) → threadInRange z lastConsumerPhase consumerSorts row ≡ true
   unfolding fewWords
   consumer-row-of p q l w =
-      row-of z lastConsumerPhase consumerSorts row p q l
-      (words-of z row (getD consumerSorts p []) 7
-      (leb-true (length (getD consumerSorts p [])) 7 (every-at 8 (fewWords consumerSorts) refl p (omega arith))) each)
-    where
-      each : (j : ℕ) → j < 7 → OfSort z (getD (getD consumerSorts p []) j any) (row (suc j))
-      each zero h = w .cursor-record
-      each (suc zero) h = w .cursor-position
-      each (suc (suc zero)) h = w .found-record
-      each (suc (suc (suc zero))) h = w .found-position
-      each (suc (suc (suc (suc zero)))) h = w .item-number
-      each (suc (suc (suc (suc (suc zero))))) h = w .item-value
-      each (suc (suc (suc (suc (suc (suc zero)))))) h = w .spare
-      each (suc (suc (suc (suc (suc (suc (suc j))))))) h = absurd (omega arith)
+      row-of z lastConsumerPhase consumerSorts row refl p q l
+      (seven (λ j. OfSort z (getD (getD consumerSorts p []) j any) (row (suc j)))
+      (w .cursor-record) (w .cursor-position) (w .found-record) (w .found-position) (w .item-number) (w .item-value) (w .spare))
