@@ -16,6 +16,7 @@ use Rattle.rules.specs.Range.{number, idleSorts, producerSorts, consumerSorts}
 use Rattle.rules.specs.Rule.{ok, started}
 use Rattle.rules.specs.Request.{startEnqueue, startDequeue, startingEnqueue, startingDequeue}
 use Rattle.rules.specs.InRange.{InSort}
+use Rattle.rules.specs.Address.{neither}
 use Rattle.model.specs.State
 use Rattle.model.specs.State.{callOf}
 use Rattle.model.specs.Invariant.{dequeues}
@@ -31,11 +32,6 @@ use Rattle.ordering.specs.Steps.{as-seen, producers-after, unclaimed, ow
 use Rattle.ordering.specs.Own.{later, consumer-own}
 use Rattle.ordering.specs.Records.{record-goes}
 use Rattle.ordering.specs.Dequeue.{consumer-words, consumer-at}
-
--- both sides of a disjunction of tests that fails
-neither : (a b : Bool) → (a || b) ≡ false → (a ≡ false) × (b ≡ false)
-neither false b e = (refl, e)
-neither true b e = let z : _≡_ {A = ℕ} 0 1 = cc in absurd (omega arith)
 
 module _ (z : Sizes) (σ : Reader) (γ : Ghost) (good : Good z σ γ) where
   -- the writes of a start enqueue
