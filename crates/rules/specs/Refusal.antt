@@ -2,14 +2,16 @@
 use mathlib.Core.Path.{_≡_, refl}
 use mathlib.Core.Bool.{Bool, true, false, _||_, not, cond}
 use mathlib.Core.List.{List}
-use Prim.Native.Nat.{ℕ}
+use Prim.Native.Nat.{ℕ, _≤_}
 use native.Mathlib.Omega.{arith}
 use lib.Dec.{ltb}
 use lib.ListN.{length}
+use borrow.Author.Tests.{ltb-false}
 use Rattle.rules.specs.Sizes.{Sizes, sizesInRange, storeWords}
 use Rattle.rules.specs.Free.{Picker}
-use Rattle.rules.specs.Rule.{Answer, refuse, reply, refused, accepted}
+use Rattle.rules.specs.Rule.{Answer, refuse, reply, refused, accepted, ok}
 use Rattle.rules.specs.Request.{Request, Result, applied, admitted, answer, result, sizesOf, opened, open-store}
+use Rattle.rules.specs.Update.{neither}
 
 -- an accepted call is not refused
 pub accepted-not-refused : {r : Rattle.rules.specs.Rule.Reply} {n : ℕ} → accepted r ≡ refused n → ⊥
@@ -24,16 +26,25 @@ pub refused-changes-nothing : (pick : Picker) (q : Request) (m : List ℕ) (n : 
 unfolding result
 refused-changes-nothing pick q m n e = applied-refused (sizesOf m) m (admitted m (answer pick q)) n e
 
-pub refused-open-changes-nothing : (z : Sizes) (m : List ℕ) (n : ℕ) → open-store z m .reply ≡ refused n → open-store z m .words ≡ m
+-- To show something of what *open* leaves, show it of a refusal, which changes no word, and of an opened store.
+pub by-open : (P : Result → Type 0) (z : Sizes) (m : List ℕ)
+    → ((n : ℕ) → (1 ≤ n) × (n ≤ 2) → P (record { reply = refused n; words = m }))
+    → (sizesInRange z ≡ true → storeWords z ≤ length m → P (record { reply = accepted ok; words = opened z m }))
+    → P (open-store z m)
 unfolding open-store
-refused-open-changes-nothing z m n = go (not (sizesInRange z)) (ltb (length m) 16 || ltb (length m) (storeWords z))
+by-open P z m down up = go (sizesInRange z) refl (ltb (length m) 16 || ltb (length m) (storeWords z)) refl
   where
     answered : Bool → Bool → Result
     answered a b =
-        cond a (record { reply = refused 1; words = m })
-        (cond b (record { reply = refused 2; words = m }) (record { reply = accepted Rattle.rules.specs.Rule.ok; words = opened z m }))
+        cond (not a) (record { reply = refused 1; words = m })
+        (cond b (record { reply = refused 2; words = m }) (record { reply = accepted ok; words = opened z m }))
 
-    go : (a b : Bool) → answered a b .reply ≡ refused n → answered a b .words ≡ m
-    go true b e = refl
-    go false true e = refl
-    go false false e = absurd (accepted-not-refused e)
+    go : (a : Bool) → sizesInRange z ≡ a → (b : Bool) → (ltb (length m) 16 || ltb (length m) (storeWords z)) ≡ b → P (answered a b)
+    go false e b f = down 1 (omega arith)
+    go true e true f = down 2 (omega arith)
+    go true e false f =
+        up e (ltb-false (length m) (storeWords z) (neither (ltb (length m) 16) (ltb (length m) (storeWords z)) f .1))
+
+pub refused-open-changes-nothing : (z : Sizes) (m : List ℕ) (n : ℕ) → open-store z m .reply ≡ refused n → open-store z m .words ≡ m
+refused-open-changes-nothing z m n =
+    by-open (λ r. r .reply ≡ refused n → r .words ≡ m) z m (λ k h e. refl) (λ s l e. absurd (accepted-not-refused e))

@@ -37,12 +37,14 @@ abbrev pub goings : ℕ → List Reply
 goings zero = []
 goings (suc n) = going ∷ goings n
 
--- The replies that the rules give.
+-- The replies that the rules give to some calls on these words, and to an open and the calls after it.
+unfoldable pub repliesTo : List Request → List ℕ → List Response
+unfolding play result admitted applied answer startingEnqueue startingDequeue stepping reader writes inRange free lowestFree takePosition loadTail lookNext claimRecord linkClaimed shiftTail goBack writeEntry setEntry claimAhead linkAhead producerStep front readTail scan readEntry rescan readItem markHandled consumerStep
+repliesTo qs m = reverse (play (λ k. lowestFree) qs (record { words = m; replies = []; history = [] }) .replies)
+
 unfoldable pub replay : Trial → List Response
-replay t =
-    let o = open-store (t .sizes) (replicate (t .words) 0) in
-    reverse
-    (play (λ k. lowestFree) (t .requests) (record { words = o .words; replies = o .reply ∷ []; history = [] }) .replies)
+unfolding repliesTo open-store opened writes
+replay t = let o = open-store (t .sizes) (replicate (t .words) 0) in o .reply ∷ repliesTo (t .requests) (o .words)
 
 abbrev pub table : List Trial
 table =
@@ -112,5 +114,5 @@ table =
 
 -- Every run of the table goes as the table says.
 pub runs-as-written : map replay table ≡ map (λ t. t .replies) table
-unfolding replay play result admitted applied answer startingEnqueue startingDequeue stepping open-store opened reader writes inRange free lowestFree takePosition loadTail lookNext claimRecord linkClaimed shiftTail goBack writeEntry setEntry claimAhead linkAhead producerStep front readTail scan readEntry rescan readItem markHandled consumerStep
+unfolding replay
 runs-as-written = refl

@@ -1,15 +1,12 @@
 -- Further runs, computed: that the rules do all that the theorems speak of, and what the traps of document 01 would get wrong.
 use mathlib.Core.Path.{_≡_, refl}
 use mathlib.Core.List.{List, [], _∷_, _++_, map}
-use Rattle.rules.specs.Cell.{reader, writes}
-use Rattle.rules.specs.Range.{inRange}
-use Rattle.rules.specs.Free.{free, lowestFree}
-use Rattle.rules.specs.Rule.{refused, ok, started, going, ended, empty, item}
-use Rattle.rules.specs.Producer.{takePosition, loadTail, lookNext, claimRecord, linkClaimed, shiftTail, goBack, writeEntry, setEntry, claimAhead, linkAhead, producerStep}
-use Rattle.rules.specs.Consumer.{front, readTail, scan, readEntry, rescan, readItem, markHandled, consumerStep}
-use Rattle.rules.specs.Request.{startEnqueue, startDequeue, step, applied, opened, open-store, startingEnqueue, startingDequeue, stepping, answer, admitted, result}
-use Rattle.rules.specs.Play.{play}
-use Rattle.rules.specs.Runs.{Trial, sized, times, all, goings, replay}
+use lib.ListN.{replicate}
+use Rattle.rules.specs.Sizes.{Sizes, storeWords}
+use Rattle.rules.specs.Cell.{Write, writes, _:=_, phase, held, claimed, used}
+use Rattle.rules.specs.Rule.{Response, refused, accepted, ok, started, going, ended, empty, item}
+use Rattle.rules.specs.Request.{Request, startEnqueue, startDequeue, step, opened}
+use Rattle.rules.specs.Runs.{Trial, sized, times, all, goings, repliesTo, replay}
 
 abbrev pub witnesses : List Trial
 witnesses =
@@ -82,8 +79,8 @@ witnesses =
           ++ (started 3 ∷ goings 6 ++ (ended ∷ []))
           ++ (ok ∷ goings 10 ++ (item 3 12 ∷ [])));
     }
-    -- Phase 7. Producers 3 and 2 take 0 and 1 and stop; producer 1 takes 2, links a record and moves the tail record. Producer 3 then
-    -- loads the second record, goes back to the first, writes and ends.
+    -- Phase 7. Producers 3 and 2 take 0 and 1 and stop; producer 1 takes 2, links a record and moves the tail record. Producers 3 and 2
+    -- then load the second record, go back to the first, write and end: producer 2 at index 1, since phase 7 was taken.
     ∷ record {
       words = 88;
       sizes = sized 2 4 3 9;
@@ -94,14 +91,15 @@ witnesses =
           ∷ step 2
           ∷ startEnqueue 1 10
           ∷ times 6 (step 1)
-          ++ times 4 (step 3);
+          ++ times 4 (step 3)
+          ++ times 4 (step 2);
       replies =
           all
           (ok ∷ (started 1 ∷ going ∷ [])
           ++ (started 2 ∷ going ∷ [])
           ++ (started 3 ∷ goings 6)
-          ++ goings 3
-          ++ (ended ∷ []));
+          ++ (goings 3 ++ (ended ∷ []))
+          ++ (goings 3 ++ (ended ∷ [])));
     }
     -- Phase 5 gives back. Producer 3, at position 2, claims the third record after producer 1 has linked the second, and gives it back;
     -- so producer 1 finds it free in phase 10.
@@ -180,8 +178,85 @@ witnesses =
       requests = startEnqueue 3 30 ∷ startEnqueue 1 10 ∷ step 1 ∷ step 3 ∷ startDequeue ∷ times 5 (step 0);
       replies = all (ok ∷ started 1 ∷ started 2 ∷ going ∷ going ∷ ok ∷ goings 4 ++ (empty ∷ []));
     }
+    -- The rescan returns to the head. The item at 2 is found, 0 is passed while it is empty, 1 is set before it is read and found in
+    -- its place, and 0 is set before it is read again: item 1.
+    ∷ record {
+      words = 80;
+      sizes = sized 4 2 3 9;
+      requests =
+          startEnqueue 1 10
+          ∷ times 3 (step 1)
+          ++ (startEnqueue 2 20 ∷ times 3 (step 2))
+          ++ (startEnqueue 3 30 ∷ times 4 (step 3))
+          ++ (startDequeue ∷ times 7 (step 0))
+          ++ (step 2 ∷ step 0 ∷ step 1 ∷ times 3 (step 0));
+      replies =
+          all
+          (ok ∷ (started 1 ∷ goings 3)
+          ++ (started 2 ∷ goings 3)
+          ++ (started 3 ∷ goings 3 ++ (ended ∷ []))
+          ++ (ok ∷ goings 7)
+          ++ (going ∷ going ∷ ended ∷ goings 2 ++ (item 1 10 ∷ [])));
+    }
+    -- Refusals 4, 5 and 7 in their order: idle threads, threads that are not there, and threads with a call under way, the producer when
+    -- no start is left (5, not 6).
+    ∷ record {
+      words = 52;
+      sizes = sized 2 2 1 1;
+      requests =
+          step 0
+          ∷ step 1
+          ∷ step 2
+          ∷ startEnqueue 0 7
+          ∷ startEnqueue 2 7
+          ∷ startEnqueue 1 7
+          ∷ startEnqueue 1 8
+          ∷ startDequeue
+          ∷ startDequeue
+          ∷ [];
+      replies =
+          accepted ok
+          ∷ refused 7
+          ∷ refused 7
+          ∷ refused 4
+          ∷ refused 4
+          ∷ refused 4
+          ∷ accepted (started 1)
+          ∷ refused 5
+          ∷ accepted ok
+          ∷ refused 5
+          ∷ [];
+    }
     ∷ []
 
 pub witnesses-as-written : map replay witnesses ≡ map (λ t. t .replies) witnesses
-unfolding replay play result admitted applied answer startingEnqueue startingDequeue stepping open-store opened reader writes inRange free lowestFree takePosition loadTail lookNext claimRecord linkClaimed shiftTail goBack writeEntry setEntry claimAhead linkAhead producerStep front readTail scan readEntry rescan readItem markHandled consumerStep
+unfolding replay
 witnesses-as-written = refl
+
+-- Calls on a store that the engine did not write: an opened one, where some cells were then written.
+pub record Probe : Type 0 where
+  pub sizes : Sizes
+  pub cells : List Write
+  pub requests : List Request
+  pub replies : List Response
+
+unfoldable pub probe : Probe → List Response
+unfolding repliesTo opened writes
+probe p =
+    let z = p .sizes in
+    repliesTo (p .requests) (writes z (opened z (replicate (storeWords z) 0)) (p .cells))
+
+abbrev pub probes : List Probe
+probes =
+    -- A claimed record is held: record 1 is retired, and producer 2 has claimed it. Producer 1 finds none free.
+    record {
+      sizes = sized 2 2 2 9;
+      cells = used 1 := 3 ∷ phase 1 := 4 ∷ held 1 := 1 ∷ phase 2 := 5 ∷ held 2 := 1 ∷ claimed 2 := 2 ∷ [];
+      requests = step 1 ∷ [];
+      replies = refused 8 ∷ [];
+    }
+    ∷ []
+
+pub probes-as-written : map probe probes ≡ map (λ p. p .replies) probes
+unfolding probe
+probes-as-written = refl

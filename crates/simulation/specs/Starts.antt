@@ -12,7 +12,7 @@ use Rattle.history.specs.Event.{enqueueStarted, dequeueStarted}
 use Rattle.criterion.specs.Growth.{enqueue-may-start, dequeue-may-start}
 use Rattle.rules.specs.Sizes.{Sizes}
 use Rattle.rules.specs.Cell.{Reader, Write, _:=_, starts, consumer, consumerPhase, phase, call, value}
-use Rattle.rules.specs.Update.{after}
+use Rattle.rules.specs.Update.{after, neither}
 use Rattle.rules.specs.Range.{number, idleSorts, producerSorts, consumerSorts}
 use Rattle.rules.specs.Rule.{ok, started}
 use Rattle.rules.specs.Request.{startEnqueue, startDequeue, startingEnqueue, startingDequeue}
@@ -32,11 +32,6 @@ use Rattle.simulation.specs.ProducerSteps.{as-seen, producers-after, unc
 use Rattle.simulation.specs.OwnWords.{later, consumer-own}
 use Rattle.simulation.specs.RecordSteps.{record-goes}
 use Rattle.simulation.specs.ConsumerSteps.{consumer-words, consumer-at}
-
--- both sides of a disjunction of tests that fails
-neither : (a b : Bool) → (a || b) ≡ false → (a ≡ false) × (b ≡ false)
-neither false b e = (refl, e)
-neither true b e = let z : _≡_ {A = ℕ} 0 1 = cc in absurd (omega arith)
 
 module _ (z : Sizes) (σ : Reader) (γ : Ghost) (good : Good z σ γ) where
   -- the writes of a start enqueue

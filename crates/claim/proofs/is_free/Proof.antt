@@ -1,5 +1,6 @@
 -- `claim::is_free` meets its contract.
-use mathlib.Core.Path.{refl}
+use mathlib.Core.Path.{_≡_, refl}
+use native.Mathlib.Omega.{arith}
 use borrow.Author.Needs.{needs}
 use borrow.Author.Tests.{ne-eqb}
 use Rattle.rules.specs.Free.{free}
@@ -15,14 +16,17 @@ returns c = rw (c .before .part .ensures .is, c .if1 .taken) refl
 
 returns-2 : tie.Need-returns-2
 unfolding free
-returns-2 c = rw (c .before .before .part .ensures .is, ne-eqb _ _ (c .before .if1 .left), ne-eqb _ _ (c .if2 .taken)) refl
+returns-2 c = rw (c .before .before .part .ensures .is, ne-eqb _ _ (c .before .if1 .left), ne-eqb (c .before .before .part .result) 3 (λ e. omega (arith, c .if2 .taken))) refl
 
 held-by-none-requires : tie.Need-held-by-none-requires
 held-by-none-requires c κs = search needs
 
 returns-3 : tie.Need-returns-3
 unfolding free
-returns-3 c = rw (c .before .before .before .part .ensures .is, c .before .if2 .left) (c .held-by-none .ensures)
+returns-3 c =
+    let part = c .before .before .before .part in
+    let retired : part .result ≡ 3 = omega (arith, c .before .if2 .left) in
+    rw (part .ensures .is, retired) (c .held-by-none .ensures)
 
 pub is-free-spec : {M : Type 1} → statement M
 is-free-spec = tie.close (tie.spec part-requires returns returns-2 held-by-none-requires returns-3)

@@ -1,5 +1,6 @@
 -- `dequeue::read_front` meets its contract.
 use mathlib.Core.Path.{refl}
+use native.Mathlib.Omega.{arith}
 use borrow.Author.Needs.{needs}
 use Rattle.rules.specs.Consumer.{front}
 use Rattle.rules.specs.Request.{applied}
@@ -45,7 +46,7 @@ returns-2 c =
     let record-end = c .before .before .before .before .before .record-end in
     let if2 = c .before .before .before .before .if2 in
     let front-end = c .before .before .front-end in
-    rw (some (content .ensures .is) (if1 .left), content2 .ensures .is, at-end (record-end .ensures .0) (if2 .taken)) (front-end .ensures)
+    rw (some (content .ensures .is) (if1 .left), content2 .ensures .is, at-end {p = content2 .result} (record-end .ensures .0) (omega (arith, if2 .taken))) (front-end .ensures)
 
 sub-front-entry : tie.Need-sub-front-entry
 sub-front-entry c = search needs
@@ -65,7 +66,7 @@ returns-3 c =
     let record-end = c .before .before .before .before .before .record-end in
     let if2 = c .before .before .before .before .if2 in
     let front-entry = c .before .before .front-entry in
-    rw (some (content .ensures .is) (if1 .left), content2 .ensures .is, not-end (record-end .ensures .0) (if2 .left)) (front-entry .ensures)
+    rw (some (content .ensures .is) (if1 .left), content2 .ensures .is, not-end {p = content2 .result} (record-end .ensures .0) (λ e. omega (arith, if2 .left))) (front-entry .ensures)
 
 pub read-front-spec : {M : Type 1} → statement M
 read-front-spec =

@@ -30,11 +30,11 @@ add-t8 c =
 
 returns-2 : tie.Need-returns-2
 unfolding fieldAt
-returns-2 c = simp (← c .before .before .before .before .before .read-number .ensures, c .before .before .before .found .given .1, ← c .before .byte-at .ensures, eq-eqb _ _ (c .if1 .taken))
+returns-2 c = simp (← c .before .before .before .before .before .read-number .ensures, c .before .before .before .found .given .1, ← c .before .byte-at .ensures, eq-eqb (c .before .byte-at .result) 32 (omega (arith, c .if1 .taken)))
 
 returns-3 : tie.Need-returns-3
 unfolding fieldAt
-returns-3 c = simp (← c .before .before .before .before .before .read-number .ensures, c .before .before .before .found .given .1, ← c .before .byte-at .ensures, ne-eqb _ _ (c .if1 .left))
+returns-3 c = simp (← c .before .before .before .before .before .read-number .ensures, c .before .before .before .found .given .1, ← c .before .byte-at .ensures, ne-eqb (c .before .byte-at .result) 32 (λ e. omega (arith, c .if1 .left)))
 
 pub read-field-spec : {M : Type 1} → statement M
 read-field-spec =

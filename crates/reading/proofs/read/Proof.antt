@@ -1,4 +1,6 @@
 -- `reading::read` meets its contract. Assumes nothing.
+use native.Mathlib.Omega.{arith}
+use denote.Ref.{now}
 use Rattle.reading.specs.Steps.{Read}
 use Rattle.reading.proofs.Reading.{no-multiple, too-many, too-few-entries, reads-all, same-reading}
 use borrow.Author.Needs.{needs}
@@ -11,18 +13,23 @@ returns c = no-multiple _ _ (c .if1 .taken)
 
 returns-2 : tie.Need-returns-2
 unfolding Read
-returns-2 c = too-many _ _ (c .before .if1 .left) (c .if2 .taken)
+returns-2 c =
+    let a = c .before .before .before .args in
+    too-many (a .entries) (now (a .history)) (c .before .if1 .left) (omega (arith, c .if2 .taken))
 
 returns-3 : tie.Need-returns-3
 unfolding Read
-returns-3 c = too-few-entries _ _ (c .before .before .if1 .left) (c .before .if2 .left) (c .if3 .taken)
+returns-3 c =
+    let a = c .before .before .before .before .args in
+    too-few-entries (a .entries) (now (a .history)) (c .before .before .if1 .left) (omega (arith, c .before .if2 .left)) (omega (arith, c .if3 .taken))
 
 read-events-requires : tie.Need-read-events-requires
 read-events-requires c κs = search needs
 
 returns-4 : tie.Need-returns-4
 returns-4 c =
-    let e = reads-all _ _ (c .before .before .before .before .if1 .left) (c .before .before .before .if2 .left) (c .before .before .if3 .left) in
+    let a = c .before .before .before .before .before .before .args in
+    let e = reads-all (a .entries) (now (a .history)) (c .before .before .before .before .if1 .left) (omega (arith, c .before .before .before .if2 .left)) (omega (arith, c .before .before .if3 .left)) in
     same-reading _ _ _ _ _ e (c .read-events .ensures)
 
 pub read-spec : {M : Type 1} → statement M

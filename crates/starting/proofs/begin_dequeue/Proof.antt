@@ -1,5 +1,6 @@
 -- `starting::begin_dequeue` meets its contract.
-use mathlib.Core.Path.{refl}
+use mathlib.Core.Path.{_≡_, refl}
+use native.Mathlib.Omega.{arith}
 use borrow.Author.Needs.{needs}
 use borrow.Author.Tests.{ne-eqb}
 use Rattle.rules.specs.Cell.{writes}
@@ -15,7 +16,7 @@ same-length c = search needs
 
 returns : tie.Need-returns
 unfolding startingDequeue applied
-returns c = rw (c .before .consumer .ensures .is, ne-eqb _ _ (c .if1 .taken)) refl
+returns c = rw (c .before .consumer .ensures .is, ne-eqb (c .before .consumer .result) 0 (λ e. omega (arith, c .if1 .taken))) refl
 
 put-consumer-requires : tie.Need-put-consumer-requires
 put-consumer-requires c κs = search needs
@@ -29,7 +30,8 @@ returns-2 c =
     let consumer = c .before .before .before .before .before .consumer in
     let if1 = c .before .before .before .before .if1 in
     let put-consumer = c .before .before .put-consumer in
-    rw (consumer .ensures .is, if1 .left, put-consumer .ensures) refl
+    let idle : consumer .result ≡ 0 = omega (arith, if1 .left) in
+    rw (consumer .ensures .is, idle, put-consumer .ensures) refl
 
 pub begin-dequeue-spec : {M : Type 1} → statement M
 begin-dequeue-spec =

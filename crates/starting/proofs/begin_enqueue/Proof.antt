@@ -1,6 +1,7 @@
 -- `starting::begin_enqueue` meets its contract.
-use mathlib.Core.Path.{refl}
+use mathlib.Core.Path.{_≡_, refl}
 use native.Mathlib.Numerals.{add-one}
+use native.Mathlib.Omega.{arith}
 use borrow.Author.Needs.{needs}
 use borrow.Author.Tests.{lt-ltb, le-ltb, eq-eqb, ne-eqb}
 use Rattle.rules.specs.Cell.{writes}
@@ -31,7 +32,7 @@ returns-3 c =
     let args = c .before .before .before .before .before .before .before .args in
     let if1 = c .before .before .before .before .before .if1 in
     let if2 = c .before .before .before .if2 in
-    rw (le-ltb (args .z .producers) (args .t) (if2 .left), ne-eqb (args .t) 0 (if1 .left), c .before .producer .ensures .is, ne-eqb _ _ (c .if3 .taken)) refl
+    rw (le-ltb (args .z .producers) (args .t) (if2 .left), ne-eqb (args .t) 0 (if1 .left), c .before .producer .ensures .is, ne-eqb (c .before .producer .result) 0 (λ e. omega (arith, c .if3 .taken))) refl
 
 content-requires : tie.Need-content-requires
 content-requires c κs = search needs
@@ -48,7 +49,8 @@ returns-4 c =
     let producer = c .before .before .before .before .before .producer in
     let if3 = c .before .before .before .before .if3 in
     let content = c .before .before .content in
-    rw (le-ltb (args .z .producers) (args .t) (if2 .left), ne-eqb (args .t) 0 (if1 .left), producer .ensures .is, if3 .left, content .ensures .is, eq-eqb _ _ (c .if4 .taken)) refl
+    let idle : producer .result ≡ 0 = omega (arith, if3 .left) in
+    rw (le-ltb (args .z .producers) (args .t) (if2 .left), ne-eqb (args .t) 0 (if1 .left), producer .ensures .is, idle, content .ensures .is, eq-eqb _ _ (c .if4 .taken)) refl
 
 add-put-content : tie.Need-add-put-content
 add-put-content c = search needs
@@ -88,7 +90,8 @@ returns-5 c =
     let put-producer = c .before .before .before .before .before .before .before .before .before .before .put-producer in
     let put-producer2 = c .before .before .before .before .before .before .put-producer2 in
     let put-producer3 = c .before .before .put-producer3 in
-    rw (le-ltb (args .z .producers) (args .t) (if2 .left), ne-eqb (args .t) 0 (if1 .left), producer .ensures .is, if3 .left, content .ensures .is, ne-eqb _ _ (if4 .left), put-producer3 .ensures, put-producer2 .ensures, put-producer .ensures, put-content .ensures, add-one (content .result)) refl
+    let idle : producer .result ≡ 0 = omega (arith, if3 .left) in
+    rw (le-ltb (args .z .producers) (args .t) (if2 .left), ne-eqb (args .t) 0 (if1 .left), producer .ensures .is, idle, content .ensures .is, ne-eqb _ _ (if4 .left), put-producer3 .ensures, put-producer2 .ensures, put-producer .ensures, put-content .ensures, add-one (content .result)) refl
 
 pub begin-enqueue-spec : {M : Type 1} → statement M
 begin-enqueue-spec =

@@ -34,7 +34,7 @@ returns-3 : tie.Need-returns-3
 unfolding numberAt
 returns-3 c =
     c .after-zero .ensures
-    ∙ simp (← c .before .before .before .before .byte-at .ensures, le-leb _ _ (c .before .before .before .if1 .left), le-leb _ _ (c .before .before .if2 .left), eq-eqb _ _ (c .before .if3 .taken))
+    ∙ simp (← c .before .before .before .before .byte-at .ensures, le-leb _ _ (c .before .before .before .if1 .left), le-leb _ _ (c .before .before .if2 .left), eq-eqb (c .before .before .before .before .byte-at .result) 48 (omega (arith, c .before .if3 .taken)))
 
 read-digits-requires : tie.Need-read-digits-requires
 read-digits-requires c κs = search needs
@@ -43,7 +43,7 @@ returns-4 : tie.Need-returns-4
 unfolding numberAt
 returns-4 c =
     c .read-digits .ensures
-    ∙ simp (← c .before .before .before .before .byte-at .ensures, le-leb _ _ (c .before .before .before .if1 .left), le-leb _ _ (c .before .before .if2 .left), ne-eqb _ _ (c .before .if3 .left))
+    ∙ simp (← c .before .before .before .before .byte-at .ensures, le-leb _ _ (c .before .before .before .if1 .left), le-leb _ _ (c .before .before .if2 .left), ne-eqb (c .before .before .before .before .byte-at .result) 48 (λ e. omega (arith, c .before .if3 .left)))
 
 pub read-number-spec : {M : Type 1} → statement M
 read-number-spec =

@@ -1,0 +1,358 @@
+-- What every answer is like, on any store in range: a refusal has a number of the table, a reply is of the call's kind, and every write
+-- is of a word that the store has.
+use mathlib.Core.Path.{_≡_, refl}
+use mathlib.Core.Bool.{Bool, true, false, _&&_, _||_, not, cond}
+use mathlib.Core.List.{List, [], _∷_, _++_}
+use Prim.Native.Nat.{ℕ, zero, suc, _+_, _*_, _≤_, _<_}
+use native.Mathlib.Omega.{arith}
+use lib.Dec.{leb, ltb, eqb}
+use lib.ListN.{length, getD}
+use borrow.Author.Tests.{leb-true, ltb-true, ltb-false, eqb-true, eqb-false, not-false}
+use Rattle.history.specs.Lists.{All}
+use Rattle.rules.specs.Sizes.{Sizes, sizesInRange, mostPlace, storeWords}
+use Rattle.rules.specs.Cell.{Reader, reader, Write, content, consumer, producer, tailRecord, headRecord, held, claimed, cursorRecord, foundRecord, cursorPosition, foundPosition, consumerPhase, headPosition, tail, starts, state, phase, position, backed, place, next, prev, used, part, _:=_, clearProducer}
+use Rattle.rules.specs.Range.{Sort, unused, exactly, number, link, record-number, most, any, ofSort, ofSorts, threadInRange, consumerSorts, producerSorts, inRange}
+use Rattle.rules.specs.Free.{Picker, Picks, Choice}
+use Rattle.rules.specs.Rule.{Reply, ok, started, going, ended, empty, item, Answer, refuse, reply, need, upTo, within, index, cross, atEnd}
+use Rattle.rules.specs.Producer.{linked, takePosition, loadTail, lookNext, claimRecord, linkClaimed, shiftTail, goBack, writeEntry, setEntry, claimAhead, linkAhead, producerRules, producerStep}
+use Rattle.rules.specs.Consumer.{byState, front, readTail, scan, readEntry, rescanned, rescan, readItem, markHandled, consumerRules, consumerStep}
+use Rattle.rules.specs.Request.{Request, startEnqueue, startDequeue, step, startingEnqueue, startingDequeue, stepping, answer, sizesOf, admitted}
+use Rattle.rules.specs.Update.{both, neither, true-false}
+use Rattle.rules.specs.Readback.{WriteThere}
+use Rattle.rules.specs.InRange.{InRange, sortOf, range-has}
+
+-- The three kinds of replies: ok, a call number, a step's.
+abbrev pub kindOf : Reply → ℕ
+kindOf ok = 0
+kindOf (started n) = 1
+kindOf going = 2
+kindOf ended = 2
+kindOf empty = 2
+kindOf (item n v) = 2
+
+abbrev pub kindFor : Request → ℕ
+kindFor (startEnqueue t v) = 1
+kindFor startDequeue = 0
+kindFor (step t) = 2
+
+abbrev pub Sound : Sizes → Request → Answer → Type 0
+Sound z q (refuse n) = (1 ≤ n) × (n ≤ 9)
+Sound z q (reply r ws) = (kindOf r ≡ kindFor q) × All (WriteThere z) ws
+
+-- a sort that allows record numbers alone
+isLink : Sort → Bool
+isLink unused = true
+isLink (exactly n) = false
+isLink number = false
+isLink link = true
+isLink record-number = true
+isLink (most n) = false
+isLink any = false
+
+link-most : (z : Sizes) (s : Sort) (x : ℕ) → isLink s ≡ true → ofSort z s x ≡ true → x ≤ z .N
+unfolding isLink
+link-most z unused x l e = omega (arith, eqb-true x 0 e)
+link-most z (exactly n) x l e = absurd (true-false l refl)
+link-most z number x l e = absurd (true-false l refl)
+link-most z link x l e = leb-true x (z .N) e
+link-most z record-number x l e = leb-true x (z .N) (both (leb 1 x) (leb x (z .N)) e .1)
+link-most z (most n) x l e = absurd (true-false l refl)
+link-most z any x l e = absurd (true-false l refl)
+
+-- A word that is a record number in every phase is at most N.
+link-at : (z : Sizes) (row : ℕ → ℕ) (i j k : ℕ) (ss : List Sort) → i + j ≡ k → isLink (getD ss j any) ≡ true → ofSorts z row i ss ≡ true → row k ≤ z .N
+unfolding isLink
+link-at z row i j k [] q l e = absurd (true-false l refl)
+link-at z row i zero k (s ∷ ss) q l e =
+    let p : i ≡ k = omega arith in
+    rw (← p) (link-most z s (row i) l (both (ofSort z s (row i)) (ofSorts z row (suc i) ss) e .0))
+link-at z row i (suc j) k (s ∷ ss) q l e =
+    link-at z row (suc i) j k ss (omega arith) l (both (ofSort z s (row i)) (ofSorts z row (suc i) ss) e .1)
+
+links : (k : ℕ) → List (List Sort) → Bool
+links k [] = true
+links k (ss ∷ table) = isLink (getD ss k any) && links k table
+
+links-at : (k : ℕ) (table : List (List Sort)) (p : ℕ) → links k table ≡ true → p < length table → isLink (getD (getD table p []) k any) ≡ true
+unfolding links
+links-at k [] p l h = absurd (omega arith)
+links-at k (ss ∷ table) zero l h = both (isLink (getD ss k any)) (links k table) l .0
+links-at k (ss ∷ table) (suc p) l h = links-at k table p (both (isLink (getD ss k any)) (links k table) l .1) (omega arith)
+
+thread-link : (z : Sizes) (last : ℕ) (table : List (List Sort)) (row : ℕ → ℕ) (k : ℕ) → links k table ≡ true → suc last ≡ length table
+    → threadInRange z last table row ≡ true → row (suc k) ≤ z .N
+thread-link z last table row k l n e =
+    let b = both (leb (row 0) last) (ofSorts z row 1 (getD table (row 0) [])) e in
+    let p = leb-true (row 0) last (b .0) in
+    link-at z row 1 k (suc k) (getD table (row 0) []) (omega arith) (links-at k table (row 0) l (omega arith)) (b .1)
+
+module _ {z : Sizes} {σ : Reader} (range : InRange z σ) where
+  consumer-link : (k : ℕ) → links k consumerSorts ≡ true → σ (consumer (suc k)) ≤ z .N
+  consumer-link k l = thread-link z 7 consumerSorts (λ j. σ (consumer j)) k l refl (range .consuming)
+
+  producer-link : (t : ℕ) → (1 ≤ t) × (t ≤ z .P) → (k : ℕ) → links k producerSorts ≡ true → σ (producer t (suc k)) ≤ z .N
+  producer-link t a k l = thread-link z 11 producerSorts (λ j. σ (producer t j)) k l refl (range .producing t (a .0) (a .1))
+
+  content-link : (k : ℕ) → k < 16 → isLink (sortOf z (content k)) ≡ true → σ (content k) ≤ z .N
+  content-link k h l = link-most z (sortOf z (content k)) (σ (content k)) l (range .words (content k) h)
+
+  part-link : (r k : ℕ) → (r < z .N) × (k < 4) → isLink (sortOf z (part r k)) ≡ true → σ (part r k) ≤ z .N
+  part-link r k h l = link-most z (sortOf z (part r k)) (σ (part r k)) l (range .words (part r k) h)
+
+-- To show that an answer is sound, show it at each leaf.
+by-cond : (z : Sizes) (q : Request) (b : Bool) (a c : Answer) → (b ≡ true → Sound z q a) → (b ≡ false → Sound z q c) → Sound z q (cond b a c)
+by-cond z q true a c f g = f refl
+by-cond z q false a c f g = g refl
+
+module _ (z : Sizes) (σ : Reader) (range : InRange z σ) (t : ℕ) where
+  abbrev S : Answer → Type 0
+  S a = Sound z (step t) a
+
+  either : (b : Bool) (a c : Answer) → S a → S c → S (cond b a c)
+  either b a c x y = by-cond z (step t) b a c (λ _. x) (λ _. y)
+
+  needs : (x : ℕ) (f : ℕ → Answer) → x ≤ z .N → ((r : ℕ) → r < z .N → S (f r)) → S (need x f)
+  needs zero f h each = omega arith
+  needs (suc r) f h each = each r h
+
+  up-to : (limit x : ℕ) (a : Answer) → S a → S (upTo limit x a)
+  up-to limit x a s = either (leb x limit) a (refuse 9) s (omega arith)
+
+  in-record : (r p : ℕ) (a : Answer) → (index z σ r p < z .B → S a) → S (cond (within z σ r p) a (refuse 9))
+  in-record r p a f =
+      by-cond z (step t) (within z σ r p) a (refuse 9)
+      (λ e.
+      let b = both (ltb p (z .B * σ (place r))) (leb (z .B * σ (place r)) (p + z .B)) e in
+      f (omega (arith, ltb-true p (z .B * σ (place r)) (b .0), leb-true (z .B * σ (place r)) (p + z .B) (b .1))))
+      (λ _. omega arith)
+
+  places : (x : ℕ) (f : ℕ → Answer) → ((y : ℕ) → S (f y)) → S (need x f)
+  places zero f each = omega arith
+  places (suc y) f each = each y
+
+  next-most : (r : ℕ) → r < z .N → σ (next r) ≤ z .N
+  unfolding isLink
+  next-most r h = part-link range r 1 (h, omega arith) refl
+
+  tail-most : σ tailRecord ≤ z .N
+  unfolding isLink
+  tail-most = content-link range 7 (omega arith) refl
+
+  head-most : σ headRecord ≤ z .N
+  unfolding isLink
+  head-most = content-link range 8 (omega arith) refl
+
+  cursor-most : σ cursorRecord ≤ z .N
+  unfolding links isLink
+  cursor-most = consumer-link range 0 refl
+
+  found-most : σ foundRecord ≤ z .N
+  unfolding links isLink
+  found-most = consumer-link range 2 refl
+
+  -- The consumer's phases.
+  front-sound : S (front z σ)
+  unfolding front
+  front-sound =
+      needs (σ headRecord) _ head-most
+      λ h l. either (atEnd z σ h (σ headPosition)) _ _
+      (either (eqb (σ tailRecord) (suc h)) _ _ (omega arith) (needs (σ (next h)) _ (next-most h l) λ n k. places (σ (place n)) _ λ y. up-to (z .M) (z .B * y) _ (omega arith)))
+      (in-record h (σ headPosition) _
+      λ b. by-state (σ (state h (index z σ h (σ headPosition)))) _ _ _ (omega arith) (omega arith) (up-to (z .M) (suc (σ headPosition)) _ (omega arith)))
+    where
+      by-state : (x : ℕ) (a b c : Answer) → S a → S b → S c → S (byState x a b c)
+      by-state zero a b c f g h = f
+      by-state (suc zero) a b c f g h = g
+      by-state (suc (suc x)) a b c f g h = h
+
+  read-tail-sound : S (readTail z σ)
+  unfolding readTail
+  read-tail-sound = either (eqb (σ tail) (σ headPosition)) _ _ (omega arith) (up-to (z .M) (suc (σ headPosition)) _ (omega arith))
+
+  scan-sound : S (scan z σ)
+  unfolding scan
+  scan-sound =
+      needs (σ cursorRecord) _ cursor-most
+      λ r l. either (atEnd z σ r (σ cursorPosition)) _ _
+      (either (eqb (σ tailRecord) (suc r)) _ _ (omega arith) (needs (σ (next r)) _ (next-most r l) λ n k. places (σ (place n)) _ λ y. up-to (z .M) (z .B * y) _ (omega arith)))
+      (either (eqb (σ cursorPosition) (σ tail)) _ _ (omega arith) (omega arith))
+
+  read-entry-sound : S (readEntry z σ)
+  unfolding readEntry
+  read-entry-sound =
+      needs (σ cursorRecord) _ cursor-most
+      λ r l. in-record r (σ cursorPosition) _
+      λ b. either (eqb (σ (state r (index z σ r (σ cursorPosition)))) 1) _ _ (omega arith) (up-to (z .M) (suc (σ cursorPosition)) _ (omega arith))
+
+  rescan-sound : S (rescan z σ)
+  unfolding rescan
+  rescan-sound =
+      needs (σ cursorRecord) _ cursor-most
+      λ r l. either (atEnd z σ r (σ cursorPosition)) _ _
+      (needs (σ (next r)) _ (next-most r l)
+      λ n k. places (σ (place n)) _ λ y. up-to (z .M) (z .B * y) _ (either (eqb (z .B * y) (σ foundPosition)) _ _ (omega arith) (omega arith)))
+      (in-record r (σ cursorPosition) _
+      λ b. either (eqb (σ (state r (index z σ r (σ cursorPosition)))) 1) _ _
+      (either (eqb (σ headPosition) (σ cursorPosition)) _ _ (omega arith) (omega arith))
+      (up-to (z .M) (suc (σ cursorPosition)) _ (either (eqb (suc (σ cursorPosition)) (σ foundPosition)) _ _ (omega arith) (omega arith))))
+
+  read-item-sound : S (readItem z σ)
+  unfolding readItem
+  read-item-sound = needs (σ foundRecord) _ found-most λ r l. in-record r (σ foundPosition) _ λ b. omega arith
+
+  mark-sound : S (markHandled z σ)
+  unfolding markHandled
+  mark-sound =
+      needs (σ foundRecord) _ found-most
+      λ r l. in-record r (σ foundPosition) _
+      λ b. either (eqb (σ foundPosition) (σ headPosition)) _ _ (up-to (z .M) (suc (σ headPosition)) _ (omega arith)) (omega arith)
+
+  consumer-sound : S (consumerStep z σ)
+  unfolding consumerStep
+  consumer-sound = by-phase (σ consumerPhase)
+    where
+      by-phase : (p : ℕ) → S (getD consumerRules p (λ z σ. refuse 7) z σ)
+      by-phase zero = omega arith
+      by-phase (suc zero) = front-sound
+      by-phase (suc (suc zero)) = read-tail-sound
+      by-phase (suc (suc (suc zero))) = scan-sound
+      by-phase (suc (suc (suc (suc zero)))) = read-entry-sound
+      by-phase (suc (suc (suc (suc (suc zero))))) = rescan-sound
+      by-phase (suc (suc (suc (suc (suc (suc zero)))))) = read-item-sound
+      by-phase (suc (suc (suc (suc (suc (suc (suc zero))))))) = mark-sound
+      by-phase (suc (suc (suc (suc (suc (suc (suc (suc p)))))))) = omega arith
+
+  -- A producer's phases.
+  module _ (there : (1 ≤ t) × (t ≤ z .P)) where
+    held-most : σ (held t) ≤ z .N
+    unfolding links isLink
+    held-most = producer-link range t there 3 refl
+
+    claimed-most : σ (claimed t) ≤ z .N
+    unfolding links isLink
+    claimed-most = producer-link range t there 4 refl
+
+    take-sound : S (takePosition z σ t)
+    unfolding takePosition
+    take-sound = up-to (z .M) (suc (σ tail)) _ (omega arith)
+
+    load-sound : S (loadTail z σ t)
+    unfolding loadTail
+    load-sound = needs (σ tailRecord) _ tail-most λ r h. omega arith
+
+    look-sound : S (lookNext z σ t)
+    unfolding lookNext
+    look-sound = needs (σ (held t)) _ held-most λ r h. omega arith
+
+    claim-sound : (c : ℕ) → Choice z σ c → S (claimRecord z σ t c)
+    unfolding claimRecord
+    claim-sound zero h = omega arith
+    claim-sound (suc r) h = omega (arith, h .0)
+
+    linked-sound : (r : Reply) (vs : List Write) → kindOf r ≡ 2 → All (WriteThere z) vs → S (linked z σ t λ ws. reply r (ws ++ vs))
+    linked-sound r vs e a =
+        needs (σ (held t)) _ held-most
+        λ h l. needs (σ (claimed t)) _ claimed-most
+        λ c k. either (eqb (σ (next h)) 0) _ _
+        (up-to mostPlace (suc (σ (place h))) _ (e, (omega arith, (omega arith, (omega arith, (omega arith, a))))))
+        (e, (omega arith, a))
+
+    link-sound : S (linkClaimed z σ t)
+    unfolding linkClaimed
+    link-sound = linked-sound going (claimed t := 0 ∷ phase t := 6 ∷ []) refl (omega arith)
+
+    shift-sound : S (shiftTail z σ t)
+    unfolding shiftTail
+    shift-sound =
+        needs (σ (held t)) _ held-most
+        λ h l. either (eqb (σ tailRecord) (suc h)) _ _
+        (needs (σ (next h)) _ (next-most h l) λ n k. omega arith)
+        (omega arith)
+
+    back-sound : S (goBack z σ t)
+    unfolding goBack isLink
+    back-sound =
+        needs (σ (held t)) _ held-most
+        λ h l. needs (σ (prev h)) _ (part-link range h 2 (l, omega arith) refl) λ p k. omega arith
+
+    write-sound : S (writeEntry z σ t)
+    unfolding writeEntry
+    write-sound =
+        needs (σ (held t)) _ held-most
+        λ h l. in-record h (σ (position t)) _ λ b. omega arith
+
+    set-sound : S (setEntry z σ t)
+    unfolding setEntry
+    set-sound =
+        needs (σ (held t)) _ held-most
+        λ h l. in-record h (σ (position t)) _
+        λ b. either (eqb (index z σ h (σ (position t))) 1 && eqb (σ (backed t)) 0) _ _ (omega arith) (omega arith)
+
+    ahead-sound : (c : ℕ) → Choice z σ c → S (claimAhead z σ t c)
+    unfolding claimAhead
+    ahead-sound zero h = omega arith
+    ahead-sound (suc r) h = omega (arith, h .0)
+
+    link-ahead-sound : S (linkAhead z σ t)
+    unfolding linkAhead
+    link-ahead-sound = linked-sound ended (clearProducer t ∷ []) refl (omega arith)
+
+    pub producer-sound : (c : ℕ) → Choice z σ c → S (producerStep c z σ t)
+    unfolding producerStep
+    producer-sound c h = by-phase (σ (phase t))
+      where
+        by-phase : (p : ℕ) → S (getD (producerRules c) p (λ z σ t. refuse 7) z σ t)
+        by-phase zero = omega arith
+        by-phase (suc zero) = take-sound
+        by-phase (suc (suc zero)) = load-sound
+        by-phase (suc (suc (suc zero))) = look-sound
+        by-phase (suc (suc (suc (suc zero)))) = claim-sound c h
+        by-phase (suc (suc (suc (suc (suc zero))))) = link-sound
+        by-phase (suc (suc (suc (suc (suc (suc zero)))))) = shift-sound
+        by-phase (suc (suc (suc (suc (suc (suc (suc zero))))))) = back-sound
+        by-phase (suc (suc (suc (suc (suc (suc (suc (suc zero)))))))) = write-sound
+        by-phase (suc (suc (suc (suc (suc (suc (suc (suc (suc zero))))))))) = set-sound
+        by-phase (suc (suc (suc (suc (suc (suc (suc (suc (suc (suc zero)))))))))) = ahead-sound c h
+        by-phase (suc (suc (suc (suc (suc (suc (suc (suc (suc (suc (suc zero))))))))))) = link-ahead-sound
+        by-phase (suc (suc (suc (suc (suc (suc (suc (suc (suc (suc (suc (suc p)))))))))))) = omega arith
+
+module _ (z : Sizes) (σ : Reader) (range : InRange z σ) where
+  start-enqueue-sound : (t v : ℕ) → Sound z (startEnqueue t v) (startingEnqueue t v z σ)
+  unfolding startingEnqueue
+  start-enqueue-sound t v =
+      by-cond z (startEnqueue t v) (eqb t 0 || ltb (z .P) t) _ _ (λ _. omega arith)
+      λ e. let n = neither (eqb t 0) (ltb (z .P) t) e in
+      by-cond z (startEnqueue t v) (not (eqb (σ (phase t)) 0)) _ _ (λ _. omega arith)
+      λ _. by-cond z (startEnqueue t v) (eqb (σ starts) (z .M)) _ _ (λ _. omega arith)
+      λ _. omega (arith, eqb-false t 0 (n .0), ltb-false (z .P) t (n .1))
+
+  start-dequeue-sound : Sound z startDequeue (startingDequeue z σ)
+  unfolding startingDequeue
+  start-dequeue-sound = by-cond z startDequeue (not (eqb (σ consumerPhase) 0)) _ _ (λ _. omega arith) (λ _. omega arith)
+
+  step-sound : (pick : Picker) → Picks pick → (t : ℕ) → Sound z (step t) (stepping pick t z σ)
+  unfolding stepping
+  step-sound pick right t =
+      by-cond z (step t) (ltb (z .P) t) _ _ (λ _. omega arith)
+      λ l. by-cond z (step t) (eqb t 0) _ _
+      (λ _. either z σ range t (eqb (σ consumerPhase) 0) _ _ (omega arith) (consumer-sound z σ range t))
+      λ n. either z σ range t (eqb (σ (phase t)) 0) _ _ (omega arith)
+      (producer-sound z σ range t (omega (arith, eqb-false t 0 n, ltb-false (z .P) t l)) (pick z σ) (right z σ))
+
+  pub answer-sound : (pick : Picker) → Picks pick → (q : Request) → Sound z q (answer pick q z σ)
+  unfolding answer
+  answer-sound pick right (startEnqueue t v) = start-enqueue-sound t v
+  answer-sound pick right startDequeue = start-dequeue-sound
+  answer-sound pick right (step t) = step-sound pick right t
+
+-- The same of a call on any words.
+pub admitted-sound : (pick : Picker) → Picks pick → (q : Request) (m : List ℕ) → Sound (sizesOf m) q (admitted m (answer pick q))
+unfolding admitted
+admitted-sound pick right q m =
+    let z = sizesOf m in
+    let σ = reader z m in
+    by-cond z q (ltb (length m) 16) _ _ (λ _. omega arith)
+    λ _. by-cond z q (not (sizesInRange z)) _ _ (λ _. omega arith)
+    λ _. by-cond z q (ltb (length m) (storeWords z)) _ _ (λ _. omega arith)
+    λ _. by-cond z q (not (inRange z σ)) _ _ (λ _. omega arith)
+    λ e. answer-sound z σ (range-has z σ (not-false (inRange z σ) e)) pick right q

@@ -1,0 +1,5 @@
+pub mod Answers
+pub mod Beyond
+pub mod Calls
+pub mod Theorem
+pub mod Contracts
