@@ -27,7 +27,7 @@ class Schedule(NamedTuple):
     lent: list
     sizes: tuple
     calls: list
-    expected: tuple  # the replies, open's first; the words at the end; the items left
+    expected: tuple  # the replies, open's first; the words at the end; the items left; the history
 
 
 class Single(NamedTuple):
@@ -53,7 +53,7 @@ def play(lent, sizes, calls):
     """The case of a schedule, with the model's answers."""
     recorder = im.Recorder(*sizes, words=list(lent))
     replies = [recorder.opened] + recorder.run(calls)
-    return Schedule(lent, sizes, calls, (replies, recorder.words, im.items_left(recorder.words)))
+    return Schedule(lent, sizes, calls, (replies, recorder.words, im.items_left(recorder.words), recorder.history))
 
 
 def snapshots(case):
@@ -115,7 +115,7 @@ def rescans(case):
 
 def leaves_in_another_order(case):
     """The items left, by position, are not in the order of their records."""
-    words, left = case.expected[1:]
+    words, left = case.expected[1:3]
     B, N, P, _ = case.sizes
     first = im.CONTENTS + im.THREAD_WORDS * (P + 1)
     entries = [
@@ -268,6 +268,16 @@ def at_edge(store, k, top, call):
     return [answer(store[:k] + [word] + store[k + 1 :], call) for word in words]
 
 
+def with_no_start_left(rng, store):
+    """A start enqueue on a store of the model whose starts are set to M, of a producer with a call under way or not."""
+    words = list(store)
+    words[im.STARTS] = words[3]
+    wants = rng.random() < 0.5
+    producers = range(1, words[2] + 1)
+    thread = rng.choice([t for t in producers if (t in busy(words)) == wants] or producers)
+    return answer(words, ('e', thread, random_value(rng)))
+
+
 def of_another_length(rng, store):
     """A store of the model that is cut short, or lent with more words, sometimes with a size out of its limits."""
     needed = im.needed_words(*store[:3])
@@ -325,6 +335,8 @@ def singles(seed, stores, count):
             cases.append(of_other_sizes(rng, store))
         elif kind < 18:
             cases.append(random_words(rng))
+        elif kind < 19:
+            cases.append(with_no_start_left(rng, store))
         else:
             cases.append(opening(rng))
     return cases
@@ -397,18 +409,28 @@ def another_reply(reply):
     return ('end',) if reply == ('going',) else ('going',)
 
 
+def another_event(event):
+    """An event with another value; if it has none, another event."""
+    if event[0] in (3, 5):
+        return (8 - event[0],) + event[1:]
+    return event[:-1] + (another(event[-1]),)
+
+
 def with_one_wrong_value(rng, case):
-    """The case with one expected value changed: a reply, a word, an item left, a verdict or a number of a row."""
+    """The case with one expected value changed: a reply, a word, an item left, an event, a verdict or a number of a
+    row."""
     if isinstance(case, Schedule):
-        replies, words, left = case.expected
-        part = rng.choice(('reply', 'word', 'item') if left else ('reply', 'word'))
+        replies, words, left, history = case.expected
+        part = rng.choice(['reply', 'word'] + ['item'] * bool(left) + ['event'] * bool(history))
         if part == 'reply':
             replies = changed_at(replies, rng.randrange(len(replies)), another_reply)
         elif part == 'word':
             words = changed_at(words, rng.randrange(len(words)), another)
-        else:
+        elif part == 'item':
             left = changed_at(left, rng.randrange(len(left)), lambda item: (item[0], another(item[1])))
-        return case._replace(expected=(replies, words, left))
+        else:
+            history = changed_at(history, rng.randrange(len(history)), another_event)
+        return case._replace(expected=(replies, words, left, history))
     if isinstance(case, Single):
         reply, words = case.expected
         if not words or rng.random() < 0.5:
@@ -496,6 +518,18 @@ def response_term(reply):
     return f'accepted ({"started" if reply[0] == "ok" else "item"} {" ".join(map(str, reply[1:]))})'
 
 
+def event_term(event):
+    """An event of four words."""
+    kind, thread, call, value = event
+    return (
+        f'enqueueStarted {thread} {call} {value}',
+        f'enqueueEnded {thread} {call} {value}',
+        'dequeueStarted',
+        f'gaveItem {call} {value}',
+        'gaveEmpty',
+    )[kind - 1]
+
+
 def sizes_term(sizes):
     return 'record { B = %d; N = %d; P = %d; M = %d }' % tuple(sizes)
 
@@ -507,12 +541,13 @@ def record_term(**fields):
 def terms(case):
     """What is given and what is expected, as terms."""
     if isinstance(case, Schedule):
-        replies, words, left = case.expected
+        replies, words, left, history = case.expected
         items = [record_term(number=number, value=value) for number, value in left]
+        events = listed(map(event_term, reversed(history)))
         requests = listed(map(request_term, case.calls))
         given = record_term(lent=numbers(case.lent), sizes=sizes_term(case.sizes), requests=requests)
         replies = listed(map(response_term, replies))
-        return given, record_term(replies=replies, words=numbers(words), left=listed(items))
+        return given, record_term(replies=replies, words=numbers(words), left=listed(items), history=events)
     if isinstance(case, Single):
         opens = case.call[0] == 'open'
         made = f'opening ({sizes_term(case.call[1:])})' if opens else f'request ({request_term(case.call)})'
@@ -547,6 +582,7 @@ unfolding {FUNCTIONS[kind]}
 STORE_HEAD = """-- Generated: calls on a store, and what the model answers.
 use mathlib.Core.Path.{_≡_, refl}
 use mathlib.Core.List.{[], _∷_}
+use Rattle.history.specs.Event.{enqueueStarted, enqueueEnded, dequeueStarted, gaveItem, gaveEmpty}
 use Rattle.rules.specs.Rule.{refused, accepted, ok, started, going, ended, empty, item}
 use Rattle.rules.specs.Request.{Result, startEnqueue, startDequeue, step}
 use Rattle.tables.specs.Store.{Schedule, Outcome, follow, Single, opening, request, call}
@@ -563,6 +599,7 @@ use Rattle.tables.specs.Judge.{Words, Verdict, refused, judged, judge}
 STORE = """-- Calls on a store as the definitions answer them.
 use mathlib.Core.List.{List, [], _∷_, reverse}
 use Prim.Native.Nat.{ℕ}
+use Rattle.history.specs.Event.{History}
 use Rattle.history.specs.Linearization.{Queue}
 use Rattle.rules.specs.Sizes.{Sizes}
 use Rattle.rules.specs.Cell.{reader, writes}
@@ -580,16 +617,17 @@ pub record Schedule : Type 0 where
   pub sizes : Sizes
   pub requests : List Request
 
--- the replies, the words at the end, and the items left in them
+-- the replies, the words at the end, the items left in them, and the history, the newest event first
 pub record Outcome : Type 0 where
   pub replies : List Response
   pub words : List ℕ
   pub left : Queue
+  pub history : History
 
 abbrev pub outcome : Played → Outcome
 outcome p =
     let z = sizesOf (p .words) in
-    record { replies = reverse (p .replies); words = p .words; left = itemsLeft z (reader z (p .words)) }
+    record { replies = reverse (p .replies); words = p .words; left = itemsLeft z (reader z (p .words)); history = p .history }
 
 unfoldable pub follow : Schedule → Outcome
 unfolding UNFOLDED play itemsLeft

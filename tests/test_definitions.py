@@ -53,7 +53,8 @@ class Tables(unittest.TestCase):
         self.assertRegex(self.output, rf'(?m)^rt: {name} proved', self.output[-4000:])
 
     def test_schedules(self):
-        """A rule, a range, a check or its number, a write or the items left, wrong somewhere in a list of calls."""
+        """A rule, a range, a check or its number, a write, the items left or an event of the history, wrong somewhere in
+        a list of calls."""
         self.assert_proved('schedules')
 
     def test_single_calls(self):
@@ -106,6 +107,20 @@ class Reach(unittest.TestCase):
             cannot = phase in (('producer', 2), ('producer', 4), ('producer', 10))
             self.assertEqual(phase + (9,) in singles, not cannot, phase)
         self.assertIn(('producer', 4, 8), singles)
+
+    def test_no_start_left(self):
+        """No start enqueue of a producer with a call under way, or of an idle one, when the starts have come to M."""
+        starts = [case for case in SINGLES if case.call[0] == 'e' and len(case.words) > im.STARTS]
+        replies = [case.expected[0] for case in starts if case.words[im.STARTS] == case.words[3]]
+        self.assertGreater(replies.count(('refused', 5)), 20)
+        self.assertGreater(replies.count(('refused', 6)), 10)
+
+    def test_histories_of_schedules(self):
+        """Schedules whose histories lack a kind of event, or are too short to show an order."""
+        kinds = [event[0] for case in SCHEDULES for event in case.expected[3]]
+        for kind in range(1, 6):
+            self.assertGreater(kinds.count(kind), 30, kind)
+        self.assertGreater(sum(len(case.expected[3]) > 10 for case in SCHEDULES), 20)
 
     def test_stores(self):
         """No case of a short store, of sizes out of limits, of a place 0, or of words past the store."""
