@@ -1,21 +1,17 @@
 -- `reading::read` meets its contract. Assumes nothing.
-use Rattle.reading.specs.Steps.{Read}
-use Rattle.reading.proofs.Reading.{no-multiple, too-many, too-few-entries, reads-all, same-reading}
+use Rattle.reading.proofs.Reading.{is-refused, no-multiple, too-many, too-few-entries, reads-all, same-reading}
 use borrow.Author.Needs.{needs}
 use Rattle.reading.proofs.read.Statement.{statement}
 use Rattle.reading.proofs.read.Tie as tie
 
 returns : tie.Need-returns
-unfolding Read
-returns c = no-multiple _ _ (c .if1 .taken)
+returns c = is-refused _ _ _ _ (no-multiple _ _ (c .if1 .taken))
 
 returns-2 : tie.Need-returns-2
-unfolding Read
-returns-2 c = too-many _ _ (c .before .if1 .left) (c .if2 .taken)
+returns-2 c = is-refused _ _ _ _ (too-many _ _ (c .before .if1 .left) (c .if2 .taken))
 
 returns-3 : tie.Need-returns-3
-unfolding Read
-returns-3 c = too-few-entries _ _ (c .before .before .if1 .left) (c .before .if2 .left) (c .if3 .taken)
+returns-3 c = is-refused _ _ _ _ (too-few-entries _ _ (c .before .before .if1 .left) (c .before .if2 .left) (c .if3 .taken))
 
 read-events-requires : tie.Need-read-events-requires
 read-events-requires c κs = search needs
