@@ -1,5 +1,5 @@
 -- `judge::examine` meets its contract. Assumes nothing.
-use Rattle.judge.proofs.Answering.{read-refused, read-held, at-most, is-refused, is-explained, is-unexplained}
+use Rattle.judge.proofs.Answering.{is-refused, is-held, may-mark, is-failed, is-marked}
 use borrow.Author.Needs.{needs}
 use Rattle.judge.proofs.examine.Statement.{statement}
 use Rattle.judge.proofs.examine.Tie as tie
@@ -11,23 +11,33 @@ enum-known-entered : tie.Need-enum-known-entered
 enum-known-entered c = search needs
 
 returns : tie.Need-returns
-returns c = is-refused _ _ _ _ (read-refused _ _ _ _ _ (c .before .before .before .read .ensures) (c .before .entered .given .1))
+returns c = is-refused _ _ _ _ _ _ _ (c .before .before .before .read .ensures) (c .before .entered .given .1)
 
 enum-known-entered-2 : tie.Need-enum-known-entered-2
 enum-known-entered-2 c = search needs
 
-explains-requires : tie.Need-explains-requires
-explains-requires c κs =
-    let h = read-held _ _ _ _ _ (c .before .before .before .before .read .ensures) (c .before .before .entered2 .given .1) in
-    (h .table, at-most _ _ _ _ h .1)
+marks-requires : tie.Need-marks-requires
+marks-requires c κs =
+    may-mark _ _ _ _ _ (is-held _ _ _ _ _ (c .before .before .before .before .before .read .ensures) (c .before .before .before .entered2 .given .1))
+    (c .before .before .before .before .before .before .before .before .pre .1)
+
+enum-told : tie.Need-enum-told
+enum-told c = search needs
 
 returns-2 : tie.Need-returns-2
 returns-2 c =
-    is-explained _ _ _ _ (read-held _ _ _ _ _ (c .before .before .before .before .before .before .read .ensures) (c .before .before .before .before .entered2 .given .1)) _ (c .before .explains .ensures) (c .if1 .taken)
+    is-failed _ _ _ _ _
+    (is-held _ _ _ _ _ (c .before .before .before .before .before .before .before .before .read .ensures) (c .before .before .before .before .before .before .entered2 .given .1)) _
+    (c .before .before .marks .ensures) (c .enum-told .given .1)
+
+enum-known-marked : tie.Need-enum-known-marked
+enum-known-marked c = search needs
 
 returns-3 : tie.Need-returns-3
 returns-3 c =
-    is-unexplained _ _ _ _ (read-held _ _ _ _ _ (c .before .before .before .before .before .before .read .ensures) (c .before .before .before .before .entered2 .given .1)) _ (c .before .explains .ensures) (c .if1 .left)
+    is-marked _ _ _ _ _
+    (is-held _ _ _ _ _ (c .before .before .before .before .before .before .before .before .before .read .ensures) (c .before .before .before .before .before .before .before .entered2 .given .1)) _
+    (c .before .before .before .marks .ensures) _ (c .before .marked .given .1)
 
 pub examine-spec : {M : Type 1} → statement M
 examine-spec =
@@ -37,6 +47,8 @@ examine-spec =
     enum-known-entered
     returns
     enum-known-entered-2
-    explains-requires
+    marks-requires
+    enum-told
     returns-2
+    enum-known-marked
     returns-3)
