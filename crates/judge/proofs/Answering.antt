@@ -30,6 +30,7 @@ use Rattle.marking.proofs.Zeros.{no-flags}
 use Rattle.judge.specs.declared.Call as table
 use Rattle.judge.specs.declared.Outcome.{Outcome}
 use Rattle.judge.specs.declared.Outcome.the-variants as outcome
+use Rattle.judge.specs.declared.Verdict.{Verdict}
 use Rattle.judge.specs.declared.Verdict.the-variants.{Explained, Unexplained}
 use Rattle.judge.specs.Answer.{reply, entry, written}
 use Rattle.judge.specs.Examine.{callsOf, markOf, verdictOf, outcomeOf, outcomeOn, callsRead, Examined, entryIn, filled, allStay}
@@ -141,7 +142,7 @@ module _ (reading : Reading) (entries : ℕ) (m flags : List ℕ) (r : Outcome) 
   written-as (refused n) = refl
   written-as (history h) = refl
 
-  pub table-filled : filled m c before ≡ written reading before
+  table-filled : filled m c before ≡ written reading before
   table-filled =
       ap (λ l. l ++ drop c before) entries-are ∙ ap (λ n. map entry (rowsOf reading) ++ drop n before) count ∙ written-as reading
 
@@ -158,7 +159,7 @@ module _ (reading : Reading) (entries : ℕ) (m flags : List ℕ) (r : Outcome) 
       ∙ ap (leaves (s .mark) (s .given)) cs
       ∙ sym (explains-as h ∙ ap (lastTest (calls h)) p)
 
-  pub decided : verdictOf r (allStay (filled m c before) flags (markOf r) c) ≡ reply reading
+  decided : verdictOf r (allStay (filled m c before) flags (markOf r) c) ≡ reply reading
   decided = by-reading reading refl
     where
       by-state : (h : History) (o : Option State) → reading ≡ history h → passed (calls h) ≡ o → r ≡ outcomeOf (length (calls h)) o
@@ -171,3 +172,10 @@ module _ (reading : Reading) (entries : ℕ) (m flags : List ℕ) (r : Outcome) 
       by-reading : (x : Reading) → reading ≡ x → verdictOf r (allStay (filled m c before) flags (markOf r) c) ≡ reply x
       by-reading (refused n) e = ap (λ o. verdictOf o (allStay (filled m c before) flags (markOf o) c)) (rw e at (examined .replies))
       by-reading (history h) e = by-state h (passed (calls h)) e refl (rw e at (examined .replies))
+
+  -- what the judge does with the outcome: n calls are filled in, the last test goes over them with the mark k, and decides the reply v
+  pub concludes : (n k : ℕ) (after : List table.Call) (stays : Bool) (v : Verdict) → n ≡ c → k ≡ markOf r → after ≡ filled m n before
+      → stays ≡ allStay after flags k n → v ≡ verdictOf r stays → (v ≡ reply reading) × (after ≡ written reading before)
+  concludes n k after stays v e₁ e₂ e₃ e₄ e₅ =
+      let filled-in : after ≡ filled m c before = e₃ ∙ ap (λ i. filled m i before) e₁ in
+      (e₅ ∙ ap (verdictOf r) (e₄ ∙ rw (e₁, e₂, filled-in)) ∙ decided, filled-in ∙ table-filled)
