@@ -60,20 +60,19 @@ next-fits fits small = omega arith
 pub big-lit : {M : Type 1} {𝓤 : URA M} {H : Heap 𝓤} {A : Atoms 𝓤} {K : Type 0} {W : Given 𝓤 H A} {Γ : List (Item 𝓤)} {E : Env 𝓤 H} → K → {w : Width} {n : ℕ} → Fits w n → Opd K W Γ E (intBig w n) (vint w n)
 big-lit {𝓤 = 𝓤} t {w} {n} f = record { go = λ Kt h. via 𝓤 (Kt (vint w n)) h (guardI 𝓤 (Fits w n) (Kt (vint w n)) f) }
 
--- ---- a function's locals: the block of each, its type, room for it, and that it dies
-abbrev pub Blocks : List Local → Type 0
-Blocks [] = Unit {0}
-Blocks (x ∷ ls) = ℕ × Blocks ls
-
+-- ---- a function's locals: local i has the type `typeOf ls i` and lies in the block `bs i`
 abbrev pub typeOf : List Local → ℕ → Ty
 typeOf [] i = tyPtr
 typeOf (local τ h ∷ ls) zero = τ
 typeOf (local τ h ∷ ls) (suc i) = typeOf ls i
 
-abbrev pub blockOf : (ls : List Local) → Blocks ls → ℕ → ℕ
-blockOf [] bs i = zero
-blockOf (x ∷ ls) bs zero = bs .0
-blockOf (x ∷ ls) bs (suc i) = blockOf ls (bs .1) i
+-- a block more, before the others
+abbrev before : ℕ → (ℕ → ℕ) → ℕ → ℕ
+before b bs zero = b
+before b bs (suc i) = bs i
+
+abbrev rest-of : (ℕ → ℕ) → ℕ → ℕ
+rest-of bs i = bs (suc i)
 
 -- n positions from i on
 abbrev pub span : (i n : ℕ) → List ℕ
@@ -81,17 +80,18 @@ span i zero = []
 span i (suc n) = i ∷ span (suc i) n
 
 module _ {M : Type 1} (𝓤 : URA M) (H : Heap 𝓤) where
-  abbrev pub envOf : (ls : List Local) → Blocks ls → Env 𝓤 H
+  abbrev pub envOf : List Local → (ℕ → ℕ) → Env 𝓤 H
   envOf [] bs = []
-  envOf (local τ h ∷ ls) bs = (τ, bs .0) ∷ envOf ls (bs .1)
+  envOf (local τ h ∷ ls) bs = (τ, bs 0) ∷ envOf ls (rest-of bs)
 
-  abbrev pub rooms : (ls : List Local) → Blocks ls → List (Item 𝓤)
+  -- room for each, and that each dies
+  abbrev pub rooms : List Local → (ℕ → ℕ) → List (Item 𝓤)
   rooms [] bs = []
-  rooms (local τ h ∷ ls) bs = ‵ (froom τ (bs .0) zero) ∷ rooms ls (bs .1)
+  rooms (local τ h ∷ ls) bs = ‵ (froom τ (bs 0) zero) ∷ rooms ls (rest-of bs)
 
-  abbrev pub deaths : (ls : List Local) → Blocks ls → List (Item 𝓤)
+  abbrev pub deaths : List Local → (ℕ → ℕ) → List (Item 𝓤)
   deaths [] bs = []
-  deaths (local τ h ∷ ls) bs = ‵ (fdies τ (bs .0)) ∷ deaths ls (bs .1)
+  deaths (local τ h ∷ ls) bs = ‵ (fdies τ (bs 0)) ∷ deaths ls (rest-of bs)
 
 module _ {M : Type 1} (𝓤 : URA M) (H : Heap 𝓤) (A : Atoms 𝓤) where
   -- what follows some items is weakened; an item is brought before them
@@ -113,31 +113,33 @@ module _ {M : Type 1} (𝓤 : URA M) (H : Heap 𝓤) (A : Atoms 𝓤) where
 module _ {M : Type 1} {𝓤 : URA M} {H : Heap 𝓤} {A : Atoms 𝓤} {K : Type 0} {W : Given 𝓤 H A} where
   -- all are allocated: local i is entry i
   pub allocates : K → (ls : List Local) {Γ : List (Item 𝓤)} {Kt : Env 𝓤 H → Goal 𝓤 H}
-      → ((bs : Blocks ls) → Seq K W (rooms 𝓤 H ls bs ++ (deaths 𝓤 H ls bs ++ Γ)) (Kt (envOf 𝓤 H ls bs))) → Seq K W Γ (allocs ls Kt)
-  allocates t [] k = alloc0 t $ k tt
+      → ((bs : ℕ → ℕ) → Seq K W (rooms 𝓤 H ls bs ++ (deaths 𝓤 H ls bs ++ Γ)) (Kt (envOf 𝓤 H ls bs))) → Seq K W Γ (allocs ls Kt)
+  allocates t [] k = alloc0 t $ k (λ i. zero)
   allocates t (local τ h ∷ ls) {Γ} k = alloc1 t (λ b. allocates t ls (λ bs.
       let R : List (Item 𝓤) = rooms 𝓤 H ls bs in
       let D : List (Item 𝓤) = deaths 𝓤 H ls bs in
       let r : Item 𝓤 = ‵ (froom τ b zero) in
       let d : Item 𝓤 = ‵ (fdies τ b) in
-      record { prf =
-          via 𝓤 (⋆ 𝓤 H A (R ++ (r ∷ (D ++ (d ∷ Γ))))) (under 𝓤 H A R _ _ (rises 𝓤 H A D r (d ∷ Γ)))
-          (via 𝓤 (⋆ 𝓤 H A (r ∷ (R ++ (D ++ (d ∷ Γ))))) (rises 𝓤 H A R r _)
-          (via 𝓤 (⋆ 𝓤 H A (r ∷ (R ++ (d ∷ (D ++ Γ))))) (under 𝓤 H A (r ∷ R) _ _ (rises 𝓤 H A D d Γ)) (k (b, bs) .prf)));
+      record {
+        prf =
+            via 𝓤 (⋆ 𝓤 H A (R ++ (r ∷ (D ++ (d ∷ Γ))))) (under 𝓤 H A R _ _ (rises 𝓤 H A D r (d ∷ Γ)))
+            (via 𝓤 (⋆ 𝓤 H A (r ∷ (R ++ (D ++ (d ∷ Γ))))) (rises 𝓤 H A R r _)
+            (via 𝓤 (⋆ 𝓤 H A (r ∷ (R ++ (d ∷ (D ++ Γ))))) (under 𝓤 H A (r ∷ R) _ _ (rises 𝓤 H A D d Γ)) (k (before b bs) .prf)));
       }))
 
   -- all are freed
-  pub frees-all : K → (ls : List Local) (bs : Blocks ls) {Γ : List (Item 𝓤)} {g : Goal 𝓤 H}
+  pub frees-all : K → (ls : List Local) (bs : ℕ → ℕ) {Γ : List (Item 𝓤)} {g : Goal 𝓤 H}
       → Step K W Γ g (rooms 𝓤 H ls bs ++ (deaths 𝓤 H ls bs ++ Γ)) (frees (envOf 𝓤 H ls bs) g)
   frees-all t [] bs = free0 t
   frees-all t (local τ h ∷ ls) bs {Γ} = step (λ s.
-      let R : List (Item 𝓤) = rooms 𝓤 H ls (bs .1) in
-      let D : List (Item 𝓤) = deaths 𝓤 H ls (bs .1) in
-      let r : Item 𝓤 = ‵ (froom τ (bs .0) zero) in
-      let d : Item 𝓤 = ‵ (fdies τ (bs .0)) in
-      record { prf =
-          via 𝓤 (⋆ 𝓤 H A (r ∷ d ∷ (R ++ (D ++ Γ)))) (under 𝓤 H A (r ∷ []) (R ++ (d ∷ (D ++ Γ))) (d ∷ (R ++ (D ++ Γ))) (rises 𝓤 H A R d (D ++ Γ)))
-          ((free1 t $ frees-all t ls (bs .1) $ s) .prf);
+      let R : List (Item 𝓤) = rooms 𝓤 H ls (rest-of bs) in
+      let D : List (Item 𝓤) = deaths 𝓤 H ls (rest-of bs) in
+      let r : Item 𝓤 = ‵ (froom τ (bs 0) zero) in
+      let d : Item 𝓤 = ‵ (fdies τ (bs 0)) in
+      record {
+        prf =
+            via 𝓤 (⋆ 𝓤 H A (r ∷ d ∷ (R ++ (D ++ Γ)))) (under 𝓤 H A (r ∷ []) (R ++ (d ∷ (D ++ Γ))) (d ∷ (R ++ (D ++ Γ))) (rises 𝓤 H A R d (D ++ Γ)))
+            ((free1 t $ frees-all t ls (rest-of bs) $ s) .prf);
       })
 
 -- ---- a call by its contract: the tokens and what the arguments own, one item each, are asked for, and what comes back is taken apart

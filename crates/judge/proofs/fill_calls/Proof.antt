@@ -46,7 +46,7 @@ use denote.Exit.{yes}
 use Rattle.judge.specs.declared.Call.{Call}
 use Rattle.judge.specs.Examine.{noCall, entryIn, filled}
 use Rattle.judge.proofs.Filling.{length-filled, one-more}
-use Rattle.judge.proofs.Walking.{Entry, Working, holds, fails, offset-fits, next-fits, Blocks, typeOf, blockOf, span, envOf, deaths, allocates, frees-all, By, calls-by, counts}
+use Rattle.judge.proofs.Walking.{Entry, Working, holds, fails, offset-fits, next-fits, typeOf, span, envOf, deaths, allocates, frees-all, By, calls-by, counts}
 use Rattle.judge.proofs.Call as call
 use Rattle.judge.proofs.Call.Laws as call-laws
 use Rattle.judge.proofs.entry_of as entry
@@ -117,21 +117,18 @@ module _ {M : Type 1} (𝓤 : URA M) (H : Heap 𝓤) (A : Atoms 𝓤) (W : Given
   abbrev to : ℕ → EntryOf 𝓤 H A mem run .Ghost
   to j = (((κ′, tt), (q′, tt), tt, (w, (j, tt)), (s′ ∷ [], (vint w64 j ∷ [], tt))), tt)
 
-  module _ (𝓣 : Tables 𝓤 H) (known : Triple 𝓤 (𝓣 .C entry-def.name) (EntryOf 𝓤 H A mem run)) (room : Room Entry (length ys)) (few : n ≤ length ys) (enough : n ≤ 4096) (bs : Blocks (code.function .locals)) where
-    -- the type and the block of a local
+  module _ (𝓣 : Tables 𝓤 H) (known : Triple 𝓤 (𝓣 .C entry-def.name) (EntryOf 𝓤 H A mem run)) (room : Room Entry (length ys)) (few : n ≤ length ys) (enough : n ≤ 4096) (l : ℕ → ℕ) where
+    -- the type of a local
     abbrev τ : ℕ → Ty
     τ i = typeOf (code.function .locals) i
 
-    abbrev l : ℕ → ℕ
-    l i = blockOf (code.function .locals) bs i
-
     abbrev En : Env 𝓤 H
-    En = envOf 𝓤 H (code.function .locals) bs
+    En = envOf 𝓤 H (code.function .locals) l
 
     -- j entries are filled: local i is entry 5 + i
     abbrev At : ℕ → List (Item 𝓤)
     At j = Had j ++ (‵ (froom (τ 0) (l 0) 0) ∷ ‵ (fat fullShare (τ 1) (l 1) 0 s) ∷ ‵ (fat fullShare (τ 2) (l 2) 0 s′) ∷ ‵ (fat fullShare (τ 3) (l 3) 0 (vint w64 n)) ∷ ‵ (fat fullShare (τ 4) (l 4) 0 (vint w64 j))
-        ∷ ‵ (froom (τ 5) (l 5) 0) ∷ ‵ (froom (τ 6) (l 6) 0) ∷ ‵ (froom (τ 7) (l 7) 0) ∷ ‵ (froom (τ 8) (l 8) 0) ∷ deaths 𝓤 H (code.function .locals) bs)
+        ∷ ‵ (froom (τ 5) (l 5) 0) ∷ ‵ (froom (τ 6) (l 6) 0) ∷ ‵ (froom (τ 7) (l 7) 0) ∷ ‵ (froom (τ 8) (l 8) 0) ∷ deaths 𝓤 H (code.function .locals) l)
 
     -- when the loop is left, the rest of the body runs
     abbrev Left : Out → SProp 𝓤
@@ -180,19 +177,19 @@ module _ {M : Type 1} (𝓤 : URA M) (H : Heap 𝓤) (A : Atoms 𝓤) (W : Given
         leaves-loop ! (load ! (from ! (stop !)) (look ! 10 refl)) $ exec ! (𝓣 .C) (𝓣 .Λ) En mir′.t-3 (atRet En Post) $
         assigns ! (of-opd ! (unit-lit !)) (from ! (stop !)) (init ! 5 refl (tt, tt)) $
         returns ! (look ! 5 refl) $ forget ! 5 refl $ forget ! 6 refl $ forget ! 7 refl $ forget ! 8 refl $ forget ! 9 refl $ forget ! 10 refl $
-        move ! (span 5 18) $ frees-all ! (code.function .locals) bs $ by ! (exits room few)
+        move ! (span 5 18) $ frees-all ! (code.function .locals) l $ by ! (exits room few)
 
   walk : (𝓣 : Tables 𝓤 H) → Triple 𝓤 (𝓣 .C entry-def.name) (EntryOf 𝓤 H A mem run) → Room Entry (length ys) → (n ≤ length ys) × (n ≤ 4096)
       → ent 𝓤 (onEntry 𝓤 H A fill.signature (κ, (κ′, tt)) (q, (q′, tt)) a vals) (WpFn 𝓤 H (𝓣 .C) (𝓣 .Λ) code.function (s ∷ s′ ∷ vint w64 n ∷ []) Post)
   walk 𝓣 known room enough =
       qed W ((‵ (flft κ q) ⊛ ‵ (flft κ′ q′) ⊛ ‵ ftrue) ∷ ‵ (owns (MutSlice (named 0) κ Entry ∷ ShrRef (named 1) κ′ Working ∷ usize ∷ []) a vals) ∷ []) ∵ enter ! (𝓣 .C) (𝓣 .Λ) code.function (s ∷ s′ ∷ vint w64 n ∷ []) _ $
-      allocates ! (code.function .locals) (λ bs. params1 ! $
+      allocates ! (code.function .locals) (λ l. params1 ! $
       pass1 ! (init ! 1 refl (tt, (tt, (record { fits = room .0 }, tt)))) $ pass1 ! (init ! 2 refl (tt, tt)) $ pass1 ! (init ! 3 refl (tt, record { fits = n-fits })) $ pass0 ! $
       assigns ! (of-opd ! (lit ! tt)) (from ! (stop !)) (init ! 4 refl (tt, record { fits = lit< tt })) $
       move ! (19 ∷ 18 ∷ []) $ fsplit ! $ fsplit ! $ drop ! $ fsplit ! $ move ! (3 ∷ 2 ∷ []) $ split3 ! $ move ! (3 ∷ []) $ fsplit ! $
       -- [what the memory owns; what n owns; the tokens; true; obs; the borrow; the locals, …]
       move ! (1 ∷ 4 ∷ []) $ drop ! $ drop ! $ move ! (3 ∷ 4 ∷ 1 ∷ 2 ∷ []) $
-      by ! (counts 𝓤 H A W 𝓣 _ mir′.turn-1 _ n (λ j. ⋆ 𝓤 H A (At 𝓣 known room (enough .0) (enough .1) bs j)) (more 𝓣 known room (enough .0) (enough .1) bs) (ends 𝓣 known room (enough .0) (enough .1) bs)))
+      by ! (counts 𝓤 H A W 𝓣 _ mir′.turn-1 _ n (λ j. ⋆ 𝓤 H A (At 𝓣 known room (enough .0) (enough .1) l j)) (more 𝓣 known room (enough .0) (enough .1) l) (ends 𝓣 known room (enough .0) (enough .1) l)))
 
 module _ {M : Type 1} (𝓤 : URA M) (H : Heap 𝓤) (A : Atoms 𝓤) (W : Given 𝓤 H A) (mem : Memory → SProp 𝓤) (run : Routine → Fun 𝓤) (𝓣 : Tables 𝓤 H) (known : Triple 𝓤 (𝓣 .C entry-def.name) (EntryOf 𝓤 H A mem run)) where
   fill-walks : Walks 𝓤 H A fill.ended stayed (WpFn 𝓤 H (𝓣 .C) (𝓣 .Λ) code.function) (fill.clauses 𝓤 H A mem run)

@@ -44,7 +44,7 @@ use Rattle.judge.proofs.Outcome as outcome
 use Rattle.judge.proofs.Outcome.Laws as outcome-laws
 use Rattle.judge.proofs.Verdict as verdict
 use Rattle.judge.proofs.Verdict.Laws as verdict-laws
-use Rattle.judge.proofs.Walking.{Entry, Working, Flags, Blocks, blockOf, typeOf, span, allocates, frees-all, By, calls-by}
+use Rattle.judge.proofs.Walking.{Entry, Working, Flags, typeOf, span, allocates, frees-all, By, calls-by}
 use Rattle.judge.proofs.Lending.{at, slice, lends-own, own-back, shares-own, own-room, lends-slice, slice-back, shares-slice}
 use Rattle.judge.proofs.Taken.{Given-both, After, exits, meets}
 use Rattle.judge.proofs.examine as examine
@@ -103,7 +103,7 @@ module _ {M : Type 1} (𝓤 : URA M) (H : Heap 𝓤) (A : Atoms 𝓤) (W : Given
     walk : ent 𝓤 (⋆ 𝓤 H A (Given-both κ κ′ q q′ h x)) (WpFn 𝓤 H (𝓣 .C) (𝓣 .Λ) code.function (sliceVal (ptr h) (length hs) ∷ s ∷ []) Post)
     walk =
         qed W (Given-both κ κ′ q q′ h x) ∵ enter ! (𝓣 .C) (𝓣 .Λ) code.function (sliceVal (ptr h) (length hs) ∷ s ∷ []) _ $
-        allocates ! (code.function .locals) (λ bs. let l : ℕ → ℕ = blockOf (code.function .locals) bs in params1 ! $
+        allocates ! (code.function .locals) (λ l. params1 ! $
         pass1 ! (init ! 1 refl (tt, (tt, (record { fits = roomₕ .0 }, tt)))) $ pass1 ! (init ! 2 refl (tt, (tt, (record { fits = room .0 }, tt)))) $ pass0 ! $
         move ! (38 ∷ 39 ∷ []) $ split3 ! $ move ! (2 ∷ []) $ drop ! $ move ! (2 ∷ []) $ fsplit ! $ move ! (1 ∷ []) $ fsplit ! $ move ! (1 ∷ []) $ drop ! $
         -- [the table; the history; κ; κ′; the locals, …]
@@ -168,7 +168,7 @@ module _ {M : Type 1} (𝓤 : URA M) (H : Heap 𝓤) (A : Atoms 𝓤) (W : Given
         -- [the verdict; room for _4; κ′; the table's last entries; room for _3; κ; _0 to _2; _5 to _18; …]
         returns ! (look ! 6 refl) $ forget ! 6 refl $ forget ! 7 refl $ forget ! 8 refl $ forget ! 9 refl $ forget ! 10 refl $ forget ! 11 refl $ forget ! 12 refl $ forget ! 13 refl $ forget ! 14 refl $ forget ! 15 refl $
         forget ! 16 refl $ forget ! 17 refl $ forget ! 18 refl $ forget ! 19 refl $ forget ! 20 refl $ forget ! 21 refl $ forget ! 22 refl $
-        move ! (6 ∷ 7 ∷ 8 ∷ 4 ∷ 1 ∷ span 9 33) $ frees-all ! (code.function .locals) bs $ keep ! (0 ∷ 2 ∷ 3 ∷ 1 ∷ []) $
+        move ! (6 ∷ 7 ∷ 8 ∷ 4 ∷ 1 ∷ span 9 33) $ frees-all ! (code.function .locals) l $ keep ! (0 ∷ 2 ∷ 3 ∷ 1 ∷ []) $
         by ! (exits 𝓤 H A W verdict.the-row (judge.clauses 𝓤 H A mem run) κ κ′ q q′ h x tt y v₅ zs long (factI 𝓤 _ _ (let j = concludes _ _ _ _ _ examined ys n k zs t y e₁ e₃ e₂ e₄ e₅ in record { replies = j .0; fills = j .1 })))))))))))))))))))))))))))))))
 
   judge-meets : Meets 𝓤 H A judge.signature (WpFn 𝓤 H (𝓣 .C) (𝓣 .Λ) code.function) (judge.spec 𝓤 H A mem run)
