@@ -15,7 +15,7 @@ use Rattle.reading.proofs.Builds.{build-snoc, length-build, getD-build}
 use Rattle.marking.specs.Marks.{Given}
 use Rattle.judge.specs.declared.Call.{Call}
 use Rattle.judge.specs.Answer.{entry}
-use Rattle.judge.specs.Examine.{noCall, entryIn, filled, staysAt, allStay}
+use Rattle.judge.specs.Working.{noCall, entryIn, filled, staysAt, allStay}
 
 and-true : (b : Bool) → (b && true) ≡ b
 and-true true = refl

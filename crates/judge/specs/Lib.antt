@@ -1,3 +1,3 @@
 pub mod Answer
 pub mod Decides
-pub mod Examine
+pub mod Working

@@ -10,26 +10,18 @@ use reading::THREAD;
 use reading::read;
 ghost use mathlib.Core.Path.{_≡_};
 ghost use Prim.Native.Nat.{_+_, _≤_, _<_};
-ghost use lib.ListN.{length, getD, replicate};
+ghost use lib.ListN.{length, getD};
 ghost use Rattle.history.specs.Calls.{row};
 ghost use Rattle.history.specs.Form.{mostEvents, read};
-ghost use Rattle.reading.specs.Table.{Table, callAt};
+ghost use Rattle.reading.specs.Table.{callAt};
 ghost use Rattle.judge.specs.Answer.{reply, Judges};
-ghost use Rattle.judge.specs.Examine.{callsOf, markOf, verdictOf, entryIn, filled, staysAt, allStay, Examined};
+ghost use Rattle.judge.specs.Working.{callsOf, markOf, goesThrough, verdictOf, entryIn, filled, staysAt, allStay};
 
 // The judge's reply: a refusal's number, or whether the history is explained (specs/Answer.antt).
 pub enum Verdict {
     Refused(u32),
     Explained,
     Unexplained,
-}
-
-// What reading a history and marking its calls gives: a refusal's number, or how many calls were started, with the mark unless the
-// verdict's pass failed.
-enum Outcome {
-    Refused(u32),
-    Failed(usize),
-    Marked { calls: usize, mark: u32 },
 }
 
 // An entry of the working table, a started call: kind 1 or 3, start event, end event or 0, the item's call number or 0.
@@ -41,70 +33,49 @@ pub struct Call {
     pub answer: u32,
 }
 
-// Reads a history, marks its calls, and flags those whose items were given.
-fn examine(
-    history: &[u32],
-    entries: usize,
-    m: &mut [u32; MEMORY],
-    flags: &mut [u32; 4_096],
-) -> Outcome
-    requires { ⌜ Table (now m) 0 × (now flags ≡ replicate 4096 0) ⌝ }
-    ensures { λ r. ⌜ Examined (read entries (now (history .entry))) entries (now (m .exit)) (now (flags .exit)) r ⌝ }
-{
-    let entered = read(history, entries, m);
-    match entered {
-        Entered::Refused(n) => {
-            return Outcome::Refused(n);
-        }
-        Entered::Calls(calls) => {
-            let marked = marks(m, flags, calls);
-            match marked {
-                Marked::Fails => {
-                    return Outcome::Failed(calls);
-                }
-                Marked::Mark(mark) => {
-                    return Outcome::Marked { calls, mark };
-                }
-            }
-        }
-    }
-}
-
 // How many entries of the working table are filled; none where the history is refused.
-fn calls_of(outcome: Outcome) -> usize
-    ensures { λ r. ⌜ r ≡ callsOf outcome ⌝ }
+fn calls_of(entered: Entered) -> usize
+    ensures { λ r. ⌜ r ≡ callsOf entered ⌝ }
 {
-    match outcome {
-        Outcome::Refused(_) => 0,
-        Outcome::Failed(calls) => calls,
-        Outcome::Marked { calls, mark: _ } => calls,
+    match entered {
+        Entered::Refused(_) => 0,
+        Entered::Calls(calls) => calls,
     }
 }
 
 // The mark that the verdict's pass leaves.
-fn mark_of(outcome: Outcome) -> u32
-    ensures { λ r. ⌜ r ≡ markOf outcome ⌝ }
+fn mark_of(marked: Marked) -> u32
+    ensures { λ r. ⌜ r ≡ markOf marked ⌝ }
 {
-    match outcome {
-        Outcome::Refused(_) => 0,
-        Outcome::Failed(_) => 0,
-        Outcome::Marked { calls: _, mark } => mark,
+    match marked {
+        Marked::Fails => 0,
+        Marked::Mark(mark) => mark,
     }
 }
 
-// The reply, from what the last test found.
-fn verdict_of(outcome: Outcome, stays: bool) -> Verdict
-    ensures { λ r. ⌜ r ≡ verdictOf outcome stays ⌝ }
+// Whether the verdict's pass goes through.
+fn goes_through(marked: Marked) -> bool
+    ensures { λ r. ⌜ r ≡ goesThrough marked ⌝ }
 {
-    match outcome {
-        Outcome::Refused(n) => Verdict::Refused(n),
-        Outcome::Failed(_) => Verdict::Unexplained,
-        Outcome::Marked { calls: _, mark: _ } => {
-            if stays {
-                Verdict::Explained
-            } else {
-                Verdict::Unexplained
+    match marked {
+        Marked::Fails => false,
+        Marked::Mark(_) => true,
+    }
+}
+
+// The reply, from what reading, the verdict's pass and the last test found.
+fn verdict_of(entered: Entered, marked: Marked, stays: bool) -> Verdict
+    ensures { λ r. ⌜ r ≡ verdictOf entered marked stays ⌝ }
+{
+    match entered {
+        Entered::Refused(n) => {
+            return Verdict::Refused(n);
+        }
+        Entered::Calls(_) => {
+            if goes_through(marked) & stays {
+                return Verdict::Explained;
             }
+            return Verdict::Unexplained;
         }
     }
 }
@@ -187,12 +158,13 @@ pub fn judge(history: &[u32], table: &mut [Call]) -> Verdict
     ensures { λ r. ⌜ Judges (now (history .entry)) (now (table .entry)) (now (table .exit)) r ⌝ }
 {
     let mut m = [0u32; MEMORY];
-    let mut flags = [0u32; 4_096];
-    let outcome = examine(history, table.len(), &mut m, &mut flags);
-    let calls = calls_of(outcome);
+    let entered = read(history, table.len(), &mut m);
+    let calls = calls_of(entered);
     fill_calls(table, &m, calls);
-    let stays = all_stay(table, &flags, calls, mark_of(outcome));
-    verdict_of(outcome, stays)
+    let mut flags = [0u32; 4_096];
+    let marked = marks(&m, &mut flags, calls);
+    let stays = all_stay(table, &flags, calls, mark_of(marked));
+    verdict_of(entered, marked, stays)
 }
 
 // The judge with a working table of its own, which has an entry for each of 4,096 events.

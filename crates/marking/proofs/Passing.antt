@@ -19,9 +19,9 @@ use Rattle.marking.specs.declared.Moved.{Moved}
 use Rattle.marking.specs.declared.Moved.the-variants.{Stuck, To}
 use Rattle.marking.specs.declared.Marked.the-variants.{Fails, Mark}
 use Rattle.reading.specs.Build.{build}
-use Rattle.reading.specs.Table.{startAt, endAt, answerAt, threadAt, numberAt, valueAt, callOf, callAt, callsIn, Table}
+use Rattle.reading.specs.Table.{startAt, endAt, answerAt, threadAt, numberAt, valueAt, callOf, callAt, callsIn}
 use Rattle.marking.specs.Pass.{State, giveItem, answer, passCall, onward, passCalls, passed, lastTest}
-use Rattle.marking.specs.Marks.{Found, Given, Flagged, hintOf, movedTo, stateAfter, Moves, marked, Marks}
+use Rattle.marking.specs.Marks.{Numbered, Found, Given, Flagged, hintOf, movedTo, stateAfter, Moves, marked, Marks}
 use Rattle.reading.proofs.Logic.{same-or-not}
 use Rattle.reading.proofs.Builds.{drop-build, drop-built}
 use Rattle.reading.proofs.Words
@@ -113,7 +113,7 @@ module _ (m : List ℕ) (c : ℕ) where
       ∙ ap (λ i. some (record { mark = i; given = given })) (sym e))
 
   -- An item.
-  module _ (table : Table m c) (j mark : ℕ) (p : threadAt m j ≡ 0) (d : endAt m j ≢ 0) (q : answerAt m j ≢ 0) where
+  module _ (numbered : Numbered m c) (j mark : ℕ) (p : threadAt m j ≡ 0) (d : endAt m j ≢ 0) (q : answerAt m j ≢ 0) where
     abbrev n : ℕ
     n = answerAt m j
 
@@ -144,11 +144,11 @@ module _ (m : List ℕ) (c : ℕ) where
       looked =
           look-one n (callAt m) c i (enqueueAt m i) within
           (an-enqueue (threadAt m i) (numberAt m i) (valueAt m i) (startAt m i) (endAt m i) (answerAt m i)
-          (λ z. q (sym is ∙ table .plain i within z)))
+          (λ z. q (sym is ∙ numbered .plain i within z)))
           (eq-eqb (numberAt m i) n is)
           (λ h o.
           Words.not-number (numberAt m h) (valueAt m h) (startAt m h) (endAt m h) (answerAt m h) (threadAt m h) n
-          (λ e. let z = table .distinct h i (omega arith) within (e ∙ sym is) (λ w. q (sym e ∙ w)) in omega arith))
+          (λ e. let z = numbered .distinct h i (omega arith) within (e ∙ sym is) (λ w. q (sym e ∙ w)) in omega arith))
 
       abbrev test : Bool → Bool
       test was = eqb (valueAt m i) (valueAt m j) && not was && leb (startAt m i) (endAt m j) && past mark (enqueueAt m i)
@@ -180,7 +180,7 @@ module _ (m : List ℕ) (c : ℕ) where
               let b = getD-set-same flags i 1 0 (omega (arith, g .size)) in
               rw (e, a, b)
           go h l (inr o) =
-              let a = ne-eqb n (numberAt m h) (λ z. o (table .distinct h i l within (sym z ∙ sym is) (λ w. q (z ∙ w)))) in
+              let a = ne-eqb n (numberAt m h) (λ z. o (numbered .distinct h i l within (sym z ∙ sym is) (λ w. q (z ∙ w)))) in
               let b = getD-set-other flags i h 1 0 o in
               rw (a, b) (g .flagged h l)
 

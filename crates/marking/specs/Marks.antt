@@ -12,8 +12,13 @@ use Rattle.marking.specs.declared.Moved.{Moved}
 use Rattle.marking.specs.declared.Moved.the-variants.{Stuck, To}
 use Rattle.marking.specs.declared.Marked.{Marked}
 use Rattle.marking.specs.declared.Marked.the-variants.{Fails, Mark}
-use Rattle.reading.specs.Table.{startAt, endAt, numberAt, valueAt, callAt, callsIn}
+use Rattle.reading.specs.Table.{startAt, endAt, threadAt, numberAt, valueAt, callAt, callsIn}
 use Rattle.marking.specs.Pass.{State, passCall, passed}
+
+-- The numbers of c calls: a dequeue has 0, an enqueue one that no other call has.
+pub record Numbered (m : List ℕ) (c : ℕ) : Type 0 where
+  pub plain : (j : ℕ) → j < c → threadAt m j ≡ 0 → numberAt m j ≡ 0
+  pub distinct : (i j : ℕ) → i < c → j < c → numberAt m i ≡ numberAt m j → numberAt m i ≢ 0 → i ≡ j
 
 -- Where a number stands among those of c calls: c is nowhere.
 pub record Found (m : List ℕ) (c number r : ℕ) : Type 0 where

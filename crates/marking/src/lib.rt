@@ -11,8 +11,8 @@ ghost use mathlib.Core.Path.{_≡_};
 ghost use mathlib.Core.Logic.{_≢_};
 ghost use mathlib.Core.List.{[]};
 ghost use Prim.Native.Nat.{_+_, _≤_, _<_};
-ghost use Rattle.reading.specs.Table.{Table, threadAt, endAt, answerAt};
-ghost use Rattle.marking.specs.Marks.{Found, Given, fairAt, Moves, Marks};
+ghost use Rattle.reading.specs.Table.{threadAt, endAt, answerAt};
+ghost use Rattle.marking.specs.Marks.{Numbered, Found, Given, fairAt, Moves, Marks};
 
 // What one call does to the verdict's pass: the pass is stuck, or goes on with another mark, and with the place where the
 // next item is looked for first.
@@ -80,7 +80,7 @@ fn give(
     hint: usize,
     j: usize,
 ) -> Moved
-    requires { ⌜ Table (now m) c × (c ≤ 4096) × (hint ≤ c) × (j < c) × (threadAt (now m) j ≡ 0) × (endAt (now m) j ≢ 0) × (answerAt (now m) j ≢ 0) ⌝ }
+    requires { ⌜ Numbered (now m) c × (c ≤ 4096) × (hint ≤ c) × (j < c) × (threadAt (now m) j ≡ 0) × (endAt (now m) j ≢ 0) × (answerAt (now m) j ≢ 0) ⌝ }
     ensures { λ r. ⌜ Moves (now (m .entry)) c j mark (now (flags .entry)) (now (flags .exit)) r ⌝ }
 {
     let i = position(m, hint, c, m[ANSWER + j]);
@@ -108,7 +108,7 @@ fn pass(
     hint: usize,
     j: usize,
 ) -> Moved
-    requires { ⌜ Table (now m) c × (c ≤ 4096) × (hint ≤ c) × (j < c) ⌝ }
+    requires { ⌜ Numbered (now m) c × (c ≤ 4096) × (hint ≤ c) × (j < c) ⌝ }
     ensures { λ r. ⌜ Moves (now (m .entry)) c j mark (now (flags .entry)) (now (flags .exit)) r ⌝ }
 {
     if m[THREAD + j] != 0 {
@@ -126,7 +126,7 @@ fn pass(
 
 // The pass over all calls, in starting order; it flags the enqueues whose items were given.
 pub fn marks(m: &[u32; MEMORY], flags: &mut [u32; 4_096], c: usize) -> Marked
-    requires { ⌜ Table (now m) c × (c ≤ 4096) × Given (now m) c (now flags) [] ⌝ }
+    requires { ⌜ Numbered (now m) c × (c ≤ 4096) × Given (now m) c (now flags) [] ⌝ }
     ensures { λ r. ⌜ Marks (now (m .entry)) c (now (flags .exit)) r ⌝ }
 {
     let mut mark = 0;

@@ -42,7 +42,7 @@ use denote.Triple.Table.{entered, cited}
 use denote.Triple.Walked.{says, needs, Stays, stay-none-slice, stay-none-ref, stay-none, walkOf, goes-none-slice, goes-none-ref, goes-none, Walks, ends-at, walked, walk-meets}
 use denote.Exit.{yes}
 use Rattle.judge.specs.declared.Call.{Call}
-use Rattle.judge.specs.Examine.{noCall, staysAt, allStay}
+use Rattle.judge.specs.Working.{noCall, staysAt, allStay}
 use Rattle.judge.proofs.Walking.{Entry, Flags, holds, fails, offset-fits, next-fits, typeOf, span, envOf, deaths, allocates, frees-all, By, calls-by, counts}
 use Rattle.judge.proofs.Call as call
 use Rattle.judge.proofs.Call.Laws as call-laws

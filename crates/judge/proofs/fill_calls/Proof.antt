@@ -44,7 +44,7 @@ use denote.Triple.Table.{entered, cited}
 use denote.Triple.Walked.{says, needs, Stays, stay-slice, stay-none-ref, stay-none, walkOf, goes-slice, goes-none-ref, goes-none, Walks, ends-at, walked, walk-meets}
 use denote.Exit.{yes}
 use Rattle.judge.specs.declared.Call.{Call}
-use Rattle.judge.specs.Examine.{noCall, entryIn, filled}
+use Rattle.judge.specs.Working.{noCall, entryIn, filled}
 use Rattle.judge.proofs.Filling.{length-filled, one-more}
 use Rattle.judge.proofs.Walking.{Entry, Working, holds, fails, offset-fits, next-fits, typeOf, span, envOf, deaths, allocates, frees-all, By, calls-by, counts}
 use Rattle.judge.proofs.Call as call

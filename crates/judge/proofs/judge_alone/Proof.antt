@@ -50,7 +50,7 @@ use Rattle.history.specs.Form.{read}
 use Rattle.judge.specs.declared.Call.{Call}
 use Rattle.judge.specs.declared.Verdict.{Verdict}
 use Rattle.judge.specs.Answer.{reply, Judges}
-use Rattle.judge.specs.Examine.{noCall}
+use Rattle.judge.specs.Working.{noCall}
 use Rattle.judge.proofs.Call as call
 use Rattle.judge.proofs.Call.Laws as call-laws
 use Rattle.judge.proofs.Verdict as verdict
