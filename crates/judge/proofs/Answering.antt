@@ -29,7 +29,8 @@ use Rattle.judge.specs.declared.Call.{Call}
 use Rattle.judge.specs.declared.Verdict.{Verdict}
 use Rattle.judge.specs.declared.Verdict.the-variants.{Explained, Unexplained}
 use Rattle.judge.specs.Answer.{reply, entry, written, Judges}
-use Rattle.judge.specs.Working.{callsOf, markOf, goesThrough, verdictOf, entryIn, filled, allStay}
+use Rattle.judge.specs.Working.{callsOf, markOf, testedOf, goesThrough, verdictOf, entryIn, filled, allStay}
+use Rattle.judge.proofs.Filling.{length-filled}
 use Rattle.judge.proofs.Staying.{all-stay-as}
 
 -- a history that is read has at most so many events
@@ -99,7 +100,7 @@ module _ (words : List ℕ) (before : List Call) (m : List ℕ) (e : Entered) (n
       explains-as = passes-is (calls h) (calls h) atFirst
 
       -- the pass and the last test together are the verdict's
-      decided : (stays : Bool) → stays ≡ allStay after flags (markOf r) n → (goesThrough r && stays) ≡ explains h
+      decided : (stays : Bool) → stays ≡ allStay after flags (markOf r) (testedOf r n) → (goesThrough r && stays) ≡ explains h
       decided stays e = go (passed (callsIn m n)) refl (pass .replies) (pass .flags-then) ∙ ap (λ cs. lastTest cs (passed cs)) are-calls ∙ sym explains-as
         where
           go : (o : Option State) → passed (callsIn m n) ≡ o → r ≡ marked o → Flagged m n flags o → (goesThrough r && stays) ≡ lastTest (callsIn m n) (passed (callsIn m n))
@@ -108,14 +109,23 @@ module _ (words : List ℕ) (before : List Call) (m : List ℕ) (e : Entered) (n
               rw (q, p)
               (e ∙ rw (q, fills) (all-stay-as m n flags (s .given) g (s .mark) before n (omega arith)))
 
-    pub concludes : (k : ℕ) (stays : Bool) (v : Verdict) → k ≡ markOf r → stays ≡ allStay after flags k n → v ≡ verdictOf e r stays → Judges words before after v
-    concludes k stays v mark-is test-is verdict-is = go reading refl
+    pub tested-few : (i : ℕ) → i ≡ testedOf r n → (i ≤ length after) × (i ≤ 4096)
+    tested-few i z = go r z
+      where
+        go : (x : Marked) → i ≡ testedOf x n → (i ≤ length after) × (i ≤ 4096)
+        go Fails z = (omega arith, omega arith)
+        go (Mark k) z = let f = few in let l = ap length fills ∙ length-filled m before n (f .0) in (omega arith, omega arith)
+
+    pub concludes :
+        (i k : ℕ) (stays : Bool) (v : Verdict) → i ≡ testedOf r n → k ≡ markOf r → stays ≡ allStay after flags k i → v ≡ verdictOf e r stays
+        → Judges words before after v
+    concludes i k stays v tested-is mark-is test-is verdict-is = go reading refl
       where
         go : (x : Reading) → reading ≡ x → Judges words before after v
-        go (refused j) i =
-            let z : n ≡ 0 = count-is (refused j) i in
-            record { replies = verdict-is ∙ rw (reads .replies, i); fills = fills ∙ rw (z, i) }
-        go (history h) i = record {
-          replies = verdict-is ∙ rw (reads .replies, i) (ap (λ b. cond b Explained Unexplained) (decided h i stays (test-is ∙ rw mark-is)));
-          fills = table-written h i ∙ sym (ap (λ x. written x before) i);
+        go (refused j) read-as =
+            let z : n ≡ 0 = count-is (refused j) read-as in
+            record { replies = verdict-is ∙ rw (reads .replies, read-as); fills = fills ∙ rw (z, read-as) }
+        go (history h) read-as = record {
+          replies = verdict-is ∙ rw (reads .replies, read-as) (ap (λ b. cond b Explained Unexplained) (decided h read-as stays (test-is ∙ rw (mark-is, tested-is))));
+          fills = table-written h read-as ∙ sym (ap (λ x. written x before) read-as);
         }

@@ -21,10 +21,14 @@ abbrev pub callsOf : Entered → ℕ
 callsOf (entered.Refused n) = 0
 callsOf (entered.Calls c) = c
 
--- The mark that the verdict's pass leaves, and whether it leaves one.
+-- The mark that the verdict's pass leaves, how many of c entries the last test looks at, and whether the pass goes through.
 abbrev pub markOf : Marked → ℕ
 markOf Fails = 0
 markOf (Mark mark) = mark
+
+abbrev pub testedOf : Marked → (c : ℕ) → ℕ
+testedOf Fails c = 0
+testedOf (Mark mark) c = c
 
 abbrev pub goesThrough : Marked → Bool
 goesThrough Fails = false

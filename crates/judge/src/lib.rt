@@ -15,7 +15,7 @@ ghost use Rattle.history.specs.Calls.{row};
 ghost use Rattle.history.specs.Form.{mostEvents, read};
 ghost use Rattle.reading.specs.Table.{callAt};
 ghost use Rattle.judge.specs.Answer.{reply, Judges};
-ghost use Rattle.judge.specs.Working.{callsOf, markOf, goesThrough, verdictOf, entryIn, filled, staysAt, allStay};
+ghost use Rattle.judge.specs.Working.{callsOf, markOf, testedOf, goesThrough, verdictOf, entryIn, filled, staysAt, allStay};
 
 // The judge's reply: a refusal's number, or whether the history is explained (specs/Answer.antt).
 pub enum Verdict {
@@ -50,6 +50,16 @@ fn mark_of(marked: Marked) -> u32
     match marked {
         Marked::Fails => 0,
         Marked::Mark(mark) => mark,
+    }
+}
+
+// How many entries the last test looks at: where the pass failed none, since nothing hangs on them.
+fn tested_of(marked: Marked, calls: usize) -> usize
+    ensures { λ r. ⌜ r ≡ testedOf marked calls ⌝ }
+{
+    match marked {
+        Marked::Fails => 0,
+        Marked::Mark(_) => calls,
     }
 }
 
@@ -160,10 +170,10 @@ pub fn judge(history: &[u32], table: &mut [Call]) -> Verdict
     let mut m = [0u32; MEMORY];
     let entered = read(history, table.len(), &mut m);
     let calls = calls_of(entered);
-    fill_calls(table, &m, calls);
     let mut flags = [0u32; 4_096];
     let marked = marks(&m, &mut flags, calls);
-    let stays = all_stay(table, &flags, calls, mark_of(marked));
+    fill_calls(table, &m, calls);
+    let stays = all_stay(table, &flags, tested_of(marked, calls), mark_of(marked));
     verdict_of(entered, marked, stays)
 }
 

@@ -1,5 +1,5 @@
 -- `judge::judge` meets its contract: a walk of its MIR, by hand. The memory is lent to `read`, comes back with the calls, and is shared
--- with `fill_calls` and `marks`; the flags are lent to `marks`, come back, and are shared with `all_stay`. The table is lent on to
+-- with `marks` and `fill_calls`; the flags are lent to `marks`, come back, and are shared with `all_stay`. The table is lent on to
 -- `fill_calls`, comes back filled, and is shared for good with `all_stay`. Each is lent for a lifetime that is made here.
 -- Assumes nothing.
 use mathlib.Core.Path.{_≡_, refl, sym, ap}
@@ -21,7 +21,7 @@ use ghost.Atoms.{Atoms}
 use contract.Monad.{Fun, factI}
 use contract.Running.{givenOf, tables, tablesOf}
 use types.Kit.{Given, ‵, _⊛_, ⋆, _$_, _∵_, !, qed, by, move, keep, drop, use1, split, split3, rewrite, fsplit}
-use types.Run.{look, init, forget, stop, hop, fld, from, load, lit, of-opd, addr, and-then, no-more, assigns, land, returns, enter, params1, pass1, pass0}
+use types.Run.{look, init, store, forget, stop, hop, fld, from, load, lit, of-opd, addr, and-then, no-more, assigns, land, returns, enter, params1, pass1, pass0}
 use types.Part.{whole, sub, agg, rep, look-in}
 use sound.WpLaws.{FmC, fmOf, WpFn-mono}
 use denote.Laws.{Is, shows}
@@ -40,8 +40,8 @@ use Rattle.reading.specs.Steps.{Read}
 use Rattle.marking.specs.Marks.{Marks}
 use Rattle.marking.proofs.Zeros.{no-calls}
 use Rattle.judge.specs.declared.Call.{Call}
-use Rattle.judge.specs.Working.{callsOf, markOf, verdictOf, filled, allStay}
-use Rattle.judge.proofs.Answering.{few, may-mark, concludes}
+use Rattle.judge.specs.Working.{callsOf, markOf, testedOf, verdictOf, filled, allStay}
+use Rattle.judge.proofs.Answering.{few, may-mark, tested-few, concludes}
 use Rattle.reading.proofs.Entered as entered
 use Rattle.reading.proofs.Entered.Laws as entered-laws
 use Rattle.marking.proofs.Marked as marked
@@ -63,6 +63,9 @@ use Rattle.judge.proofs.calls_of.Met as calls-thm
 use Rattle.judge.proofs.mark_of as mark
 use Rattle.judge.proofs.mark_of.Symbol as mark-def
 use Rattle.judge.proofs.mark_of.Met as mark-thm
+use Rattle.judge.proofs.tested_of as tested
+use Rattle.judge.proofs.tested_of.Symbol as tested-def
+use Rattle.judge.proofs.tested_of.Met as tested-thm
 use Rattle.judge.proofs.verdict_of as decide
 use Rattle.judge.proofs.verdict_of.Symbol as decide-def
 use Rattle.judge.proofs.verdict_of.Met as decide-thm
@@ -90,6 +93,7 @@ pub record Known {M : Type 1} (𝓤 : URA M) (H : Heap 𝓤) (A : Atoms 𝓤) (m
   pub counts : Triple 𝓤 (𝓣 .C calls-def.name) (By 𝓤 H A calls.ended (calls.clauses 𝓤 H A mem run))
   pub fills : Triple 𝓤 (𝓣 .C fill-def.name) (By 𝓤 H A fill.ended (fill.clauses 𝓤 H A mem run))
   pub marks : Triple 𝓤 (𝓣 .C marks-def.name) (By 𝓤 H A marks.ended (marks.clauses 𝓤 H A mem run))
+  pub chooses : Triple 𝓤 (𝓣 .C tested-def.name) (By 𝓤 H A tested.ended (tested.clauses 𝓤 H A mem run))
   pub takes-mark : Triple 𝓤 (𝓣 .C mark-def.name) (By 𝓤 H A mark.ended (mark.clauses 𝓤 H A mem run))
   pub tests : Triple 𝓤 (𝓣 .C test-def.name) (By 𝓤 H A test.ended (test.clauses 𝓤 H A mem run))
   pub decides : Triple 𝓤 (𝓣 .C decide-def.name) (By 𝓤 H A decide.ended (decide.clauses 𝓤 H A mem run))
@@ -139,58 +143,62 @@ module _ {M : Type 1} (𝓤 : URA M) (H : Heap 𝓤) (A : Atoms 𝓤) (W : Given
         heard ! (n ≡ callsOf e) (λ count. facts ! usize (Is usize) (shows 𝓤 H A usize) n (v₁ ∷ []) (λ is₁. drop ! $
         land ! (from ! (stop !)) (init ! 8 refl (uint-lawful 𝓤 H A W w64 .typed n _ is₁ .0)) $ rewrite ! 8 (λ (y : Val). ‵ (fat fullShare (tyInt w64) (l 5) 0 y)) (ap only (is₁ .0)) refl $
         -- [the memory; κ; the table; κ′; the locals without _3, …]
-        assigns ! (addr ! (from ! (fld ! refl (hop ! (look-in ! 6 (sub ! 0 refl (whole !))) (stop !))))) (from ! (stop !)) (init ! 15 refl (tt, tt)) $
-        assigns ! (agg ! (and-then ! (load ! (from ! (stop !)) (look ! 15 refl)) (and-then ! (load ! (from ! (fld ! refl (stop !))) (look-in ! 6 (sub ! 1 refl (whole !)))) (no-more !)))) (from ! (stop !)) (init ! 16 refl (tt, (tt, (record { fits = room .0 }, tt)))) $
-        assigns ! (addr ! (from ! (stop !))) (from ! (stop !)) (init ! 17 refl (tt, tt)) $
-        -- the memory is shared, for `fill_calls` and `marks`, and the table is lent on
-        shares-own ! tt Working (named 1) m (l 3) (λ β γ₂. move ! (1 ∷ []) $ use1 W (‵ (Shared β (l 3) γ₂ m) ⊛ ‵ (Shared β (l 3) γ₂ m)) (shr-copy 𝓤 H A W (named 1) (β ∷ []) Working .twice (at (l 3) γ₂ m) (vptr (l 3) 0 ∷ [])) $ split ! $
-        move ! (5 ∷ 6 ∷ []) $ lends-slice Entry (named 1) (named 0) κ′ q′ (ptr x .0) (ptr x .1) (name x) ! tt ys (λ δ γ₃.
-        owned ! usize (Is usize) (uint-makes 𝓤 H A W w64) n _ (refl, is₁ .1) $ move ! (1 ∷ 6 ∷ 2 ∷ 4 ∷ 0 ∷ []) $
-        calls-by 𝓤 H A fill.ended (fill.clauses 𝓤 H A mem run) (((δ ∷ [], (β ∷ [], tt)), (fullShare, (fullShare, tt)), tt, (slice (ptr x .0) (ptr x .1) γ₃ ys, (at (l 3) γ₂ m, (n, tt))), (s ∷ [], (vptr (l 3) 0 ∷ [], (vint w64 n ∷ [], tt)))), tt)
-        W fm (known .fills) (factI 𝓤 _ (emp 𝓤) (few hs ys m e n is-read count)) ! (and-then ! (load ! (from ! (stop !)) (look ! 17 refl)) (and-then ! (load ! (from ! (stop !)) (look ! 18 refl)) (and-then ! (load ! (from ! (stop !)) (look ! 9 refl)) (no-more !)))) (λ v₂ u₂ lasts₂.
-        let zs : List Call = lasts₂ .0 in heard ! (zs ≡ filled m n ys) (λ is-filled. facts ! Nothing (Is Nothing) (shows 𝓤 H A Nothing) u₂ (v₂ ∷ []) (λ is₂.
-        land ! (from ! (stop !)) (init ! 17 refl (nothing-lawful 𝓤 H A W .typed u₂ _ is₂ .0)) $ fsplit ! $ fsplit ! $
-        -- [the table's last entries; their length; true; δ; β; what is kept; the memory; the lender's part; κ; …]
-        move ! (3 ∷ 5 ∷ 0 ∷ []) $ slice-back Entry (named 1) (named 0) κ′ q′ (ptr x .0) (ptr x .1) (name x) ! tt ys zs (λ long. move ! (2 ∷ 3 ∷ []) $ drop ! $ drop ! $
-        -- [the table; κ′; β; the memory; the lender's part; κ; …]
         owned ! u32 (Is u32) (uint-makes 𝓤 H A W w32) 0 (vint w32 0 ∷ []) (refl, lit< tt) $ use1 W (‵ (Flags .own (zeros 4096) _)) (array-repeat 𝓤 H A W u32 (uint-copy 𝓤 H A W w32) 4096 0 (vint w32 0)) $
-        peeks ! Flags (Is Flags) (shows 𝓤 H A Flags) (zeros 4096) _ (λ is₃.
-        assigns ! (rep ! 4096 (lit ! tt)) (from ! (stop !)) (init ! 12 refl (array-lawful 𝓤 H A W u32 (uint-lawful 𝓤 H A W w32) 4096 .typed (zeros 4096) _ is₃ .0)) $
-        assigns ! (addr ! (from ! (stop !))) (from ! (stop !)) (init ! 21 refl (tt, tt)) $ assigns ! (addr ! (from ! (stop !))) (from ! (stop !)) (init ! 22 refl (tt, tt)) $
-        -- the flags are lent to `marks`
-        move ! (12 ∷ 0 ∷ []) $ lends-own ! tt Flags refl (named 1) (zeros 4096) (l 6) (λ ε γ₄. owned ! usize (Is usize) (uint-makes 𝓤 H A W w64) n _ (refl, is₁ .1) $ move ! (6 ∷ 1 ∷ 7 ∷ 2 ∷ 0 ∷ []) $
+        peeks ! Flags (Is Flags) (shows 𝓤 H A Flags) (zeros 4096) _ (λ is₂.
+        assigns ! (rep ! 4096 (lit ! tt)) (from ! (stop !)) (init ! 10 refl (array-lawful 𝓤 H A W u32 (uint-lawful 𝓤 H A W w32) 4096 .typed (zeros 4096) _ is₂ .0)) $
+        assigns ! (addr ! (from ! (stop !))) (from ! (stop !)) (init ! 15 refl (tt, tt)) $ assigns ! (addr ! (from ! (stop !))) (from ! (stop !)) (init ! 16 refl (tt, tt)) $
+        -- the flags are lent to `marks`, and the memory is shared with it and with `fill_calls`
+        move ! (10 ∷ 0 ∷ []) $ lends-own ! tt Flags refl (named 1) (zeros 4096) (l 6) (λ ε γ₄. move ! (3 ∷ []) $ shares-own ! tt Working (named 1) m (l 3) (λ β γ₂.
+        move ! (1 ∷ []) $ use1 W (‵ (Shared β (l 3) γ₂ m) ⊛ ‵ (Shared β (l 3) γ₂ m)) (shr-copy 𝓤 H A W (named 1) (β ∷ []) Working .twice (at (l 3) γ₂ m) (vptr (l 3) 0 ∷ [])) $ split ! $
+        owned ! usize (Is usize) (uint-makes 𝓤 H A W w64) n _ (refl, is₁ .1) $ move ! (3 ∷ 5 ∷ 1 ∷ 6 ∷ 0 ∷ []) $
         calls-by 𝓤 H A marks.ended (marks.clauses 𝓤 H A mem run) (((β ∷ [], (ε ∷ [], tt)), (fullShare, (fullShare, tt)), tt, (at (l 3) γ₂ m, (at (l 6) γ₄ (zeros 4096), (n, tt))), (vptr (l 3) 0 ∷ [], (vptr (l 6) 0 ∷ [], (vint w64 n ∷ [], tt)))), tt)
-        W fm (known .marks) (factI 𝓤 _ (emp 𝓤) (may-mark hs ys m e n is-read count (zeros 4096) refl)) ! (and-then ! (load ! (from ! (stop !)) (look ! 19 refl)) (and-then ! (load ! (from ! (stop !)) (look ! 20 refl)) (and-then ! (load ! (from ! (stop !)) (look ! 10 refl)) (no-more !)))) (λ v₃ r lasts₃.
-        let f : List ℕ = lasts₃ .1 .0 in heard ! (Marks m n f r) (λ is-marked.
-        peeks ! marked.the-row (Is marked.the-row) (shows 𝓤 H A marked.the-row) r (v₃ ∷ []) (λ is₄.
-        land ! (from ! (stop !)) (init ! 14 refl (EL.lawful marked.the-type marked-laws.the-laws 𝓤 H A W tt .typed r _ is₄ .0)) $ drop ! $ fsplit ! $ drop ! $ fsplit ! $
-        -- [the flags' last value; true; β; ε; the flags' lender's part; the table; κ′; the memory's lender's part; κ; …]
-        move ! (3 ∷ 4 ∷ 0 ∷ []) $ own-back ! tt Flags f (l 6) $ move ! (2 ∷ 5 ∷ []) $ own-room ! tt Working refl m (l 3) $ move ! (2 ∷ []) $ drop ! $
-        -- [room for _3; the flags; the table; κ′; κ; the locals without _3 and _6, …]
+        W fm (known .marks) (factI 𝓤 _ (emp 𝓤) (may-mark hs ys m e n is-read count (zeros 4096) refl)) ! (and-then ! (load ! (from ! (stop !)) (look ! 16 refl)) (and-then ! (load ! (from ! (stop !)) (look ! 17 refl)) (and-then ! (load ! (from ! (stop !)) (look ! 11 refl)) (no-more !)))) (λ v₂ r lasts₂.
+        let f : List ℕ = lasts₂ .1 .0 in heard ! (Marks m n f r) (λ is-marked.
+        peeks ! marked.the-row (Is marked.the-row) (shows 𝓤 H A marked.the-row) r (v₂ ∷ []) (λ is₃.
+        land ! (from ! (stop !)) (init ! 15 refl (EL.lawful marked.the-type marked-laws.the-laws 𝓤 H A W tt .typed r _ is₃ .0)) $ drop ! $ fsplit ! $ drop ! $ fsplit ! $
+        -- [the flags' last value; true; β; ε; the memory; the lenders' parts; κ; the table; κ′; the locals without _3 and _6, …]
+        move ! (3 ∷ 6 ∷ 0 ∷ []) $ own-back ! tt Flags f (l 6) $ move ! (1 ∷ []) $ drop ! $
+        assigns ! (addr ! (from ! (fld ! refl (hop ! (look-in ! 9 (sub ! 0 refl (whole !))) (stop !))))) (from ! (stop !)) (init ! 19 refl (tt, tt)) $
+        assigns ! (agg ! (and-then ! (load ! (from ! (stop !)) (look ! 19 refl)) (and-then ! (load ! (from ! (fld ! refl (stop !))) (look-in ! 9 (sub ! 1 refl (whole !)))) (no-more !)))) (from ! (stop !)) (init ! 20 refl (tt, (tt, (record { fits = room .0 }, tt)))) $
+        assigns ! (addr ! (from ! (stop !))) (from ! (stop !)) (init ! 21 refl (tt, tt)) $
+        -- the table is lent on to `fill_calls`
+        move ! (5 ∷ 6 ∷ []) $ lends-slice Entry (named 1) (named 0) κ′ q′ (ptr x .0) (ptr x .1) (name x) ! tt ys (λ δ γ₃.
+        owned ! usize (Is usize) (uint-makes 𝓤 H A W w64) n _ (refl, is₁ .1) $ move ! (1 ∷ 5 ∷ 2 ∷ 6 ∷ 0 ∷ []) $
+        calls-by 𝓤 H A fill.ended (fill.clauses 𝓤 H A mem run) (((δ ∷ [], (β ∷ [], tt)), (fullShare, (fullShare, tt)), tt, (slice (ptr x .0) (ptr x .1) γ₃ ys, (at (l 3) γ₂ m, (n, tt))), (s ∷ [], (vptr (l 3) 0 ∷ [], (vint w64 n ∷ [], tt)))), tt)
+        W fm (known .fills) (factI 𝓤 _ (emp 𝓤) (few hs ys m e n is-read count)) ! (and-then ! (load ! (from ! (stop !)) (look ! 18 refl)) (and-then ! (load ! (from ! (stop !)) (look ! 19 refl)) (and-then ! (load ! (from ! (stop !)) (look ! 9 refl)) (no-more !)))) (λ v₃ u₃ lasts₃.
+        let zs : List Call = lasts₃ .0 in heard ! (zs ≡ filled m n ys) (λ is-filled. facts ! Nothing (Is Nothing) (shows 𝓤 H A Nothing) u₃ (v₃ ∷ []) (λ is₄.
+        land ! (from ! (stop !)) (init ! 18 refl (nothing-lawful 𝓤 H A W .typed u₃ _ is₄ .0)) $ fsplit ! $ fsplit ! $
+        -- [the table's last entries; their length; true; δ; β; what is kept; the flags; the lender's part; κ; …]
+        move ! (3 ∷ 5 ∷ 0 ∷ []) $ slice-back Entry (named 1) (named 0) κ′ q′ (ptr x .0) (ptr x .1) (name x) ! tt ys zs (λ long. move ! (4 ∷ 6 ∷ []) $ own-room ! tt Working refl m (l 3) $ move ! (3 ∷ 4 ∷ []) $ drop ! $ drop ! $
+        -- [room for _3; the table; κ′; the flags; κ; the locals without _3 and _6, …]
         assigns ! (addr ! (from ! (fld ! refl (hop ! (look-in ! 7 (sub ! 0 refl (whole !))) (stop !))))) (from ! (stop !)) (init ! 20 refl (tt, tt)) $
         assigns ! (agg ! (and-then ! (load ! (from ! (stop !)) (look ! 20 refl)) (and-then ! (load ! (from ! (fld ! refl (stop !))) (look-in ! 7 (sub ! 1 refl (whole !)))) (no-more !)))) (from ! (stop !)) (init ! 21 refl (tt, (tt, (record { fits = room .0 }, tt)))) $
-        rewrite ! 21 (λ (i : ℕ). ‵ (fat fullShare (typeOf (code.function .locals) 18) (l 18) 0 (sliceVal (ptr x) i))) (sym long) refl $ assigns ! (addr ! (from ! (stop !))) (from ! (stop !)) (init ! 22 refl (tt, tt)) $
-        owned ! marked.the-row (Is marked.the-row) (EL.makes marked.the-type marked-laws.the-plain 𝓤 H A) r _ is₄ $
-        calls-by 𝓤 H A mark.ended (mark.clauses 𝓤 H A mem run) ((tt, tt, tt, (r, tt), (v₃ ∷ [], tt)), tt) W fm (known .takes-mark) (id⊢ 𝓤 (emp 𝓤)) ! (and-then ! (load ! (from ! (stop !)) (look ! 11 refl)) (no-more !)) (λ v₄ k lasts₄.
-        heard ! (k ≡ markOf r) (λ mark-is. facts ! u32 (Is u32) (shows 𝓤 H A u32) k (v₄ ∷ []) (λ is₅. drop ! $
-        land ! (from ! (stop !)) (init ! 23 refl (uint-lawful 𝓤 H A W w32 .typed k _ is₅ .0)) $ rewrite ! 23 (λ (y : Val). ‵ (fat fullShare (tyInt w32) (l 20) 0 y)) (ap only (is₅ .0)) refl $
+        rewrite ! 21 (λ (j : ℕ). ‵ (fat fullShare (typeOf (code.function .locals) 18) (l 18) 0 (sliceVal (ptr x) j))) (sym long) refl $ assigns ! (addr ! (from ! (stop !))) (from ! (stop !)) (init ! 22 refl (tt, tt)) $
+        owned ! usize (Is usize) (uint-makes 𝓤 H A W w64) n _ (refl, is₁ .1) $ owned ! marked.the-row (Is marked.the-row) (EL.makes marked.the-type marked-laws.the-plain 𝓤 H A) r _ is₃ $
+        calls-by 𝓤 H A tested.ended (tested.clauses 𝓤 H A mem run) ((tt, tt, tt, (r, (n, tt)), (v₂ ∷ [], (vint w64 n ∷ [], tt))), tt) W fm (known .chooses) (id⊢ 𝓤 (emp 𝓤)) ! (and-then ! (load ! (from ! (stop !)) (look ! 11 refl)) (and-then ! (load ! (from ! (stop !)) (look ! 10 refl)) (no-more !))) (λ v₄ i lasts₄.
+        heard ! (i ≡ testedOf r n) (λ tested-is. facts ! usize (Is usize) (shows 𝓤 H A usize) i (v₄ ∷ []) (λ is₅. drop ! $
+        land ! (from ! (stop !)) (store ! 12 refl (uint-lawful 𝓤 H A W w64 .typed i _ is₅ .0)) $ rewrite ! 12 (λ (y : Val). ‵ (fat fullShare (tyInt w64) (l 9) 0 y)) (ap only (is₅ .0)) refl $
+        owned ! marked.the-row (Is marked.the-row) (EL.makes marked.the-type marked-laws.the-plain 𝓤 H A) r _ is₃ $
+        calls-by 𝓤 H A mark.ended (mark.clauses 𝓤 H A mem run) ((tt, tt, tt, (r, tt), (v₂ ∷ [], tt)), tt) W fm (known .takes-mark) (id⊢ 𝓤 (emp 𝓤)) ! (and-then ! (load ! (from ! (stop !)) (look ! 11 refl)) (no-more !)) (λ v₅ k lasts₅.
+        heard ! (k ≡ markOf r) (λ mark-is. facts ! u32 (Is u32) (shows 𝓤 H A u32) k (v₅ ∷ []) (λ is₆. drop ! $
+        land ! (from ! (stop !)) (init ! 23 refl (uint-lawful 𝓤 H A W w32 .typed k _ is₆ .0)) $ rewrite ! 23 (λ (y : Val). ‵ (fat fullShare (tyInt w32) (l 20) 0 y)) (ap only (is₆ .0)) refl $
         -- the table and the flags are shared with `all_stay`
-        move ! (2 ∷ 3 ∷ []) $ shares-slice Entry (named 1) (named 0) κ′ q′ (ptr x .0) (ptr x .1) (name x) ! tt zs (λ γ₅. move ! (4 ∷ []) $ shares-own ! tt Flags (named 1) f (l 6) (λ ε γ₆.
-        owned ! u32 (Is u32) (uint-makes 𝓤 H A W w32) k _ (refl, is₅ .1) $ owned ! usize (Is usize) (uint-makes 𝓤 H A W w64) n _ (refl, is₁ .1) $ move ! (5 ∷ 2 ∷ 6 ∷ 3 ∷ 0 ∷ 1 ∷ []) $
-        calls-by 𝓤 H A test.ended (test.clauses 𝓤 H A mem run) (((κ′, (ε ∷ [], tt)), (q′, (fullShare, tt)), tt, (slice (ptr x .0) (ptr x .1) γ₅ zs, (at (l 6) γ₆ f, (n, (k, tt)))), (sliceVal (ptr x) (length zs) ∷ [], (vptr (l 6) 0 ∷ [], (vint w64 n ∷ [], (vint w32 k ∷ [], tt))))), tt)
-        W fm (known .tests) (factI 𝓤 ((n ≤ length zs) × (n ≤ 4096)) (emp 𝓤) (rw long (few hs ys m e n is-read count))) ! (and-then ! (load ! (from ! (stop !)) (look ! 21 refl)) (and-then ! (load ! (from ! (stop !)) (look ! 22 refl)) (and-then ! (load ! (from ! (stop !)) (look ! 9 refl)) (and-then ! (load ! (from ! (stop !)) (look ! 23 refl)) (no-more !))))) (λ v₅ t lasts₅.
-        heard ! (t ≡ allStay zs f k n) (λ test-is. facts ! Boolean (Is Boolean) (shows 𝓤 H A Boolean) t (v₅ ∷ []) (λ is₆. drop ! $
-        land ! (from ! (stop !)) (init ! 12 refl (bool-lawful 𝓤 H A W .typed t _ is₆ .0)) $ rewrite ! 12 (λ (y : Val). ‵ (fat fullShare tyBool (l 8) 0 y)) (ap only is₆) refl $ move ! (1 ∷ 2 ∷ []) $ own-room ! tt Flags refl f (l 6) $
+        move ! (1 ∷ 2 ∷ []) $ shares-slice Entry (named 1) (named 0) κ′ q′ (ptr x .0) (ptr x .1) (name x) ! tt zs (λ γ₅. move ! (4 ∷ []) $ shares-own ! tt Flags (named 1) f (l 6) (λ ε γ₆.
+        owned ! u32 (Is u32) (uint-makes 𝓤 H A W w32) k _ (refl, is₆ .1) $ owned ! usize (Is usize) (uint-makes 𝓤 H A W w64) i _ (refl, is₅ .1) $ move ! (5 ∷ 2 ∷ 6 ∷ 3 ∷ 0 ∷ 1 ∷ []) $
+        calls-by 𝓤 H A test.ended (test.clauses 𝓤 H A mem run) (((κ′, (ε ∷ [], tt)), (q′, (fullShare, tt)), tt, (slice (ptr x .0) (ptr x .1) γ₅ zs, (at (l 6) γ₆ f, (i, (k, tt)))), (sliceVal (ptr x) (length zs) ∷ [], (vptr (l 6) 0 ∷ [], (vint w64 i ∷ [], (vint w32 k ∷ [], tt))))), tt)
+        W fm (known .tests) (factI 𝓤 _ (emp 𝓤) (tested-few hs ys m e n is-read count f r is-marked zs is-filled i tested-is)) ! (and-then ! (load ! (from ! (stop !)) (look ! 21 refl)) (and-then ! (load ! (from ! (stop !)) (look ! 22 refl)) (and-then ! (load ! (from ! (stop !)) (look ! 12 refl)) (and-then ! (load ! (from ! (stop !)) (look ! 23 refl)) (no-more !))))) (λ v₆ t lasts₆.
+        heard ! (t ≡ allStay zs f k i) (λ test-is. facts ! Boolean (Is Boolean) (shows 𝓤 H A Boolean) t (v₆ ∷ []) (λ is₇. drop ! $
+        land ! (from ! (stop !)) (init ! 12 refl (bool-lawful 𝓤 H A W .typed t _ is₇ .0)) $ rewrite ! 12 (λ (y : Val). ‵ (fat fullShare tyBool (l 8) 0 y)) (ap only is₇) refl $ move ! (1 ∷ 2 ∷ []) $ own-room ! tt Flags refl f (l 6) $
         -- [room for _6; κ′; the table's last entries; room for _3; κ; …]
-        owned ! Boolean (Is Boolean) (bool-makes 𝓤 H A W) t _ refl $ owned ! marked.the-row (Is marked.the-row) (EL.makes marked.the-type marked-laws.the-plain 𝓤 H A) r _ is₄ $ owned ! entered.the-row (Is entered.the-row) (EL.makes entered.the-type entered-laws.the-plain 𝓤 H A) e _ is $
-        calls-by 𝓤 H A decide.ended (decide.clauses 𝓤 H A mem run) ((tt, tt, tt, (e, (r, (t, tt))), (u ∷ [], (v₃ ∷ [], (vbool t ∷ [], tt)))), tt) W fm (known .decides) (id⊢ 𝓤 (emp 𝓤)) ! (and-then ! (load ! (from ! (stop !)) (look ! 9 refl)) (and-then ! (load ! (from ! (stop !)) (look ! 11 refl)) (and-then ! (load ! (from ! (stop !)) (look ! 12 refl)) (no-more !)))) (λ v₆ y lasts₆.
-        heard ! (y ≡ verdictOf e r t) (λ verdict-is. peeks ! verdict.the-row (Is verdict.the-row) (shows 𝓤 H A verdict.the-row) y (v₆ ∷ []) (λ is₇. move ! (1 ∷ []) $ drop ! $
-        land ! (from ! (stop !)) (init ! 6 refl (EL.lawful verdict.the-type verdict-laws.the-laws 𝓤 H A W tt .typed y _ is₇ .0)) $
+        owned ! Boolean (Is Boolean) (bool-makes 𝓤 H A W) t _ refl $ owned ! marked.the-row (Is marked.the-row) (EL.makes marked.the-type marked-laws.the-plain 𝓤 H A) r _ is₃ $ owned ! entered.the-row (Is entered.the-row) (EL.makes entered.the-type entered-laws.the-plain 𝓤 H A) e _ is $
+        calls-by 𝓤 H A decide.ended (decide.clauses 𝓤 H A mem run) ((tt, tt, tt, (e, (r, (t, tt))), (u ∷ [], (v₂ ∷ [], (vbool t ∷ [], tt)))), tt) W fm (known .decides) (id⊢ 𝓤 (emp 𝓤)) ! (and-then ! (load ! (from ! (stop !)) (look ! 9 refl)) (and-then ! (load ! (from ! (stop !)) (look ! 11 refl)) (and-then ! (load ! (from ! (stop !)) (look ! 12 refl)) (no-more !)))) (λ v₇ y lasts₇.
+        heard ! (y ≡ verdictOf e r t) (λ verdict-is. peeks ! verdict.the-row (Is verdict.the-row) (shows 𝓤 H A verdict.the-row) y (v₇ ∷ []) (λ is₈. move ! (1 ∷ []) $ drop ! $
+        land ! (from ! (stop !)) (init ! 6 refl (EL.lawful verdict.the-type verdict-laws.the-laws 𝓤 H A W tt .typed y _ is₈ .0)) $
         -- [the verdict; room for _6; κ′; the table's last entries; room for _3; κ; _0 to _2; _4; _5; _7 to _20; …]
         returns ! (look ! 6 refl) $ forget ! 6 refl $ forget ! 7 refl $ forget ! 8 refl $ forget ! 9 refl $ forget ! 10 refl $ forget ! 11 refl $ forget ! 12 refl $ forget ! 13 refl $ forget ! 14 refl $ forget ! 15 refl $
         forget ! 16 refl $ forget ! 17 refl $ forget ! 18 refl $ forget ! 19 refl $ forget ! 20 refl $ forget ! 21 refl $ forget ! 22 refl $ forget ! 23 refl $ forget ! 24 refl $
         move ! (6 ∷ 7 ∷ 8 ∷ 4 ∷ 9 ∷ 10 ∷ 1 ∷ span 11 35) $ frees-all ! (code.function .locals) l $ keep ! (0 ∷ 2 ∷ 3 ∷ 1 ∷ []) $
-        by ! (exits 𝓤 H A W verdict.the-row (judge.clauses 𝓤 H A mem run) κ κ′ q q′ h x tt y v₆ zs long (factI 𝓤 _ _ (concludes hs ys m e n is-read count f r is-marked zs is-filled k t y mark-is test-is verdict-is))))))))))))))))))))))))))))))))))
+        by ! (exits 𝓤 H A W verdict.the-row (judge.clauses 𝓤 H A mem run) κ κ′ q q′ h x tt y v₇ zs long (factI 𝓤 _ _ (concludes hs ys m e n is-read count f r is-marked zs is-filled i k t y tested-is mark-is test-is verdict-is)))))))))))))))))))))))))))))))))))))
 
   judge-meets : Meets 𝓤 H A judge.signature (WpFn 𝓤 H (𝓣 .C) (𝓣 .Λ) code.function) (judge.spec 𝓤 H A mem run)
   judge-meets = meets 𝓤 H A W verdict.the-row (judge.clauses 𝓤 H A mem run) (WpFn 𝓤 H (𝓣 .C) (𝓣 .Λ) code.function) (WpFn-mono 𝓤 H (W .laws) 𝓣 code.function) (λ κ κ′ q q′ h x g. walk κ κ′ q q′ h x)
@@ -205,6 +213,7 @@ judge-spec 𝓤 H 𝓜 𝓖 𝓡 =
       counts = cited 𝓤 H (By 𝓤 H A calls.ended (calls.clauses 𝓤 H A mem run)) 𝓜 𝓡 code.env calls-def.name calls-def.routine code.calls-judge·calls-of (calls-thm.met 𝓤 H 𝓜 𝓖 𝓡);
       fills = cited 𝓤 H (By 𝓤 H A fill.ended (fill.clauses 𝓤 H A mem run)) 𝓜 𝓡 code.env fill-def.name fill-def.routine code.calls-judge·fill-calls (fill-thm.met 𝓤 H 𝓜 𝓖 𝓡);
       marks = cited 𝓤 H (By 𝓤 H A marks.ended (marks.clauses 𝓤 H A mem run)) 𝓜 𝓡 code.env marks-def.name marks-def.routine code.calls-marking·marks (marks-thm.met 𝓤 H 𝓜 𝓖 𝓡);
+      chooses = cited 𝓤 H (By 𝓤 H A tested.ended (tested.clauses 𝓤 H A mem run)) 𝓜 𝓡 code.env tested-def.name tested-def.routine code.calls-judge·tested-of (tested-thm.met 𝓤 H 𝓜 𝓖 𝓡);
       takes-mark = cited 𝓤 H (By 𝓤 H A mark.ended (mark.clauses 𝓤 H A mem run)) 𝓜 𝓡 code.env mark-def.name mark-def.routine code.calls-judge·mark-of (mark-thm.met 𝓤 H 𝓜 𝓖 𝓡);
       tests = cited 𝓤 H (By 𝓤 H A test.ended (test.clauses 𝓤 H A mem run)) 𝓜 𝓡 code.env test-def.name test-def.routine code.calls-judge·all-stay (test-thm.met 𝓤 H 𝓜 𝓖 𝓡);
       decides = cited 𝓤 H (By 𝓤 H A decide.ended (decide.clauses 𝓤 H A mem run)) 𝓜 𝓡 code.env decide-def.name decide-def.routine code.calls-judge·verdict-of (decide-thm.met 𝓤 H 𝓜 𝓖 𝓡);
