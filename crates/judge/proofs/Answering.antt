@@ -12,12 +12,12 @@ use borrow.Author.Tests.{ltb-false}
 use Rattle.history.specs.Event.{History}
 use Rattle.history.specs.Calls.{calls, row, rows}
 use Rattle.history.specs.Form.{Reading, refused, history, read}
-use Rattle.criterion.specs.Pass.{leaves, explains}
+use Rattle.criterion.specs.Pass.{explains}
 use Rattle.reading.specs.declared.Entered.{Entered}
 use Rattle.reading.specs.Build.{build}
 use Rattle.reading.specs.Table.{callAt, callsIn}
-use Rattle.reading.specs.Steps.{entered, Holds, Read}
-use Rattle.reading.proofs.Builds.{map-build, length-build}
+use Rattle.reading.specs.Steps.{entered, Read}
+use Rattle.reading.proofs.Builds.{map-build}
 use Rattle.reading.proofs.Logic.{neither}
 use Rattle.marking.specs.declared.Marked.{Marked}
 use Rattle.marking.specs.declared.Marked.the-variants.{Fails, Mark}
@@ -28,7 +28,7 @@ use Rattle.marking.proofs.Zeros.{no-flags}
 use Rattle.judge.specs.declared.Call.{Call}
 use Rattle.judge.specs.declared.Verdict.{Verdict}
 use Rattle.judge.specs.declared.Verdict.the-variants.{Explained, Unexplained}
-use Rattle.judge.specs.Answer.{reply, entry, written, Judges}
+use Rattle.judge.specs.Answer.{entry, written, Judges}
 use Rattle.judge.specs.Working.{callsOf, markOf, testedOf, goesThrough, verdictOf, entryIn, filled, allStay}
 use Rattle.judge.proofs.Filling.{length-filled}
 use Rattle.judge.proofs.Staying.{all-stay-as}

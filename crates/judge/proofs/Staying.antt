@@ -5,7 +5,7 @@ use mathlib.Core.List.{List, [], _∷_, _++_}
 use Prim.Native.Nat.{ℕ, zero, suc, _≤_, _<_}
 use native.Mathlib.Omega.{arith}
 use lib.Dec.{eqb, leb}
-use lib.ListN.{length, getD, drop, List·getD-append}
+use lib.ListN.{getD, drop, List·getD-append}
 use Rattle.history.specs.Calls as history
 use Rattle.history.specs.Calls.{enq, deq, row}
 use Rattle.criterion.specs.Pass.{has, past, leaves}

@@ -15,7 +15,7 @@ use base.Fml.{flft, froom, fdies}
 use prog.Wp.{Heap, Env, Calls, Loops, Out, Wp, Tables, afterTurn}
 use ghost.Atoms.{Atoms, sem}
 use contract.Lifetimes.{Lfts, Shares, toks}
-use types.Kit.{Given, Item, Goal, Post, Seq, Step, step, ‵, raw, some, later, _⊛_, _$_, use1, split, move, pick, await, mean, ⋆, push, pop, ++⊢, ⊢++, cut, runs, lands, allocs, frees}
+use types.Kit.{Given, Item, Goal, Post, Seq, Step, step, ‵, raw, some, later, _⊛_, _$_, use1, split, move, pick, await, mean, ⋆, push, pop, ++⊢, ⊢++, runs, lands, allocs, frees}
 use types.Run.{Opd, Opds, alloc1, alloc0, free1, free0}
 use sound.Loop.{loop-rule}
 use sound.WpLaws.{FmC}

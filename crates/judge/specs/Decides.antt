@@ -15,7 +15,6 @@ use Rattle.history.specs.Form.{follows, wellFormed, mostEvents, Reading, refuse
 use Rattle.history.specs.Linearization.{Linearizable}
 use Rattle.criterion.specs.Pass.{explains}
 use Rattle.criterion.specs.Criterion.{verdict}
-use Rattle.judge.specs.declared.Verdict.{Verdict}
 use Rattle.judge.specs.declared.Verdict.the-variants.{Refused, Explained, Unexplained}
 use Rattle.judge.specs.Answer.{reply}
 

@@ -15,7 +15,7 @@ use Rattle.history.specs.Form.{Reading, refused, history, follows, readEvent, r
 use Rattle.reading.specs.declared.Entered.{Entered}
 use Rattle.reading.specs.declared.Entered.the-variants.{Refused, Calls}
 use Rattle.reading.specs.Table.{Table, callAt, callsIn}
-use Rattle.reading.specs.Steps.{Enters, startedBy, Stepped, entered, Holds, Read}
+use Rattle.reading.specs.Steps.{startedBy, Stepped, entered, Holds, Read}
 use Rattle.reading.proofs.Builds.{length-build}
 
 pub record Progress (ws m : List ℕ) (c k : ℕ) : Type 0 where

@@ -21,7 +21,7 @@ use prog.Wp.{Heap, Out, Env, afterSeq, afterBlock, afterTurn, Wp, atReturn, WpFn
 use ghost.Atoms.{Atoms}
 use contract.Monad.{Fun, factI}
 use contract.Running.{givenOf, tables, tablesOf}
-use types.Kit.{Given, Item, ‵, _⊛_, ⋆, anyQ, atRet, _$_, _∵_, !, qed, by, move, drop, use1, split, split3, join, rewrite, fsplit, fjoin, feqI, suffices, frame, done}
+use types.Kit.{Given, Item, ‵, _⊛_, ⋆, anyQ, atRet, _$_, _∵_, !, qed, by, move, drop, use1, split, split3, join, rewrite, fsplit, fjoin, suffices, frame, done}
 use types.Run.{look, look-raw, init, store, forget, stop, hop, fld, from, load, lit, true-lit, of-opd, bin, and-then, no-more, assigns, assigns-last, land, stays, leaves-loop, returns, enter, params1, pass1, pass0, exec}
 use types.Part.{whole, sub, look-in}
 use sound.WpLaws.{fmOf, WpFn-mono}
@@ -29,7 +29,7 @@ use denote.RattleType.{owns}
 use denote.Laws.{Is, shows}
 use denote.Plain.{Boolean, uint-makes, uint-vals, uint-tells, bool-makes, bool-lawful}
 use denote.Builtin.{u32, usize}
-use denote.Ref.{RefT, ShrRef, ptr-vals, shr-tells, shr-copy}
+use denote.Ref.{ShrRef, ptr-vals, shr-tells, shr-copy}
 use denote.Slice.{sliceVal, ShrSlice, Room, slice-vals, shr-slice-tells, shr-slice-copy}
 use denote.Index.{place-is, elem-out, elem-back, looks-slice, shuts-slice}
 use denote.Signature.{plain}
@@ -43,6 +43,7 @@ use denote.Triple.Walked.{says, needs, Stays, stay-none-slice, stay-none-ref, st
 use denote.Exit.{yes}
 use Rattle.judge.specs.declared.Call.{Call}
 use Rattle.judge.specs.Working.{noCall, staysAt, allStay}
+use Rattle.judge.proofs.Lending.{slice}
 use Rattle.judge.proofs.Walking.{Entry, Flags, holds, fails, offset-fits, next-fits, typeOf, span, envOf, deaths, allocates, frees-all, By, calls-by, counts}
 use Rattle.judge.proofs.Call as call
 use Rattle.judge.proofs.Call.Laws as call-laws
@@ -64,40 +65,28 @@ module _ {M : Type 1} (𝓤 : URA M) (H : Heap 𝓤) (A : Atoms 𝓤) (mem : Mem
   One = By 𝓤 H A one.ended (one.clauses 𝓤 H A mem run)
 
 module _ {M : Type 1} (𝓤 : URA M) (H : Heap 𝓤) (A : Atoms 𝓤) (W : Given 𝓤 H A) (mem : Memory → SProp 𝓤) (run : Routine → Fun 𝓤) (κ κ′ : Lft) (q q′ : Share) (b o : ℕ) (γ : GName) (ys : List Call) (b′ o′ : ℕ) (γ′ : GName) (fs : List ℕ) (n : ℕ) (n-fits : n < 2 ^ 64) (mark : ℕ) (mark-fits : mark < 2 ^ 32) where
-  -- the table and the flags
-  abbrev x : RefT (List Call)
-  x = record { ptr = (b, o); name = γ; now = ys }
-
-  abbrev w : RefT (List ℕ)
-  w = record { ptr = (b′, o′); name = γ′; now = fs }
-
+  -- the values of the table and of the flags
   abbrev s : Val
   s = sliceVal (b, o) (length ys)
 
   abbrev s′ : Val
   s′ = vptr b′ o′
 
-  abbrev Arg : Type 0
-  Arg = RefT (List Call) × (RefT (List ℕ) × (ℕ × (ℕ × Unit {0})))
-
-  abbrev a : Arg
-  a = (x, (w, (n, (mark, tt))))
-
-  abbrev vals : List Val × (List Val × (List Val × (List Val × Unit {0})))
-  vals = (s ∷ [], (s′ ∷ [], (vint w64 n ∷ [], (vint w32 mark ∷ [], tt))))
-
   abbrev Table : Fml
-  Table = ShrSlice (named 0) κ Entry .own x (s ∷ [])
+  Table = ShrSlice (named 0) κ Entry .own (slice b o γ ys) (s ∷ [])
 
   abbrev Own : Fml
-  Own = ShrRef (named 1) κ′ Flags .own w (s′ ∷ [])
+  Own = ShrRef (named 1) κ′ Flags .own (slice b′ o′ γ′ fs) (s′ ∷ [])
 
   -- what the first j entries give
   abbrev so-far : ℕ → Bool
   so-far j = allStay ys fs mark j
 
+  abbrev passed : walkOf 𝓤 H A all.ended stayed (all.clauses 𝓤 H A mem run) .Ghost
+  passed = (((κ, (κ′, tt)), (q, (q′, tt)), tt, (slice b o γ ys, (slice b′ o′ γ′ fs, (n, (mark, tt)))), (s ∷ [], (s′ ∷ [], (vint w64 n ∷ [], (vint w32 mark ∷ [], tt))))), tt)
+
   abbrev Post : Val → SProp 𝓤
-  Post = walkOf 𝓤 H A all.ended stayed (all.clauses 𝓤 H A mem run) .post (((κ, (κ′, tt)), (q, (q′, tt)), tt, a, vals), tt)
+  Post = walkOf 𝓤 H A all.ended stayed (all.clauses 𝓤 H A mem run) .post passed
 
   -- what is had of the table and of the flags
   abbrev Had : List (Item 𝓤)
@@ -106,7 +95,7 @@ module _ {M : Type 1} (𝓤 : URA M) (H : Heap 𝓤) (A : Atoms 𝓤) (W : Given
   exits : ent 𝓤 (⋆ 𝓤 H A Had) (Post (vbool (so-far n)))
   exits =
       qed W Had ∵
-      suffices ! _ (ends-at 𝓤 H A all.ended stayed (all.clauses 𝓤 H A mem run) W (((κ, (κ′, tt)), (q, (q′, tt)), tt, a, vals), tt) (vbool (so-far n)) (so-far n) (tt, (tt, (tt, (tt, tt)))) (tt, (tt, (tt, (tt, tt))))) $ says ! refl $
+      suffices ! _ (ends-at 𝓤 H A all.ended stayed (all.clauses 𝓤 H A mem run) W passed (vbool (so-far n)) (so-far n) (tt, (tt, (tt, (tt, tt)))) (tt, (tt, (tt, (tt, tt))))) $ says ! refl $
       nothing ! $ move ! (3 ∷ 0 ∷ []) $ join ! $ move ! (1 ∷ 0 ∷ []) $ join ! $ frame ! $
       -- [what the table owns; what the flags own]
       nothing ! $ owned ! u32 (Is u32) (uint-makes 𝓤 H A W w32) mark _ (refl, mark-fits) $ fjoin ! $ owned ! usize (Is usize) (uint-makes 𝓤 H A W w64) n _ (refl, n-fits) $ fjoin ! $
@@ -120,7 +109,7 @@ module _ {M : Type 1} (𝓤 : URA M) (H : Heap 𝓤) (A : Atoms 𝓤) (W : Given
   v j = LL.val call.the-type call-laws.the-laws (e j)
 
   abbrev to : ℕ → One 𝓤 H A mem run .Ghost
-  to j = (((κ′, tt), (q′, tt), tt, (e j, (w, (j, (mark, tt)))), (v j ∷ [], (s′ ∷ [], (vint w64 j ∷ [], (vint w32 mark ∷ [], tt))))), tt)
+  to j = (((κ′, tt), (q′, tt), tt, (e j, (slice b′ o′ γ′ fs, (j, (mark, tt)))), (v j ∷ [], (s′ ∷ [], (vint w64 j ∷ [], (vint w32 mark ∷ [], tt))))), tt)
 
   module _ (𝓣 : Tables 𝓤 H) (known : Triple 𝓤 (𝓣 .C one-def.name) (One 𝓤 H A mem run)) (room : Room Entry (length ys)) (few : n ≤ length ys) (enough : n ≤ 4096) (l : ℕ → ℕ) where
     -- the type of a local
@@ -152,14 +141,14 @@ module _ {M : Type 1} (𝓤 : URA M) (H : Heap 𝓤) (A : Atoms 𝓤) (W : Given
         assigns ! (bin ! (load ! (from ! (fld ! refl (stop !))) (look-in ! 5 (sub ! 0 refl (whole !)))) (load ! (from ! (stop !)) (look ! 12 refl)) tt) (from ! (stop !)) (init ! 13 refl (tt, tt)) $
         rewrite ! 13 (λ (p : ℕ). ‵ (fat fullShare tyPtr (l 9) 0 (vptr b p))) (sym (place-is 16 o j)) refl $
         -- a copy of what the table owns is looked into
-        move ! (1 ∷ []) $ use1 W (‵ Table ⊛ ‵ Table) (shr-slice-copy 𝓤 H A W (named 0) κ Entry .twice x (s ∷ [])) $ split ! $ fsplit ! $ drop ! $ fsplit ! $ drop ! $ move ! (0 ∷ 2 ∷ []) $
+        move ! (1 ∷ []) $ use1 W (‵ Table ⊛ ‵ Table) (shr-slice-copy 𝓤 H A W (named 0) κ Entry .twice (slice b o γ ys) (s ∷ [])) $ split ! $ fsplit ! $ drop ! $ fsplit ! $ drop ! $ move ! (0 ∷ 2 ∷ []) $
         looks-slice ! tt Entry (Is Entry) (shows 𝓤 H A Entry) (LL.vals call.the-type call-laws.the-laws) (LL.tells call.the-type call-laws.the-laws) (LL.copy call.the-type call-laws.the-copy 𝓤 H A W) ys b o (λ q″.
         elem-out ! Entry (Is Entry) (shows 𝓤 H A Entry) (LL.vals call.the-type call-laws.the-laws) (LL.tells call.the-type call-laws.the-laws) q″ ys j noCall b o (omega arith) (λ is.
         -- [table[j]; what it owns; the others; the open borrow; the borrow; the table; the flags' token; what the flags own; the locals, …]
         assigns ! (of-opd ! (load ! (from ! (hop ! (look ! 17 refl) (stop !))) (look-raw ! 0 refl))) (from ! (stop !)) (init ! 18 refl (LL.lawful call.the-type call-laws.the-laws 𝓤 H A W .typed (e j) _ is .0)) $
         elem-back ! Entry q″ ys j noCall (v j ∷ []) b o (omega arith) $ shuts-slice ! tt Entry q″ ys b o $ move ! (1 ∷ []) $ drop ! $
         -- the call, with a copy of what the flags own
-        move ! (3 ∷ []) $ use1 W (‵ Own ⊛ ‵ Own) (shr-copy 𝓤 H A W (named 1) κ′ Flags .twice w (s′ ∷ [])) $ split ! $
+        move ! (3 ∷ []) $ use1 W (‵ Own ⊛ ‵ Own) (shr-copy 𝓤 H A W (named 1) κ′ Flags .twice (slice b′ o′ γ′ fs) (s′ ∷ [])) $ split ! $
         owned ! u32 (Is u32) (uint-makes 𝓤 H A W w32) mark _ (refl, mark-fits) $ owned ! usize (Is usize) (uint-makes 𝓤 H A W w64) j _ (refl, omega arith) $ owned ! Entry (Is Entry) (LL.makes call.the-type call-laws.the-plain 𝓤 H A) (e j) _ is $
         move ! (7 ∷ 0 ∷ 3 ∷ 1 ∷ 2 ∷ []) $
         calls-by 𝓤 H A one.ended (one.clauses 𝓤 H A mem run) (to j) W (fmOf 𝓤 H (W .laws) 𝓣) known (factI 𝓤 (j < 4096) (emp 𝓤) (omega arith)) ! (and-then ! (load ! (from ! (stop !)) (look ! 14 refl)) (and-then ! (load ! (from ! (stop !)) (look ! 6 refl)) (and-then ! (load ! (from ! (stop !)) (look ! 10 refl)) (and-then ! (load ! (from ! (stop !)) (look ! 8 refl)) (no-more !))))) (λ u r lasts.
@@ -185,9 +174,9 @@ module _ {M : Type 1} (𝓤 : URA M) (H : Heap 𝓤) (A : Atoms 𝓤) (W : Given
         move ! (span 4 22) $ frees-all ! (code.function .locals) l $ by ! exits
 
   walk : (𝓣 : Tables 𝓤 H) → Triple 𝓤 (𝓣 .C one-def.name) (One 𝓤 H A mem run) → Room Entry (length ys) → (n ≤ length ys) × (n ≤ 4096)
-      → ent 𝓤 (onEntry 𝓤 H A all.signature (κ, (κ′, tt)) (q, (q′, tt)) a vals) (WpFn 𝓤 H (𝓣 .C) (𝓣 .Λ) code.function (s ∷ s′ ∷ vint w64 n ∷ vint w32 mark ∷ []) Post)
+      → ent 𝓤 (onEntry 𝓤 H A all.signature (κ, (κ′, tt)) (q, (q′, tt)) (passed .0 .3) (passed .0 .4)) (WpFn 𝓤 H (𝓣 .C) (𝓣 .Λ) code.function (s ∷ s′ ∷ vint w64 n ∷ vint w32 mark ∷ []) Post)
   walk 𝓣 known room enough =
-      qed W ((‵ (flft κ q) ⊛ ‵ (flft κ′ q′) ⊛ ‵ ftrue) ∷ ‵ (owns (ShrSlice (named 0) κ Entry ∷ ShrRef (named 1) κ′ Flags ∷ usize ∷ u32 ∷ []) a vals) ∷ []) ∵ enter ! (𝓣 .C) (𝓣 .Λ) code.function (s ∷ s′ ∷ vint w64 n ∷ vint w32 mark ∷ []) _ $
+      qed W ((‵ (flft κ q) ⊛ ‵ (flft κ′ q′) ⊛ ‵ ftrue) ∷ ‵ (owns (ShrSlice (named 0) κ Entry ∷ ShrRef (named 1) κ′ Flags ∷ usize ∷ u32 ∷ []) (passed .0 .3) (passed .0 .4)) ∷ []) ∵ enter ! (𝓣 .C) (𝓣 .Λ) code.function (s ∷ s′ ∷ vint w64 n ∷ vint w32 mark ∷ []) _ $
       allocates ! (code.function .locals) (λ l. params1 ! $
       pass1 ! (init ! 1 refl (tt, (tt, (record { fits = room .0 }, tt)))) $ pass1 ! (init ! 2 refl (tt, tt)) $ pass1 ! (init ! 3 refl (tt, record { fits = n-fits })) $ pass1 ! (init ! 4 refl (tt, record { fits = mark-fits })) $ pass0 ! $
       assigns ! (of-opd ! (true-lit !)) (from ! (stop !)) (init ! 5 refl (tt, tt)) $ assigns ! (of-opd ! (lit ! tt)) (from ! (stop !)) (init ! 6 refl (tt, record { fits = lit< tt })) $

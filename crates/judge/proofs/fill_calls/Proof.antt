@@ -17,20 +17,20 @@ use base.Logic.{SProp, ent, emp}
 use base.Fml.{Lft, Share, GName, Fml, ftrue, fat, froom, flft, fobs, fbor}
 use prog.Memory.{Memory}
 use prog.Routine.{Routine}
-use prog.Wp.{Heap, Calls, Loops, Out, Env, afterSeq, afterBlock, afterTurn, Wp, atReturn, WpFn, Tables}
+use prog.Wp.{Heap, Out, Env, afterSeq, afterBlock, afterTurn, Wp, atReturn, WpFn, Tables}
 use ghost.Atoms.{Atoms}
 use contract.Monad.{Fun, factI}
 use contract.Running.{givenOf, tables, tablesOf}
 use types.Kit.{Given, Item, ‵, _⊛_, ⋆, anyQ, atRet, _$_, _∵_, !, qed, by, move, drop, use1, split, split3, join, rewrite, fsplit, fjoin, feqI, suffices, frame, done}
 use types.Run.{look, init, store, store-raw, forget, stop, hop, fld, from, load, lit, unit-lit, of-opd, bin, and-then, no-more, assigns, assigns-last, land, stays, leaves-loop, returns, enter, params1, pass1, pass0, exec}
 use types.Part.{whole, sub, look-in}
-use sound.WpLaws.{FmC, fmOf, WpFn-mono}
+use sound.WpLaws.{fmOf, WpFn-mono}
 use denote.RattleType.{owns}
 use denote.Shadow.{pureI}
 use denote.Laws.{Is, shows}
 use denote.Plain.{uint-makes, uint-vals, uint-tells}
 use denote.Builtin.{usize}
-use denote.Ref.{RefT, ShrRef, ptr-vals, shr-tells, shr-copy}
+use denote.Ref.{ShrRef, ptr-vals, shr-tells, shr-copy}
 use denote.Slice.{sliceVal, MutSlice, Room, heres, codedHoleys, at-slice, slice-vals, mut-slice-tells}
 use denote.Lend.{Held}
 use denote.Index.{place-is, elem-out, elem-put, opens-slice, closes-slice}
@@ -46,6 +46,7 @@ use denote.Exit.{yes}
 use Rattle.judge.specs.declared.Call.{Call}
 use Rattle.judge.specs.Working.{noCall, entryIn, filled}
 use Rattle.judge.proofs.Filling.{length-filled, one-more}
+use Rattle.judge.proofs.Lending.{slice}
 use Rattle.judge.proofs.Walking.{Entry, Working, holds, fails, offset-fits, next-fits, typeOf, span, envOf, deaths, allocates, frees-all, By, calls-by, counts}
 use Rattle.judge.proofs.Call as call
 use Rattle.judge.proofs.Call.Laws as call-laws
@@ -67,37 +68,25 @@ module _ {M : Type 1} (𝓤 : URA M) (H : Heap 𝓤) (A : Atoms 𝓤) (mem : Mem
   EntryOf = By 𝓤 H A entry.ended (entry.clauses 𝓤 H A mem run)
 
 module _ {M : Type 1} (𝓤 : URA M) (H : Heap 𝓤) (A : Atoms 𝓤) (W : Given 𝓤 H A) (mem : Memory → SProp 𝓤) (run : Routine → Fun 𝓤) (κ κ′ : Lft) (q q′ : Share) (b o : ℕ) (γ : GName) (ys : List Call) (b′ o′ : ℕ) (γ′ : GName) (ws : List ℕ) (n : ℕ) (n-fits : n < 2 ^ 64) where
-  -- the table at the list l, and the memory
-  abbrev x : List Call → RefT (List Call)
-  x l = record { ptr = (b, o); name = γ; now = l }
-
-  abbrev w : RefT (List ℕ)
-  w = record { ptr = (b′, o′); name = γ′; now = ws }
-
+  -- the values of the table and of the memory
   abbrev s : Val
   s = sliceVal (b, o) (length ys)
 
   abbrev s′ : Val
   s′ = vptr b′ o′
 
-  abbrev Arg : Type 0
-  Arg = RefT (List Call) × (RefT (List ℕ) × (ℕ × Unit {0}))
-
-  abbrev a : Arg
-  a = (x ys, (w, (n, tt)))
-
-  abbrev vals : List Val × (List Val × (List Val × Unit {0}))
-  vals = (s ∷ [], (s′ ∷ [], (vint w64 n ∷ [], tt)))
-
   abbrev Own : Fml
-  Own = ShrRef (named 1) κ′ Working .own w (s′ ∷ [])
+  Own = ShrRef (named 1) κ′ Working .own (slice b′ o′ γ′ ws) (s′ ∷ [])
 
   -- the table with j entries filled
   abbrev L : ℕ → List Call
   L j = filled ws j ys
 
+  abbrev passed : walkOf 𝓤 H A fill.ended stayed (fill.clauses 𝓤 H A mem run) .Ghost
+  passed = (((κ, (κ′, tt)), (q, (q′, tt)), tt, (slice b o γ ys, (slice b′ o′ γ′ ws, (n, tt))), (s ∷ [], (s′ ∷ [], (vint w64 n ∷ [], tt)))), tt)
+
   abbrev Post : Val → SProp 𝓤
-  Post = walkOf 𝓤 H A fill.ended stayed (fill.clauses 𝓤 H A mem run) .post (((κ, (κ′, tt)), (q, (q′, tt)), tt, a, vals), tt)
+  Post = walkOf 𝓤 H A fill.ended stayed (fill.clauses 𝓤 H A mem run) .post passed
 
   -- what is had of the table, with j entries filled, and of the memory
   abbrev Had : ℕ → List (Item 𝓤)
@@ -106,16 +95,16 @@ module _ {M : Type 1} (𝓤 : URA M) (H : Heap 𝓤) (A : Atoms 𝓤) (W : Given
   exits : Room Entry (length ys) → n ≤ length ys → ent 𝓤 (⋆ 𝓤 H A (Had n)) (Post vunit)
   exits room few =
       qed W (Had n) ∵
-      suffices ! _ (ends-at 𝓤 H A fill.ended stayed (fill.clauses 𝓤 H A mem run) W (((κ, (κ′, tt)), (q, (q′, tt)), tt, a, vals), tt) vunit tt (L n, (tt, (tt, tt))) (length-filled ws ys n few, (tt, (tt, tt)))) $ says ! refl $
+      suffices ! _ (ends-at 𝓤 H A fill.ended stayed (fill.clauses 𝓤 H A mem run) W passed vunit tt (L n, (tt, (tt, tt))) (length-filled ws ys n few, (tt, (tt, tt)))) $ says ! refl $
       nothing ! $ move ! (4 ∷ 0 ∷ []) $ join ! $ move ! (3 ∷ 0 ∷ []) $ join ! $ frame ! $
       -- [obs; the borrow; what the memory owns]
-      fjoin ! $ pureI ! (at-slice Entry (x (L n)) (s ∷ [])) (tt, (tt, tt)) (ap (λ (m : ℕ). sliceVal (b, o) m ∷ []) (sym (length-filled ws ys n few)), subst (Room Entry) (sym (length-filled ws ys n few)) room) $ fjoin ! $
+      fjoin ! $ pureI ! (at-slice Entry (slice b o γ (L n)) (s ∷ [])) (tt, (tt, tt)) (ap (λ (m : ℕ). sliceVal (b, o) m ∷ []) (sym (length-filled ws ys n few)), subst (Room Entry) (sym (length-filled ws ys n few)) room) $ fjoin ! $
       nothing ! $ owned ! usize (Is usize) (uint-makes 𝓤 H A W w64) n _ (refl, n-fits) $ fjoin ! $ move ! (2 ∷ 0 ∷ []) $ fjoin ! $ move ! (1 ∷ 0 ∷ []) $ fjoin ! $
       feqI ! (List Val) (vunit ∷ []) (vunit ∷ []) refl $ move ! (1 ∷ 0 ∷ []) $ done !
 
   -- what the callee is passed in turn j
   abbrev to : ℕ → EntryOf 𝓤 H A mem run .Ghost
-  to j = (((κ′, tt), (q′, tt), tt, (w, (j, tt)), (s′ ∷ [], (vint w64 j ∷ [], tt))), tt)
+  to j = (((κ′, tt), (q′, tt), tt, (slice b′ o′ γ′ ws, (j, tt)), (s′ ∷ [], (vint w64 j ∷ [], tt))), tt)
 
   module _ (𝓣 : Tables 𝓤 H) (known : Triple 𝓤 (𝓣 .C entry-def.name) (EntryOf 𝓤 H A mem run)) (room : Room Entry (length ys)) (few : n ≤ length ys) (enough : n ≤ 4096) (l : ℕ → ℕ) where
     -- the type of a local
@@ -146,7 +135,7 @@ module _ {M : Type 1} (𝓤 : URA M) (H : Heap 𝓤) (A : Atoms 𝓤) (W : Given
         rewrite ! 10 (λ (t : Bool). ‵ (fat fullShare tyBool (l 5) 0 (vbool t))) (holds (ltb j n) (lt→ltb j n small)) refl $
         stays ! (load ! (from ! (stop !)) (look ! 10 refl)) $
         -- the call, with a copy of what the memory owns
-        move ! (4 ∷ []) $ use1 W (‵ Own ⊛ ‵ Own) (shr-copy 𝓤 H A W (named 1) κ′ Working .twice w (s′ ∷ [])) $ split ! $ owned ! usize (Is usize) (uint-makes 𝓤 H A W w64) j _ (refl, omega arith) $ move ! (6 ∷ 1 ∷ 0 ∷ []) $
+        move ! (4 ∷ []) $ use1 W (‵ Own ⊛ ‵ Own) (shr-copy 𝓤 H A W (named 1) κ′ Working .twice (slice b′ o′ γ′ ws) (s′ ∷ [])) $ split ! $ owned ! usize (Is usize) (uint-makes 𝓤 H A W w64) j _ (refl, omega arith) $ move ! (6 ∷ 1 ∷ 0 ∷ []) $
         calls-by 𝓤 H A entry.ended (entry.clauses 𝓤 H A mem run) (to j) W (fmOf 𝓤 H (W .laws) 𝓣) known (factI 𝓤 (j < 4096) (emp 𝓤) (omega arith)) ! (and-then ! (load ! (from ! (stop !)) (look ! 7 refl)) (and-then ! (load ! (from ! (stop !)) (look ! 9 refl)) (no-more !))) (λ u r lasts.
         heard ! (r ≡ entryIn ws j) (λ e. move ! (1 ∷ []) $ drop ! $
         -- [the entry; the memory's token; what the memory owns; obs; the borrow; the token; the locals, …]
@@ -180,9 +169,9 @@ module _ {M : Type 1} (𝓤 : URA M) (H : Heap 𝓤) (A : Atoms 𝓤) (W : Given
         move ! (span 5 18) $ frees-all ! (code.function .locals) l $ by ! (exits room few)
 
   walk : (𝓣 : Tables 𝓤 H) → Triple 𝓤 (𝓣 .C entry-def.name) (EntryOf 𝓤 H A mem run) → Room Entry (length ys) → (n ≤ length ys) × (n ≤ 4096)
-      → ent 𝓤 (onEntry 𝓤 H A fill.signature (κ, (κ′, tt)) (q, (q′, tt)) a vals) (WpFn 𝓤 H (𝓣 .C) (𝓣 .Λ) code.function (s ∷ s′ ∷ vint w64 n ∷ []) Post)
+      → ent 𝓤 (onEntry 𝓤 H A fill.signature (κ, (κ′, tt)) (q, (q′, tt)) (passed .0 .3) (passed .0 .4)) (WpFn 𝓤 H (𝓣 .C) (𝓣 .Λ) code.function (s ∷ s′ ∷ vint w64 n ∷ []) Post)
   walk 𝓣 known room enough =
-      qed W ((‵ (flft κ q) ⊛ ‵ (flft κ′ q′) ⊛ ‵ ftrue) ∷ ‵ (owns (MutSlice (named 0) κ Entry ∷ ShrRef (named 1) κ′ Working ∷ usize ∷ []) a vals) ∷ []) ∵ enter ! (𝓣 .C) (𝓣 .Λ) code.function (s ∷ s′ ∷ vint w64 n ∷ []) _ $
+      qed W ((‵ (flft κ q) ⊛ ‵ (flft κ′ q′) ⊛ ‵ ftrue) ∷ ‵ (owns (MutSlice (named 0) κ Entry ∷ ShrRef (named 1) κ′ Working ∷ usize ∷ []) (passed .0 .3) (passed .0 .4)) ∷ []) ∵ enter ! (𝓣 .C) (𝓣 .Λ) code.function (s ∷ s′ ∷ vint w64 n ∷ []) _ $
       allocates ! (code.function .locals) (λ l. params1 ! $
       pass1 ! (init ! 1 refl (tt, (tt, (record { fits = room .0 }, tt)))) $ pass1 ! (init ! 2 refl (tt, tt)) $ pass1 ! (init ! 3 refl (tt, record { fits = n-fits })) $ pass0 ! $
       assigns ! (of-opd ! (lit ! tt)) (from ! (stop !)) (init ! 4 refl (tt, record { fits = lit< tt })) $
