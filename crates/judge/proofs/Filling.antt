@@ -10,7 +10,7 @@ use Rattle.history.specs.Calls.{row}
 use Rattle.judge.specs.declared.Call.{Call}
 use Rattle.reading.specs.Build.{build}
 use Rattle.reading.specs.Table.{startAt, endAt, answerAt, threadAt, numberAt, valueAt, callOf, callAt}
-use Rattle.judge.specs.Examine.{entryIn, filled}
+use Rattle.judge.specs.Working.{entryIn, filled}
 use Rattle.reading.proofs.Builds.{build-snoc, length-build}
 
 pub kind-dequeue : (t n v s e a : ℕ) → t ≡ 0 → 3 ≡ row (callOf t n v s e a) .kind

@@ -1,2 +1,3 @@
 pub mod Answer
-pub mod Examine
+pub mod Decides
+pub mod Working

@@ -1,5 +1,6 @@
 // The judge: whether a history of events is explained by a first-in first-out queue (document 01, "Judge").
-use marking::explains;
+use marking::Marked;
+use marking::marks;
 use reading::ANSWER;
 use reading::END;
 use reading::Entered;
@@ -9,25 +10,18 @@ use reading::THREAD;
 use reading::read;
 ghost use mathlib.Core.Path.{_≡_};
 ghost use Prim.Native.Nat.{_+_, _≤_, _<_};
-ghost use lib.ListN.{length};
+ghost use lib.ListN.{length, getD};
 ghost use Rattle.history.specs.Calls.{row};
-ghost use Rattle.history.specs.Form.{read};
-ghost use Rattle.reading.specs.Table.{Table, callAt};
-ghost use Rattle.judge.specs.Answer.{Replied, Judges};
-ghost use Rattle.judge.specs.Examine.{callsOf, verdictOf, entryIn, filled, Examined};
+ghost use Rattle.history.specs.Form.{mostEvents, read};
+ghost use Rattle.reading.specs.Table.{callAt};
+ghost use Rattle.judge.specs.Answer.{reply, Judges};
+ghost use Rattle.judge.specs.Working.{callsOf, markOf, testedOf, goesThrough, verdictOf, entryIn, filled, staysAt, allStay};
 
 // The judge's reply: a refusal's number, or whether the history is explained (specs/Answer.antt).
 pub enum Verdict {
     Refused(u32),
     Explained,
     Unexplained,
-}
-
-// What reading a history and judging it gives: a refusal's number, or the reply and how many calls were started.
-enum Outcome {
-    Refused(u32),
-    Explained(usize),
-    Unexplained(usize),
 }
 
 // An entry of the working table, a started call: kind 1 or 3, start event, end event or 0, the item's call number or 0.
@@ -39,44 +33,60 @@ pub struct Call {
     pub answer: u32,
 }
 
-// Reads a history and judges it.
-fn examine(history: &[u32], entries: usize, m: &mut [u32; MEMORY]) -> Outcome
-    requires { ⌜ Table (now m) 0 ⌝ }
-    ensures { λ r. ⌜ Examined (read entries (now (history .entry))) entries (now (m .exit)) r ⌝ }
+// How many entries of the working table are filled; none where the history is refused.
+fn calls_of(entered: Entered) -> usize
+    ensures { λ r. ⌜ r ≡ callsOf entered ⌝ }
 {
-    let entered = read(history, entries, m);
+    match entered {
+        Entered::Refused(_) => 0,
+        Entered::Calls(calls) => calls,
+    }
+}
+
+// The mark that the verdict's pass leaves.
+fn mark_of(marked: Marked) -> u32
+    ensures { λ r. ⌜ r ≡ markOf marked ⌝ }
+{
+    match marked {
+        Marked::Fails => 0,
+        Marked::Mark(mark) => mark,
+    }
+}
+
+// How many entries the last test looks at: where the pass failed none, since nothing hangs on them.
+fn tested_of(marked: Marked, calls: usize) -> usize
+    ensures { λ r. ⌜ r ≡ testedOf marked calls ⌝ }
+{
+    match marked {
+        Marked::Fails => 0,
+        Marked::Mark(_) => calls,
+    }
+}
+
+// Whether the verdict's pass goes through.
+fn goes_through(marked: Marked) -> bool
+    ensures { λ r. ⌜ r ≡ goesThrough marked ⌝ }
+{
+    match marked {
+        Marked::Fails => false,
+        Marked::Mark(_) => true,
+    }
+}
+
+// The reply, from what reading, the verdict's pass and the last test found.
+fn verdict_of(entered: Entered, marked: Marked, stays: bool) -> Verdict
+    ensures { λ r. ⌜ r ≡ verdictOf entered marked stays ⌝ }
+{
     match entered {
         Entered::Refused(n) => {
-            return Outcome::Refused(n);
+            return Verdict::Refused(n);
         }
-        Entered::Calls(c) => {
-            if explains(m, c) {
-                return Outcome::Explained(c);
+        Entered::Calls(_) => {
+            if goes_through(marked) & stays {
+                return Verdict::Explained;
             }
-            return Outcome::Unexplained(c);
+            return Verdict::Unexplained;
         }
-    }
-}
-
-// How many entries of the working table are filled; none where the history is refused.
-fn calls_of(outcome: Outcome) -> usize
-    ensures { λ r. ⌜ r ≡ callsOf outcome ⌝ }
-{
-    match outcome {
-        Outcome::Refused(_) => 0,
-        Outcome::Explained(c) => c,
-        Outcome::Unexplained(c) => c,
-    }
-}
-
-// The reply alone.
-fn verdict_of(outcome: Outcome) -> Verdict
-    ensures { λ r. ⌜ r ≡ verdictOf outcome ⌝ }
-{
-    match outcome {
-        Outcome::Refused(n) => Verdict::Refused(n),
-        Outcome::Explained(_) => Verdict::Explained,
-        Outcome::Unexplained(_) => Verdict::Unexplained,
     }
 }
 
@@ -117,6 +127,14 @@ fn entry_of(m: &[u32; MEMORY], j: usize) -> Call
     }
 }
 
+// Whether call j stays in the queue in order: it is no enqueue, or its item was given, or it has not ended before the mark.
+fn stays(call: Call, flags: &[u32; 4_096], j: usize, mark: u32) -> bool
+    requires { ⌜ j < 4096 ⌝ }
+    ensures { λ r. ⌜ r ≡ staysAt call (getD (now (flags .entry)) j 0) mark ⌝ }
+{
+    (call.kind != 1) | ((flags[j] == 1) | ((call.end == 0) | (mark <= call.end)))
+}
+
 // The first n calls go into the table, in starting order. The functions from here on are proved by walks of their MIR, by hand,
 // since each has a reference to a slice of structs.
 fn fill_calls(table: &mut [Call], m: &[u32; MEMORY], n: usize)
@@ -130,20 +148,38 @@ fn fill_calls(table: &mut [Call], m: &[u32; MEMORY], n: usize)
     }
 }
 
+// The last test of the verdict, over the first n entries of the table.
+fn all_stay(table: &[Call], flags: &[u32; 4_096], n: usize, mark: u32) -> bool
+    requires { ⌜ (n ≤ length (now table)) × (n ≤ 4096) ⌝ }
+    ensures { λ r. ⌜ r ≡ allStay (now (table .entry)) (now (flags .entry)) mark n ⌝ }
+{
+    let mut all = true;
+    let mut j = 0;
+    while j < n {
+        all = all & stays(table[j], flags, j, mark);
+        j += 1;
+    }
+    all
+}
+
 // The judge (document 01, "Judge"): its reply on a history, and one record for each started call in the working table. A refusal,
 // 10 to 13, leaves the table as it was.
 pub fn judge(history: &[u32], table: &mut [Call]) -> Verdict
     ensures { λ r. ⌜ Judges (now (history .entry)) (now (table .entry)) (now (table .exit)) r ⌝ }
 {
     let mut m = [0u32; MEMORY];
-    let outcome = examine(history, table.len(), &mut m);
-    fill_calls(table, &m, calls_of(outcome));
-    verdict_of(outcome)
+    let entered = read(history, table.len(), &mut m);
+    let calls = calls_of(entered);
+    let mut flags = [0u32; 4_096];
+    let marked = marks(&m, &mut flags, calls);
+    fill_calls(table, &m, calls);
+    let stays = all_stay(table, &flags, tested_of(marked, calls), mark_of(marked));
+    verdict_of(entered, marked, stays)
 }
 
 // The judge with a working table of its own, which has an entry for each of 4,096 events.
 pub fn judge_alone(history: &[u32]) -> Verdict
-    ensures { λ r. ⌜ Replied (read 4096 (now (history .entry))) r ⌝ }
+    ensures { λ r. ⌜ r ≡ reply (read mostEvents (now (history .entry))) ⌝ }
 {
     let mut table = [Call {
         kind: 0,

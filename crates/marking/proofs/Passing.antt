@@ -1,25 +1,27 @@
 -- The verdict's pass, call by call.
 use mathlib.Core.Path.{_≡_, refl, ap, sym, subst, _∙_}
 use mathlib.Core.Logic.{_⊎_, inl, inr, _≢_}
-use mathlib.Core.Bool.{Bool, true, false, _&&_, _||_, not}
+use mathlib.Core.Bool.{Bool, true, false, _&&_, not, cond}
 use mathlib.Core.List.{List, [], _∷_}
+use mathlib.Core.Option.{Option, none, some}
 use Prim.Native.Nat.{ℕ, zero, suc, _+_, _≤_, _<_, max, suc-le-suc}
 use native.Mathlib.Numerals.{add-one}
 use native.Mathlib.Omega.{arith}
-use lib.Dec.{eqb, leb, eqb·suc-zero}
+use lib.Dec.{eqb, leb}
 use lib.ListN.{getD, set, length-set, drop}
 use lib.Seq.{getD-set-same, getD-set-other}
 use borrow.Author.Tests.{eq-eqb, ne-eqb}
-use Rattle.history.specs.Calls.{Enqueue, Call, enq, deq}
+use Rattle.history.specs.Calls.{Answer, nothing, item, empty, Enqueue, Call, enq, deq}
 use Rattle.history.specs.Form.{hasNumber}
 use Rattle.criterion.specs.Parts.{look}
-use Rattle.criterion.specs.Pass.{has, past, leaves, giving, passes}
+use Rattle.criterion.specs.Pass.{has, past, giving, answering, passes}
 use Rattle.marking.specs.declared.Moved.{Moved}
 use Rattle.marking.specs.declared.Moved.the-variants.{Stuck, To}
 use Rattle.marking.specs.declared.Marked.the-variants.{Fails, Mark}
 use Rattle.reading.specs.Build.{build}
-use Rattle.reading.specs.Table.{startAt, endAt, answerAt, threadAt, numberAt, valueAt, callOf, callAt, callsIn, Table}
-use Rattle.marking.specs.Marks.{Found, Given, Moves, Marks}
+use Rattle.reading.specs.Table.{startAt, endAt, answerAt, threadAt, numberAt, valueAt, callOf, callAt, callsIn}
+use Rattle.marking.specs.Pass.{State, giveItem, answer, passCall, onward, passCalls, passed, lastTest}
+use Rattle.marking.specs.Marks.{Numbered, Found, Given, Flagged, hintOf, movedTo, stateAfter, Moves, marked, Marks}
 use Rattle.reading.proofs.Logic.{same-or-not}
 use Rattle.reading.proofs.Builds.{drop-build, drop-built}
 use Rattle.reading.proofs.Words
@@ -48,101 +50,85 @@ look-one n f (suc c) (suc i) x l e q h =
     ∙ look-one n (λ j. f (suc j)) c i x (omega arith) e q (λ j o. h (suc j) (suc-le-suc o))
 
 -- What a call does to the pass, by its words.
-module _ (cs l : List Call) (n v s e a mark : ℕ) (given : List ℕ) where
-  passes-enqueue : (t : ℕ) → t ≢ 0 → passes cs (callOf t n v s e a ∷ l) mark given ≡ passes cs l mark given
-  passes-enqueue zero d = absurd (d refl)
-  passes-enqueue (suc t) d = refl
+module _ (cs : List Call) (n v b e a : ℕ) (s : State) where
+  enqueue-passes : (t : ℕ) → t ≢ 0 → passCall cs (callOf t n v b e a) s ≡ some s
+  enqueue-passes zero d = absurd (d refl)
+  enqueue-passes (suc t) d = refl
 
-  passes-under-way : (t : ℕ) → t ≡ 0 → e ≡ 0 → passes cs (callOf t n v s e a ∷ l) mark given ≡ passes cs l mark given
-  passes-under-way t p q = rw (p, q)
+  under-way-passes : (t : ℕ) → t ≡ 0 → e ≡ 0 → passCall cs (callOf t n v b e a) s ≡ some s
+  under-way-passes t p q = rw (p, q)
 
-passes-empty :
-    (cs l : List Call) (n v s e a mark : ℕ) (given : List ℕ) (t : ℕ) → t ≡ 0 → e ≢ 0 → a ≡ 0
-    → passes cs (callOf t n v s e a ∷ l) mark given ≡ passes cs l (max mark s) given
-passes-empty cs l n v s zero a mark given t p d q = absurd (d refl)
-passes-empty cs l n v s (suc e) a mark given t p d q = rw (p, q)
+empty-passes :
+    (cs : List Call) (n v b e a : ℕ) (s : State) (t : ℕ) → t ≡ 0 → e ≢ 0 → a ≡ 0
+    → passCall cs (callOf t n v b e a) s ≡ some (record { mark = max (s .mark) b; given = s .given })
+empty-passes cs n v b zero a s t p d q = absurd (d refl)
+empty-passes cs n v b (suc e) a s t p d q = rw (p, q)
 
-passes-item :
-    (cs l : List Call) (n v s e a mark : ℕ) (given : List ℕ) (t : ℕ) → t ≡ 0 → e ≢ 0 → a ≢ 0
-    → passes cs (callOf t n v s e a ∷ l) mark given ≡ giving a v e mark given (passes cs l) (look a cs)
-passes-item cs l n v s zero a mark given t p d q = absurd (d refl)
-passes-item cs l n v s (suc e) zero mark given t p d q = absurd (q refl)
-passes-item cs l n v s (suc e) (suc a) mark given t p d q = rw p
+item-passes :
+    (cs : List Call) (n v b e a : ℕ) (s : State) (t : ℕ) → t ≡ 0 → e ≢ 0 → a ≢ 0
+    → passCall cs (callOf t n v b e a) s ≡ giveItem a v e s (look a cs)
+item-passes cs n v b zero a s t p d q = absurd (d refl)
+item-passes cs n v b (suc e) zero s t p d q = absurd (q refl)
+item-passes cs n v b (suc e) (suc a) s t p d q = rw p
 
 -- enqueue i
 abbrev enqueueAt : List ℕ → ℕ → Enqueue
 enqueueAt m i =
     record { thread = threadAt m i; number = numberAt m i; value = valueAt m i; start = startAt m i; end = endAt m i }
 
-an-enqueue : (t n v s e a : ℕ) → t ≢ 0 → callOf t n v s e a ≡ enq (record { thread = t; number = n; value = v; start = s; end = e })
-an-enqueue zero n v s e a d = absurd (d refl)
-an-enqueue (suc t) n v s e a d = refl
-
-not-stuck : (a b : ℕ) → To a b ≡ Stuck → ⊥
-not-stuck a b z = let w : _≡_ {A = ℕ} 0 1 = cc in omega arith
-
-same-mark : (a b x y : ℕ) → To a b ≡ To x y → a ≡ x
-same-mark a b x y z = cc
-
-same-hint : (a b x y : ℕ) → To a b ≡ To x y → b ≡ y
-same-hint a b x y z = cc
+an-enqueue : (t n v b e a : ℕ) → t ≢ 0 → callOf t n v b e a ≡ enq (record { thread = t; number = n; value = v; start = b; end = e })
+an-enqueue zero n v b e a d = absurd (d refl)
+an-enqueue (suc t) n v b e a d = refl
 
 module _ (m : List ℕ) (c : ℕ) where
   -- Ways on that change nothing but the mark.
   on-with :
       (j mark mark′ hint : ℕ) (flags : List ℕ) → hint ≤ c
-      → ((l : List Call) (given : List ℕ) → passes (callsIn m c) (callAt m j ∷ l) mark given ≡ passes (callsIn m c) l mark′ given)
+      → ((given : List ℕ) → stateAfter m c j mark given ≡ some (record { mark = mark′; given = given }))
       → Moves m c j mark flags flags (To mark′ hint)
   on-with j mark mark′ hint flags h e = record {
-    stuck = λ z. absurd (not-stuck mark′ hint z);
-    moved =
-        λ x y z.
-        let p = same-mark mark′ hint x y z in
-        let q = same-hint mark′ hint x y z in
-        (subst (λ i. i ≤ c) q h, λ given g. (given, g, λ l. e l given ∙ ap (λ i. passes (callsIn m c) l i given) p));
+    hint-within = h;
+    replies = λ given g. sym (ap (movedTo hint) (e given));
+    flags-then = λ given g. rw (e given) g;
   }
 
   pub on-enqueue : (j mark hint : ℕ) (flags : List ℕ) → hint ≤ c → threadAt m j ≢ 0 → Moves m c j mark flags flags (To mark hint)
   on-enqueue j mark hint flags h d =
       on-with j mark mark hint flags h
-      (λ l given.
-      passes-enqueue (callsIn m c) l (numberAt m j) (valueAt m j) (startAt m j) (endAt m j) (answerAt m j) mark given (threadAt m j) d)
+      (λ given. enqueue-passes (callsIn m c) (numberAt m j) (valueAt m j) (startAt m j) (endAt m j) (answerAt m j) _ (threadAt m j) d)
 
   pub on-under-way :
       (j mark hint : ℕ) (flags : List ℕ) → hint ≤ c → threadAt m j ≡ 0 → endAt m j ≡ 0 → Moves m c j mark flags flags (To mark hint)
   on-under-way j mark hint flags h p q =
       on-with j mark mark hint flags h
-      (λ l given.
-      passes-under-way (callsIn m c) l (numberAt m j) (valueAt m j) (startAt m j) (endAt m j) (answerAt m j) mark given (threadAt m j) p q)
+      (λ given. under-way-passes (callsIn m c) (numberAt m j) (valueAt m j) (startAt m j) (endAt m j) (answerAt m j) _ (threadAt m j) p q)
 
   pub on-empty :
       (j mark mark′ hint : ℕ) (flags : List ℕ) → hint ≤ c → threadAt m j ≡ 0 → endAt m j ≢ 0 → answerAt m j ≡ 0
       → mark′ ≡ max mark (startAt m j) → Moves m c j mark flags flags (To mark′ hint)
   on-empty j mark mark′ hint flags h p d q e =
       on-with j mark mark′ hint flags h
-      (λ l given.
-      passes-empty (callsIn m c) l (numberAt m j) (valueAt m j) (startAt m j) (endAt m j) (answerAt m j) mark given (threadAt m j) p d q
-      ∙ ap (λ i. passes (callsIn m c) l i given) (sym e))
+      (λ given.
+      empty-passes (callsIn m c) (numberAt m j) (valueAt m j) (startAt m j) (endAt m j) (answerAt m j) _ (threadAt m j) p d q
+      ∙ ap (λ i. some (record { mark = i; given = given })) (sym e))
 
   -- An item.
-  module _ (table : Table m c) (j mark : ℕ) (p : threadAt m j ≡ 0) (d : endAt m j ≢ 0) (q : answerAt m j ≢ 0) where
+  module _ (numbered : Numbered m c) (j mark : ℕ) (p : threadAt m j ≡ 0) (d : endAt m j ≢ 0) (q : answerAt m j ≢ 0) where
     abbrev n : ℕ
     n = answerAt m j
 
     item-is :
-        (l : List Call) (given : List ℕ)
-        → passes (callsIn m c) (callAt m j ∷ l) mark given ≡ giving n (valueAt m j) (endAt m j) mark given (passes (callsIn m c) l) (look n (callsIn m c))
-    item-is l given =
-        passes-item (callsIn m c) l (numberAt m j) (valueAt m j) (startAt m j) (endAt m j) (answerAt m j) mark given (threadAt m j) p d q
+        (given : List ℕ)
+        → stateAfter m c j mark given ≡ giveItem n (valueAt m j) (endAt m j) (record { mark = mark; given = given }) (look n (callsIn m c))
+    item-is given = item-passes (callsIn m c) (numberAt m j) (valueAt m j) (startAt m j) (endAt m j) n _ (threadAt m j) p d q
 
     stuck-at :
-        (flags flags′ : List ℕ)
-        → ((given : List ℕ) → Given m c flags given → (on : ℕ → List ℕ → Bool)
-        → giving n (valueAt m j) (endAt m j) mark given on (look n (callsIn m c)) ≡ false)
+        (flags flags′ : List ℕ) → ((given : List ℕ) → Given m c flags given → stateAfter m c j mark given ≡ none)
         → Moves m c j mark flags flags′ Stuck
     stuck-at flags flags′ f = record {
-      stuck = λ z given g l. item-is l given ∙ f given g (passes (callsIn m c) l);
-      moved = λ x y z. absurd (not-stuck x y (sym z));
+      hint-within = omega arith;
+      replies = λ given g. sym (ap (movedTo 0) (f given g));
+      flags-then = λ given g. rw (f given g) tt;
     }
 
     pub not-found : (i : ℕ) (flags flags′ : List ℕ) → Found m c n i → c ≤ i → Moves m c j mark flags flags′ Stuck
@@ -150,7 +136,7 @@ module _ (m : List ℕ) (c : ℕ) where
         let none =
         look-none n (callAt m) c
         (λ h o. Words.not-number (numberAt m h) (valueAt m h) (startAt m h) (endAt m h) (answerAt m h) (threadAt m h) n (f .is-nowhere l h o)) in
-        stuck-at flags flags′ (λ given g on. ap (giving n (valueAt m j) (endAt m j) mark given on) none)
+        stuck-at flags flags′ (λ given g. item-is given ∙ ap (giveItem n (valueAt m j) (endAt m j) _) none)
 
     -- enqueue i is the one with the item's number
     module _ (i : ℕ) (within : i < c) (is : numberAt m i ≡ n) where
@@ -158,28 +144,29 @@ module _ (m : List ℕ) (c : ℕ) where
       looked =
           look-one n (callAt m) c i (enqueueAt m i) within
           (an-enqueue (threadAt m i) (numberAt m i) (valueAt m i) (startAt m i) (endAt m i) (answerAt m i)
-          (λ z. q (sym is ∙ table .plain i within z)))
+          (λ z. q (sym is ∙ numbered .plain i within z)))
           (eq-eqb (numberAt m i) n is)
           (λ h o.
           Words.not-number (numberAt m h) (valueAt m h) (startAt m h) (endAt m h) (answerAt m h) (threadAt m h) n
-          (λ e. let z = table .distinct h i (omega arith) within (e ∙ sym is) (λ w. q (sym e ∙ w)) in omega arith))
+          (λ e. let z = numbered .distinct h i (omega arith) within (e ∙ sym is) (λ w. q (sym e ∙ w)) in omega arith))
 
       abbrev test : Bool → Bool
       test was = eqb (valueAt m i) (valueAt m j) && not was && leb (startAt m i) (endAt m j) && past mark (enqueueAt m i)
 
+      -- the state with the item given
+      abbrev then : List ℕ → State
+      then given = record { mark = max mark (startAt m i); given = n ∷ given }
+
       tested :
-          (flags given : List ℕ) → Given m c flags given → (on : ℕ → List ℕ → Bool)
-          → giving n (valueAt m j) (endAt m j) mark given on (look n (callsIn m c))
-          ≡ (test (eqb (getD flags i 0) 1) && on (max mark (startAt m i)) (n ∷ given))
-      tested flags given g on =
+          (flags given : List ℕ) → Given m c flags given
+          → stateAfter m c j mark given ≡ cond (test (eqb (getD flags i 0) 1)) (some (then given)) none
+      tested flags given g =
           let e = subst (λ x. has x given ≡ eqb (getD flags i 0) 1) is (g .flagged i within) in
-          ap (giving n (valueAt m j) (endAt m j) mark given on) looked
-          ∙ ap (λ b. test b && on (max mark (startAt m i)) (n ∷ given)) e
+          item-is given ∙ ap (giveItem n (valueAt m j) (endAt m j) _) looked ∙ ap (λ b. cond (test b) (some (then given)) none) e
 
       pub unfair : (flags flags′ : List ℕ) (r : Bool) → r ≡ test (eqb (getD flags i 0) 1) → r ≡ false → Moves m c j mark flags flags′ Stuck
       unfair flags flags′ r e f =
-          stuck-at flags flags′
-          (λ given g on. tested flags given g on ∙ ap (λ b. b && on (max mark (startAt m i)) (n ∷ given)) (sym e ∙ f))
+          stuck-at flags flags′ (λ given g. tested flags given g ∙ ap (λ b. cond b (some (then given)) none) (sym e ∙ f))
 
       flag-on : (flags given : List ℕ) → c ≤ 4096 → Given m c flags given → Given m c (set flags i 1) (n ∷ given)
       flag-on flags given room g = record {
@@ -193,7 +180,7 @@ module _ (m : List ℕ) (c : ℕ) where
               let b = getD-set-same flags i 1 0 (omega (arith, g .size)) in
               rw (e, a, b)
           go h l (inr o) =
-              let a = ne-eqb n (numberAt m h) (λ z. o (table .distinct h i l within (sym z ∙ sym is) (λ w. q (z ∙ w)))) in
+              let a = ne-eqb n (numberAt m h) (λ z. o (numbered .distinct h i l within (sym z ∙ sym is) (λ w. q (z ∙ w)))) in
               let b = getD-set-other flags i h 1 0 o in
               rw (a, b) (g .flagged h l)
 
@@ -201,106 +188,83 @@ module _ (m : List ℕ) (c : ℕ) where
           (flags : List ℕ) (r : Bool) (mark′ hint : ℕ) → c ≤ 4096 → r ≡ test (eqb (getD flags i 0) 1) → r ≡ true → mark′ ≡ max mark (startAt m i)
           → hint ≤ c → Moves m c j mark flags (set flags i 1) (To mark′ hint)
       is-fair flags r mark′ hint room e f top few = record {
-        stuck = λ z. absurd (not-stuck mark′ hint z);
-        moved =
-            λ x y z. (
-              omega (arith, same-hint mark′ hint x y z),
-              λ given g. (
-                n ∷ given,
-                flag-on flags given room g,
-                λ l.
-                    item-is l given
-                    ∙ tested flags given g (passes (callsIn m c) l)
-                    ∙ ap (λ b. b && passes (callsIn m c) l (max mark (startAt m i)) (n ∷ given)) (sym e ∙ f)
-                    ∙ ap (λ k. passes (callsIn m c) l k (n ∷ given)) (sym top ∙ same-mark mark′ hint x y z),
-              ),
-            );
+        hint-within = few;
+        replies = λ given g. rw (goes given g, top);
+        flags-then = λ given g. rw (goes given g) (flag-on flags given room g);
       }
+        where
+          goes : (given : List ℕ) → Given m c flags given → stateAfter m c j mark given ≡ some (then given)
+          goes given g = tested flags given g ∙ ap (λ b. cond b (some (then given)) none) (sym e ∙ f)
 
 -- The pass after j calls.
 pub record Passed (m : List ℕ) (c : ℕ) (flags : List ℕ) (mark j : ℕ) : Type 0 where
   pub given : List ℕ
   pub are-given : Given m c flags given
-  pub is-same : passes (callsIn m c) (callsIn m c) 0 [] ≡ passes (callsIn m c) (drop j (callsIn m c)) mark given
+  pub is-same : passed (callsIn m c) ≡ passCalls (callsIn m c) (drop j (callsIn m c)) (record { mark = mark; given = given })
 
 pub none-passed : (m : List ℕ) (c : ℕ) (flags : List ℕ) → Given m c flags [] → Passed m c flags 0 0
 none-passed m c flags g = record { given = []; are-given = g; is-same = refl }
 
 module _ (m : List ℕ) (c : ℕ) (flags : List ℕ) (mark j : ℕ) (p : Passed m c flags mark j) (more : j < c) (flags′ : List ℕ) (r : Moved)
     (moves : Moves m c j mark flags flags′ r) where
-  next : passes (callsIn m c) (callsIn m c) 0 [] ≡ passes (callsIn m c) (callAt m j ∷ drop (suc j) (callsIn m c)) mark (p .given)
-  next = p .is-same ∙ ap (λ l. passes (callsIn m c) l mark (p .given)) (drop-build (callAt m) c j more)
+  abbrev after : Option State
+  after = stateAfter m c j mark (p .given)
+
+  next : (o : Option State) → after ≡ o → passed (callsIn m c) ≡ onward o (passCalls (callsIn m c) (drop (suc j) (callsIn m c)))
+  next o e =
+      p .is-same
+      ∙ ap (λ l. passCalls (callsIn m c) l (record { mark = mark; given = p .given })) (drop-build (callAt m) c j more)
+      ∙ ap (λ x. onward x (passCalls (callsIn m c) (drop (suc j) (callsIn m c)))) e
 
   pub call-passed : (mark′ hint : ℕ) → r ≡ To mark′ hint → (hint ≤ c) × Passed m c flags′ mark′ (j + 1)
   call-passed mark′ hint e =
-      let w = moves .moved mark′ hint e in
-      let v = w .1 (p .given) (p .are-given) in (
-        w .0,
-        record { given = v .0; are-given = v .1; is-same = rw (add-one j) (next ∙ v .2 (drop (suc j) (callsIn m c))) },
-      )
+      let w = moves .hint-within in
+      let h : hintOf r ≡ hint = ap hintOf e in
+      (omega arith, go after refl (moves .replies (p .given) (p .are-given)) (moves .flags-then (p .given) (p .are-given)))
+    where
+      go : (o : Option State) → after ≡ o → r ≡ movedTo (hintOf r) o → Flagged m c flags′ o → Passed m c flags′ mark′ (j + 1)
+      go none f a g = absurd (let z : _≡_ {A = ℕ} 0 1 = cc in omega arith)
+      go (some s) f a g =
+          let z : s .mark ≡ mark′ = cc in
+          record { given = s .given; are-given = g; is-same = rw (add-one j, ← z) (next (some s) f) }
 
-  pub call-stuck : r ≡ Stuck → passes (callsIn m c) (callsIn m c) 0 [] ≡ false
-  call-stuck e = next ∙ moves .stuck e (p .given) (p .are-given) (drop (suc j) (callsIn m c))
+  pub call-stuck : r ≡ Stuck → passed (callsIn m c) ≡ none
+  call-stuck e = go after refl (moves .replies (p .given) (p .are-given))
+    where
+      go : (o : Option State) → after ≡ o → r ≡ movedTo (hintOf r) o → passed (callsIn m c) ≡ none
+      go none f a = next none f
+      go (some s) f a = absurd (let z : _≡_ {A = ℕ} 0 1 = cc in omega arith)
 
-fails-not-mark : (k : ℕ) → Fails ≡ Mark k → ⊥
-fails-not-mark k e = let z : _≡_ {A = ℕ} 0 1 = cc in omega arith
-
-same-marked : (a b : ℕ) → Mark a ≡ Mark b → a ≡ b
-same-marked a b e = cc
-
-pub pass-fails : (m : List ℕ) (c : ℕ) (flags : List ℕ) → passes (callsIn m c) (callsIn m c) 0 [] ≡ false → Marks m c flags Fails
-pass-fails m c flags e = record { fails = λ z. e; mark = λ k z. absurd (fails-not-mark k z) }
+pub pass-fails : (m : List ℕ) (c : ℕ) (flags : List ℕ) → passed (callsIn m c) ≡ none → Marks m c flags Fails
+pass-fails m c flags e = record { replies = sym (ap marked e); flags-then = rw e tt }
 
 pub all-passed : (m : List ℕ) (c : ℕ) (flags : List ℕ) (mark j : ℕ) → Passed m c flags mark j → j ≡ c → Marks m c flags (Mark mark)
-all-passed m c flags mark j p e = record {
-  fails = λ z. absurd (fails-not-mark mark (sym z));
-  mark =
-      λ k z. (
-        p .given,
-        p .are-given,
-        p .is-same
-            ∙ ap (λ l. passes (callsIn m c) l mark (p .given)) (ap (λ i. drop i (callsIn m c)) e ∙ drop-built (callAt m) c)
-            ∙ ap (λ i. leaves i (p .given) (callsIn m c)) (same-marked mark k z),
-      );
-}
+all-passed m c flags mark j p e =
+    let s : State = record { mark = mark; given = p .given } in
+    let z : passed (callsIn m c) ≡ some s =
+    p .is-same ∙ ap (λ l. passCalls (callsIn m c) l s) (ap (λ i. drop i (callsIn m c)) e ∙ drop-built (callAt m) c) in
+    record { replies = sym (ap marked z); flags-then = rw z (p .are-given) }
 
--- What is left at the end, after j calls.
-pub record Left (m : List ℕ) (c : ℕ) (flags : List ℕ) (mark j : ℕ) : Type 0 where
-  pub is-same :
-      (given : List ℕ) → Given m c flags given
-      → leaves mark given (callsIn m c) ≡ leaves mark given (drop j (callsIn m c))
+-- The pass with the last test is the verdict's.
+give-and : (cs l : List Call) (t : State) (b : Bool) → passes cs l (t .mark) (t .given) ≡ lastTest cs (passCalls cs l t)
+    → (b && passes cs l (t .mark) (t .given)) ≡ lastTest cs (onward (cond b (some t) none) (passCalls cs l))
+give-and cs l t true e = e
+give-and cs l t false e = refl
 
-leaves-call :
-    (mark : ℕ) (given : List ℕ) (t n v s e a : ℕ) (l : List Call)
-    → leaves mark given (callOf t n v s e a ∷ l) ≡ ((eqb t 0 || (has n given || (eqb e 0 || leb mark e))) && leaves mark given l)
-leaves-call mark given zero n v s e a l = refl
-leaves-call mark given (suc t) n v s e a l = rw (eqb·suc-zero t)
+pub passes-is : (cs l : List Call) (s : State) → passes cs l (s .mark) (s .given) ≡ lastTest cs (passCalls cs l s)
+passes-is cs [] s = refl
+passes-is cs (enq x ∷ l) s = passes-is cs l s
+passes-is cs (deq d ∷ l) s = by-answer (d .answer) (passes-is cs l)
+  where
+    given-item : (n v : ℕ) (xs : List Enqueue) → ((t : State) → passes cs l (t .mark) (t .given) ≡ lastTest cs (passCalls cs l t))
+        → giving n v (d .end) (s .mark) (s .given) (passes cs l) xs ≡ lastTest cs (onward (giveItem n v (d .end) s xs) (passCalls cs l))
+    given-item n v [] h = refl
+    given-item n v (x ∷ xs) h =
+        give-and cs l (record { mark = max (s .mark) (x .start); given = n ∷ s .given })
+        (eqb (x .value) v && not (has n (s .given)) && leb (x .start) (d .end) && past (s .mark) x) (h _)
 
-module _ (m : List ℕ) (c : ℕ) (flags : List ℕ) (mark j : ℕ) (p : Left m c flags mark j) (more : j < c) (r : Bool)
-    (is : r ≡ (eqb (threadAt m j) 0 || (eqb (getD flags j 0) 1 || (eqb (endAt m j) 0 || leb mark (endAt m j))))) where
-  leaves-next :
-      (given : List ℕ) → Given m c flags given
-      → leaves mark given (callsIn m c) ≡ (r && leaves mark given (drop (suc j) (callsIn m c)))
-  leaves-next given g =
-      p .is-same given g
-      ∙ ap (leaves mark given) (drop-build (callAt m) c j more)
-      ∙ leaves-call mark given (threadAt m j) (numberAt m j) (valueAt m j) (startAt m j) (endAt m j) (answerAt m j) (drop (suc j) (callsIn m c))
-      ∙ ap
-      (λ b. (eqb (threadAt m j) 0 || (b || (eqb (endAt m j) 0 || leb mark (endAt m j)))) && leaves mark given (drop (suc j) (callsIn m c)))
-      (g .flagged j more)
-      ∙ ap (λ b. b && leaves mark given (drop (suc j) (callsIn m c))) (sym is)
-
-  pub call-stays : r ≡ true → Left m c flags mark (j + 1)
-  call-stays e = record {
-    is-same =
-        λ given g. rw (add-one j) (leaves-next given g ∙ ap (λ b. b && leaves mark given (drop (suc j) (callsIn m c))) e);
-  }
-
-  pub call-goes : r ≡ false → (given : List ℕ) → Given m c flags given → false ≡ leaves mark given (callsIn m c)
-  call-goes e given g = sym (leaves-next given g ∙ ap (λ b. b && leaves mark given (drop (suc j) (callsIn m c))) e)
-
-pub all-left :
-    (m : List ℕ) (c : ℕ) (flags : List ℕ) (mark j : ℕ) → Left m c flags mark j → j ≡ c → (given : List ℕ) → Given m c flags given
-    → true ≡ leaves mark given (callsIn m c)
-all-left m c flags mark j p e given g =
-    sym (p .is-same given g ∙ ap (leaves mark given) (ap (λ i. drop i (callsIn m c)) e ∙ drop-built (callAt m) c))
+    by-answer : (a : Answer) → ((t : State) → passes cs l (t .mark) (t .given) ≡ lastTest cs (passCalls cs l t))
+        → answering cs a (d .start) (d .end) (s .mark) (s .given) (passes cs l) ≡ lastTest cs (onward (answer cs a (d .start) (d .end) s) (passCalls cs l))
+    by-answer nothing h = h s
+    by-answer (item n v) h = given-item n v (look n cs) h
+    by-answer empty h = h (record { mark = max (s .mark) (d .start); given = s .given })

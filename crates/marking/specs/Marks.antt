@@ -1,29 +1,30 @@
--- The verdict's pass over the working memory: what one call does to the mark and to the flags of the items given.
+-- The verdict's pass over the working memory: the replies, and the flags of the items given.
 use mathlib.Core.Path.{_≡_}
 use mathlib.Core.Logic.{_≢_}
-use mathlib.Core.Bool.{Bool, false, _&&_, _||_, not}
-use mathlib.Core.List.{List, [], _∷_}
+use mathlib.Core.Bool.{Bool, _&&_, _||_, not}
+use mathlib.Core.List.{List}
+use mathlib.Core.Option.{Option, none, some}
 use Prim.Native.Nat.{ℕ, _≤_, _<_}
 use lib.Dec.{leb, eqb}
 use lib.ListN.{length, getD}
-use Rattle.history.specs.Calls.{Call}
-use Rattle.criterion.specs.Pass.{has, leaves, passes}
+use Rattle.criterion.specs.Pass.{has}
 use Rattle.marking.specs.declared.Moved.{Moved}
 use Rattle.marking.specs.declared.Moved.the-variants.{Stuck, To}
 use Rattle.marking.specs.declared.Marked.{Marked}
 use Rattle.marking.specs.declared.Marked.the-variants.{Fails, Mark}
 use Rattle.reading.specs.Table.{startAt, endAt, threadAt, numberAt, valueAt, callAt, callsIn}
+use Rattle.marking.specs.Pass.{State, passCall, passed}
+
+-- The numbers of c calls: a dequeue has 0, an enqueue one that no other call has.
+pub record Numbered (m : List ℕ) (c : ℕ) : Type 0 where
+  pub plain : (j : ℕ) → j < c → threadAt m j ≡ 0 → numberAt m j ≡ 0
+  pub distinct : (i j : ℕ) → i < c → j < c → numberAt m i ≡ numberAt m j → numberAt m i ≢ 0 → i ≡ j
 
 -- Where a number stands among those of c calls: c is nowhere.
 pub record Found (m : List ℕ) (c number r : ℕ) : Type 0 where
   pub within : r ≤ c
   pub is-there : r < c → numberAt m r ≡ number
   pub is-nowhere : c ≤ r → (j : ℕ) → j < c → numberAt m j ≢ number
-
--- The flags of the calls say which numbers were given.
-pub record Given (m : List ℕ) (c : ℕ) (flags given : List ℕ) : Type 0 where
-  pub size : length flags ≡ 4096
-  pub flagged : (i : ℕ) → i < c → has (numberAt m i) given ≡ eqb (getD flags i 0) 1
 
 -- Enqueue i may be the item of dequeue j: the same value, not given before, started before j ended, not ended before the mark.
 abbrev pub fairAt : (m flags : List ℕ) (i j mark : ℕ) → Bool
@@ -33,25 +34,42 @@ fairAt m flags i j mark =
     && leb (startAt m i) (endAt m j)
     && (eqb (endAt m i) 0 || leb mark (endAt m i))
 
--- Call j is no enqueue, or its item was given, or it has not ended before the mark.
-abbrev pub staysAt : (m flags : List ℕ) (j mark : ℕ) → Bool
-staysAt m flags j mark = eqb (threadAt m j) 0 || (eqb (getD flags j 0) 1 || (eqb (endAt m j) 0 || leb mark (endAt m j)))
+-- The flags of the calls: 1 exactly where the call's number is that of an item given.
+pub record Given (m : List ℕ) (c : ℕ) (flags given : List ℕ) : Type 0 where
+  pub size : length flags ≡ 4096
+  pub flagged : (i : ℕ) → i < c → has (numberAt m i) given ≡ eqb (getD flags i 0) 1
 
--- Call j moves the mark and the flags, or the pass fails at it.
+-- The flags in a state of the pass; of one that failed nothing is said.
+abbrev pub Flagged : (m : List ℕ) (c : ℕ) (flags : List ℕ) → Option State → Type 0
+Flagged m c flags none = Unit
+Flagged m c flags (some s) = Given m c flags (s .given)
+
+-- Where the next item is looked for first.
+abbrev pub hintOf : Moved → ℕ
+hintOf Stuck = 0
+hintOf (To mark hint) = hint
+
+-- The reply on the state after one call, with that hint.
+abbrev pub movedTo : (hint : ℕ) → Option State → Moved
+movedTo hint none = Stuck
+movedTo hint (some s) = To (s .mark) hint
+
+-- The state after call j, where given are the items given so far.
+abbrev pub stateAfter : (m : List ℕ) (c j mark : ℕ) (given : List ℕ) → Option State
+stateAfter m c j mark given = passCall (callsIn m c) (callAt m j) (record { mark = mark; given = given })
+
+-- Call j: the reply and the flags are those of the state after it. Any hint within the calls will do.
 pub record Moves (m : List ℕ) (c j mark : ℕ) (flags flags′ : List ℕ) (r : Moved) : Type 0 where
-  pub stuck :
-      r ≡ Stuck → (given : List ℕ) → Given m c flags given → (l : List Call) → passes (callsIn m c) (callAt m j ∷ l) mark given ≡ false
-  pub moved :
-      (mark′ hint : ℕ) → r ≡ To mark′ hint
-      → (hint ≤ c)
-      × ((given : List ℕ) → Given m c flags given
-      → (given′ : List ℕ)
-      × Given m c flags′ given′
-      × ((l : List Call) → passes (callsIn m c) (callAt m j ∷ l) mark given ≡ passes (callsIn m c) l mark′ given′))
+  pub hint-within : hintOf r ≤ c
+  pub replies : (given : List ℕ) → Given m c flags given → r ≡ movedTo (hintOf r) (stateAfter m c j mark given)
+  pub flags-then : (given : List ℕ) → Given m c flags given → Flagged m c flags′ (stateAfter m c j mark given)
 
--- The pass over all calls fails, or leaves a mark.
+-- The reply on the state that the pass leaves.
+abbrev pub marked : Option State → Marked
+marked none = Fails
+marked (some s) = Mark (s .mark)
+
+-- The pass over all calls: the reply and the flags are those of the state that it leaves.
 pub record Marks (m : List ℕ) (c : ℕ) (flags : List ℕ) (r : Marked) : Type 0 where
-  pub fails : r ≡ Fails → passes (callsIn m c) (callsIn m c) 0 [] ≡ false
-  pub mark :
-      (mark : ℕ) → r ≡ Mark mark
-      → (given : List ℕ) × Given m c flags given × (passes (callsIn m c) (callsIn m c) 0 [] ≡ leaves mark given (callsIn m c))
+  pub replies : r ≡ marked (passed (callsIn m c))
+  pub flags-then : Flagged m c flags (passed (callsIn m c))

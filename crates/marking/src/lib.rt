@@ -1,4 +1,4 @@
-// The verdict's pass over the calls of a history: whether each dequeue's answer was in order.
+// The verdict's pass over the calls of a history: whether each dequeue's answer was in order, the mark that is left, and the items given.
 use reading::ANSWER;
 use reading::END;
 use reading::MEMORY;
@@ -9,11 +9,10 @@ use reading::larger;
 use reading::scan;
 ghost use mathlib.Core.Path.{_≡_};
 ghost use mathlib.Core.Logic.{_≢_};
-ghost use mathlib.Core.List.{List, []};
-ghost use Prim.Native.Nat.{ℕ, _+_, _≤_, _<_};
-ghost use Rattle.criterion.specs.Pass.{leaves, passes};
-ghost use Rattle.reading.specs.Table.{Table, callsIn, threadAt, endAt, answerAt};
-ghost use Rattle.marking.specs.Marks.{Found, Given, fairAt, staysAt, Moves, Marks};
+ghost use mathlib.Core.List.{[]};
+ghost use Prim.Native.Nat.{_+_, _≤_, _<_};
+ghost use Rattle.reading.specs.Table.{threadAt, endAt, answerAt};
+ghost use Rattle.marking.specs.Marks.{Numbered, Found, Given, fairAt, Moves, Marks};
 
 // What one call does to the verdict's pass: the pass is stuck, or goes on with another mark, and with the place where the
 // next item is looked for first.
@@ -23,7 +22,7 @@ enum Moved {
 }
 
 // Where the verdict's pass ends: it fails, or leaves a mark.
-enum Marked {
+pub enum Marked {
     Fails,
     Mark(u32),
 }
@@ -81,7 +80,7 @@ fn give(
     hint: usize,
     j: usize,
 ) -> Moved
-    requires { ⌜ Table (now m) c × (c ≤ 4096) × (hint ≤ c) × (j < c) × (threadAt (now m) j ≡ 0) × (endAt (now m) j ≢ 0) × (answerAt (now m) j ≢ 0) ⌝ }
+    requires { ⌜ Numbered (now m) c × (c ≤ 4096) × (hint ≤ c) × (j < c) × (threadAt (now m) j ≡ 0) × (endAt (now m) j ≢ 0) × (answerAt (now m) j ≢ 0) ⌝ }
     ensures { λ r. ⌜ Moves (now (m .entry)) c j mark (now (flags .entry)) (now (flags .exit)) r ⌝ }
 {
     let i = position(m, hint, c, m[ANSWER + j]);
@@ -109,7 +108,7 @@ fn pass(
     hint: usize,
     j: usize,
 ) -> Moved
-    requires { ⌜ Table (now m) c × (c ≤ 4096) × (hint ≤ c) × (j < c) ⌝ }
+    requires { ⌜ Numbered (now m) c × (c ≤ 4096) × (hint ≤ c) × (j < c) ⌝ }
     ensures { λ r. ⌜ Moves (now (m .entry)) c j mark (now (flags .entry)) (now (flags .exit)) r ⌝ }
 {
     if m[THREAD + j] != 0 {
@@ -125,9 +124,9 @@ fn pass(
     give(m, flags, c, mark, hint, j)
 }
 
-// The pass over all calls, in starting order.
-fn marks(m: &[u32; MEMORY], flags: &mut [u32; 4_096], c: usize) -> Marked
-    requires { ⌜ Table (now m) c × (c ≤ 4096) × Given (now m) c (now flags) [] ⌝ }
+// The pass over all calls, in starting order; it flags the enqueues whose items were given.
+pub fn marks(m: &[u32; MEMORY], flags: &mut [u32; 4_096], c: usize) -> Marked
+    requires { ⌜ Numbered (now m) c × (c ≤ 4096) × Given (now m) c (now flags) [] ⌝ }
     ensures { λ r. ⌜ Marks (now (m .entry)) c (now (flags .exit)) r ⌝ }
 {
     let mut mark = 0;
@@ -147,40 +146,4 @@ fn marks(m: &[u32; MEMORY], flags: &mut [u32; 4_096], c: usize) -> Marked
         j += 1;
     }
     Marked::Mark(mark)
-}
-
-// An enqueue whose item was not given has not ended before the mark.
-fn stays(m: &[u32; MEMORY], flags: &[u32; 4_096], mark: u32, j: usize) -> bool
-    requires { ⌜ j < 4096 ⌝ }
-    ensures { λ r. ⌜ r ≡ staysAt (now (m .entry)) (now (flags .entry)) j mark ⌝ }
-{
-    let end = m[END + j];
-    (m[THREAD + j] == 0) | ((flags[j] == 1) | ((end == 0) | (mark <= end)))
-}
-
-fn all_stay(m: &[u32; MEMORY], flags: &[u32; 4_096], c: usize, mark: u32) -> bool
-    requires { ⌜ c ≤ 4096 ⌝ }
-    ensures { λ r. ⌜ ((given : List ℕ) → Given (now (m .entry)) c (now (flags .entry)) given → r ≡ leaves mark given (callsIn (now (m .entry)) c)) ⌝ }
-{
-    let mut j = 0;
-    while j < c {
-        if !stays(m, flags, mark, j) {
-            return false;
-        }
-        j += 1;
-    }
-    true
-}
-
-// The verdict on the calls that the memory holds.
-pub fn explains(m: &[u32; MEMORY], c: usize) -> bool
-    requires { ⌜ Table (now m) c × (c ≤ 4096) ⌝ }
-    ensures { λ r. ⌜ r ≡ passes (callsIn (now (m .entry)) c) (callsIn (now (m .entry)) c) 0 [] ⌝ }
-{
-    let mut flags = [0u32; 4_096];
-    let marked = marks(m, &mut flags, c);
-    match marked {
-        Marked::Fails => false,
-        Marked::Mark(mark) => all_stay(m, &flags, c, mark),
-    }
 }

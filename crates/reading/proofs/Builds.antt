@@ -4,7 +4,7 @@ use mathlib.Core.Bool.{Bool, true, false, _||_}
 use mathlib.Core.List.{[], _∷_, _++_, map}
 use Prim.Native.Nat.{ℕ, zero, suc, _<_, suc-le-suc}
 use native.Mathlib.Omega.{arith}
-use lib.ListN.{length, drop}
+use lib.ListN.{length, getD, drop}
 use Rattle.history.specs.Calls.{Call}
 use Rattle.history.specs.Form.{any}
 use Rattle.reading.specs.Build.{build}
@@ -24,6 +24,11 @@ module _ {A : Type 0} where
   pub length-build : (f : ℕ → A) (n : ℕ) → length (build f n) ≡ n
   length-build f zero = refl
   length-build f (suc n) = ap suc (length-build (λ j. f (suc j)) n)
+
+  pub getD-build : (f : ℕ → A) (n i : ℕ) (d : A) → i < n → getD (build f n) i d ≡ f i
+  getD-build f zero i d l = absurd (omega arith)
+  getD-build f (suc n) zero d l = refl
+  getD-build f (suc n) (suc i) d l = getD-build (λ j. f (suc j)) n i d (omega arith)
 
   pub drop-build : (f : ℕ → A) (n i : ℕ) → i < n → drop i (build f n) ≡ f i ∷ drop (suc i) (build f n)
   drop-build f zero i l = absurd (omega arith)

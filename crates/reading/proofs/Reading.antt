@@ -9,26 +9,25 @@ use borrow.Author.Tests.{ne-eqb, lt-ltb, le-ltb}
 use native.Mathlib.Omega.{arith}
 use lib.ListN.{length, getD, drop, length-drop}
 use lib.Seq.{drop-cons}
-use Rattle.history.specs.Event.{Event, History, decode}
+use Rattle.history.specs.Event.{Event, History, enqueueStarted, enqueueEnded, dequeueStarted, gaveItem, gaveEmpty, decode}
 use Rattle.history.specs.Calls.{calls, enter}
-use Rattle.history.specs.Form.{Reading, refused, history, follows, wellFormed, readEvent, readEvents, read}
+use Rattle.history.specs.Form.{Reading, refused, history, follows, readEvent, readEvents, read}
 use Rattle.reading.specs.declared.Entered.{Entered}
 use Rattle.reading.specs.declared.Entered.the-variants.{Refused, Calls}
-use Rattle.reading.specs.Table.{Table, callsIn}
-use Rattle.reading.specs.Steps.{Enters, Stepped, Holds, Read}
+use Rattle.reading.specs.Table.{Table, callAt, callsIn}
+use Rattle.reading.specs.Steps.{startedBy, Stepped, entered, Holds, Read}
+use Rattle.reading.proofs.Builds.{length-build}
 
 pub record Progress (ws m : List ℕ) (c k : ℕ) : Type 0 where
   pub past : History
   pub length-is : length past ≡ k
-  pub is-formed : wellFormed past ≡ true
   pub are-calls : callsIn m c ≡ calls past
   pub table : Table m c
   pub few : c ≤ k
   pub to-come : readEvents [] ws ≡ readEvents past (drop (4 * k) ws)
 
 pub none-read : (ws m : List ℕ) → Table m 0 → Progress ws m 0 0
-none-read ws m table =
-    record { past = []; length-is = refl; is-formed = refl; are-calls = refl; table = table; few = omega arith; to-come = refl }
+none-read ws m table = record { past = []; length-is = refl; are-calls = refl; table = table; few = omega arith; to-come = refl }
 
 -- the next four words
 four :
@@ -54,6 +53,12 @@ same-calls c d e = cc
 same-refusal : (n m : ℕ) → Refused n ≡ Refused m → n ≡ m
 same-refusal n m e = cc
 
+same-history : (g h : History) → history g ≡ history h → g ≡ h
+same-history g h e = cc
+
+refused-not-read : (n : ℕ) (h : History) → refused n ≡ history h → ⊥
+refused-not-read n h e = let z : _≡_ {A = ℕ} 0 1 = cc in omega arith
+
 -- an event that was taken in
 record Taken (o : Option Event) (h : History) (k c : ℕ) (m : List ℕ) (d : ℕ) : Type 0 where
   event : Event
@@ -63,36 +68,39 @@ record Taken (o : Option Event) (h : History) (k c : ℕ) (m : List ℕ) (d : �
   entered : callsIn m d ≡ enter k event (calls h)
   few : d ≤ c + 1
 
-module _ (h : History) (k : ℕ) (m : List ℕ) (c : ℕ) (m′ : List ℕ) (r : Entered) (are : callsIn m c ≡ calls h) where
-  abbrev Outcome : Event → Type 0
-  Outcome e = (c′ : ℕ) × (b : Bool) × Enters k e m c m′ c′ b × (c′ ≤ c + 1) × (r ≡ cond b (Calls c′) (Refused 13))
+at-most-one : (e : Event) (c : ℕ) → startedBy e c ≤ c + 1
+at-most-one (enqueueStarted t n v) c = omega arith
+at-most-one (enqueueEnded t n v) c = omega arith
+at-most-one dequeueStarted c = omega arith
+at-most-one (gaveItem n v) c = omega arith
+at-most-one gaveEmpty c = omega arith
 
+module _ (h : History) (k : ℕ) (m : List ℕ) (c : ℕ) (m′ : List ℕ) (r : Entered) (are : callsIn m c ≡ calls h) where
   was-taken : (o : Option Event) (d : ℕ) → Stepped o k m c m′ r → r ≡ Calls d → Taken o h k c m′ d
-  was-taken none d s e = absurd (apart 12 d (sym (s .no-event refl) ∙ e))
-  was-taken (some x) d s e = go (s .an-event x refl)
+  was-taken none d s e = absurd (apart 12 d (sym (s .replies) ∙ e))
+  was-taken (some x) d s e = go (follows x (callsIn m c)) refl (sym e ∙ s .replies)
     where
-      go : Outcome x → Taken (some x) h k c m′ d
-      go (c′, true, en, l, q) =
-          let z = same-calls c′ d (sym q ∙ e) in
+      go : (b : Bool) → follows x (callsIn m c) ≡ b → Calls d ≡ cond b (Calls (startedBy x c)) (Refused 13) → Taken (some x) h k c m′ d
+      go true f q =
+          let z = same-calls (startedBy x c) d (sym q) in
+          let en = s .enters x refl in
           record {
             event = x;
             is-event = refl;
-            follows-on = rw (← are) (sym (en .as-formed));
-            table = subst (Table m′) z (en .table refl);
-            entered = subst (λ y. callsIn m′ y ≡ enter k x (calls h)) z (subst (λ y. callsIn m′ c′ ≡ enter k x y) are (en .entered refl));
-            few = omega arith;
+            follows-on = rw are at f;
+            table = rw z at (en .table f);
+            entered = rw (z, are) at (en .entered f);
+            few = rw z at (at-most-one x c);
           }
-      go (c′, false, en, l, q) = absurd (apart 13 d (sym q ∙ e))
+      go false f q = absurd (apart 13 d (sym q))
 
   was-refused : (o : Option Event) (n : ℕ) (go : History → Reading) → Stepped o k m c m′ r → r ≡ Refused n → readEvent o h go ≡ refused n
-  was-refused none n f s e = ap refused (same-refusal 12 n (sym (s .no-event refl) ∙ e))
-  was-refused (some x) n f s e = go (s .an-event x refl)
+  was-refused none n f s e = ap refused (same-refusal 12 n (sym (s .replies) ∙ e))
+  was-refused (some x) n f s e = go (follows x (callsIn m c)) refl (sym e ∙ s .replies)
     where
-      go : Outcome x → readEvent (some x) h f ≡ refused n
-      go (c′, true, en, l, q) = absurd (apart n c′ (sym e ∙ q))
-      go (c′, false, en, l, q) =
-          let z : follows x (calls h) ≡ false = rw (← are) (sym (en .as-formed)) in
-          rw (z, readEvent) (ap refused (same-refusal 13 n (sym q ∙ e)))
+      go : (b : Bool) → follows x (callsIn m c) ≡ b → Refused n ≡ cond b (Calls (startedBy x c)) (Refused 13) → readEvent (some x) h f ≡ refused n
+      go true t q = absurd (apart n (startedBy x c) q)
+      go false t q = let z : follows x (calls h) ≡ false = rw are at t in rw (z, readEvent) (ap refused (same-refusal 13 n (sym q)))
 
   reads-on : (o : Option Event) (x : Event) (go : History → Reading) → o ≡ some x → follows x (calls h) ≡ true → readEvent o h go ≡ go (x ∷ h)
   reads-on o x go e f = rw (e, f, readEvent)
@@ -119,7 +127,6 @@ module _ (ws m : List ℕ) (c k : ℕ) (p : Progress ws m c k) (more : 4 * k + 3
         record {
           past = t .event ∷ p .past;
           length-is = sym z;
-          is-formed = rw (t .follows-on) (p .is-formed);
           are-calls = rw (← z) (t .entered);
           table = t .table;
           few = omega (arith, t .few, p .few);
@@ -138,15 +145,19 @@ no-more h (a ∷ b ∷ c ∷ []) l = refl
 no-more h (a ∷ b ∷ c ∷ d ∷ ws) l = absurd (omega arith)
 
 pub all-read :
-    (ws m : List ℕ) (c k : ℕ) → Progress ws m c k → length ws / 4 ≤ k → k ≤ length ws / 4 → Holds (readEvents [] ws) (length ws / 4) m c
-all-read ws m c k p l u = record {
-  read-as = p .past;
-  is-read = p .to-come ∙ no-more (p .past) (drop (4 * k) ws) (rw length-drop (omega arith));
-  is-formed = p .is-formed;
-  are-calls = p .are-calls;
-  table = p .table;
-  few = omega (arith, p .few);
-}
+    (ws m : List ℕ) (c k : ℕ) → Progress ws m c k → length ws / 4 ≤ k → k ≤ length ws / 4 → Read (readEvents [] ws) (length ws / 4) m (Calls c)
+all-read ws m c k p l u =
+    let is-read : readEvents [] ws ≡ history (p .past) = p .to-come ∙ no-more (p .past) (drop (4 * k) ws) (rw length-drop (omega arith)) in
+    let count : c ≡ length (calls (p .past)) = sym (length-build (callAt m) c) ∙ ap length (p .are-calls) in
+    let holds : Holds (p .past) (length ws / 4) m = record { are-calls = rw count at (p .are-calls); table = rw count at (p .table); few = omega (arith, p .few) } in
+    record {
+      replies = ap Calls count ∙ sym (ap entered is-read);
+      holds = λ h e. subst (λ g. Holds g (length ws / 4) m) (same-history (p .past) h (sym is-read ∙ e)) holds;
+    }
+
+-- The words are refused.
+pub is-refused : (x : Reading) (limit : ℕ) (m : List ℕ) (n : ℕ) → x ≡ refused n → Read x limit m (Refused n)
+is-refused x limit m n e = record { replies = sym (ap entered e); holds = λ h f. absurd (refused-not-read n h (sym e ∙ f)) }
 
 -- Refusals 10 and 11, and neither.
 module _ (entries : ℕ) (ws : List ℕ) where

@@ -6,10 +6,10 @@ use mathlib.Core.List.{List}
 use mathlib.Core.Option.{Option, none, some}
 use Prim.Native.Nat.{ℕ, zero, suc, _+_, _≤_, _<_, max}
 use lib.Dec.{eqb}
-use lib.ListN.{set}
+use lib.ListN.{length, set}
 use Rattle.history.specs.Event.{Event, History, enqueueStarted, enqueueEnded, dequeueStarted, gaveItem, gaveEmpty}
-use Rattle.history.specs.Calls.{calls, enter}
-use Rattle.history.specs.Form.{Reading, refused, history, follows, wellFormed}
+use Rattle.history.specs.Calls.{Call, calls, enter}
+use Rattle.history.specs.Form.{Reading, refused, history, follows}
 use Rattle.reading.specs.declared.Entered.{Entered}
 use Rattle.reading.specs.declared.Entered.the-variants.{Refused, Calls}
 use Rattle.reading.specs.Table.{Table, callsIn, numberAt, valueAt, topOf}
@@ -64,22 +64,36 @@ pub record Enters (k : ℕ) (e : Event) (m : List ℕ) (c : ℕ) (m′ : List �
   pub table : r ≡ true → Table m′ c′
   pub entered : r ≡ true → callsIn m′ c′ ≡ enter k e (callsIn m c)
 
--- The four words of event k are taken in, or refused with 12 or 13.
+-- How many calls have been started, c before the event.
+abbrev pub startedBy : Event → ℕ → ℕ
+startedBy (enqueueStarted t n v) c = c + 1
+startedBy (enqueueEnded t n v) c = c
+startedBy dequeueStarted c = c + 1
+startedBy (gaveItem n v) c = c
+startedBy gaveEmpty c = c
+
+-- The reply to the four words of an event after some calls: refusal 12 or 13, or how many calls have been started.
+abbrev pub answered : Option Event → List Call → (c : ℕ) → Entered
+answered none cs c = Refused 12
+answered (some e) cs c = cond (follows e cs) (Calls (startedBy e c)) (Refused 13)
+
+-- The four words of event k: the reply, and an event that is taken in is in the memory.
 pub record Stepped (o : Option Event) (k : ℕ) (m : List ℕ) (c : ℕ) (m′ : List ℕ) (r : Entered) : Type 0 where
-  pub no-event : o ≡ none → r ≡ Refused 12
-  pub an-event :
-      (e : Event) → o ≡ some e
-      → (c′ : ℕ) × (b : Bool) × Enters k e m c m′ c′ b × (c′ ≤ c + 1) × (r ≡ cond b (Calls c′) (Refused 13))
+  pub replies : r ≡ answered o (callsIn m c) c
+  pub enters : (e : Event) → o ≡ some e → Enters k e m c m′ (startedBy e c) (follows e (callsIn m c))
 
--- The memory holds the calls of the history that the words are read as, at most so many, or the words are refused.
-pub record Holds (reading : Reading) (limit : ℕ) (m : List ℕ) (c : ℕ) : Type 0 where
-  pub read-as : History
-  pub is-read : reading ≡ history read-as
-  pub is-formed : wellFormed read-as ≡ true
-  pub are-calls : callsIn m c ≡ calls read-as
-  pub table : Table m c
-  pub few : c ≤ limit
+-- The reply on what the words are read as: a refusal's number, or how many calls were started.
+abbrev pub entered : Reading → Entered
+entered (refused n) = Refused n
+entered (history h) = Calls (length (calls h))
 
-unfoldable pub Read : Reading → (limit : ℕ) → (m : List ℕ) → Entered → Type 0
-Read reading limit m (Refused n) = reading ≡ refused n
-Read reading limit m (Calls c) = Holds reading limit m c
+-- The memory holds the calls of a history, at most so many.
+pub record Holds (h : History) (limit : ℕ) (m : List ℕ) : Type 0 where
+  pub are-calls : callsIn m (length (calls h)) ≡ calls h
+  pub table : Table m (length (calls h))
+  pub few : length (calls h) ≤ limit
+
+-- The words are read: the reply, and the calls of a history are in the memory.
+pub record Read (reading : Reading) (limit : ℕ) (m : List ℕ) (r : Entered) : Type 0 where
+  pub replies : r ≡ entered reading
+  pub holds : (h : History) → reading ≡ history h → Holds h limit m

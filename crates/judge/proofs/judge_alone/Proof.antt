@@ -18,13 +18,13 @@ use prog.Wp.{Heap, WpFn, Tables}
 use ghost.Atoms.{Atoms}
 use contract.Monad.{Fun}
 use contract.Running.{givenOf, tables, tablesOf}
-use types.Kit.{Given, ‵, raw, some, later, _⊛_, ⋆, _$_, _∵_, !, qed, by, move, keep, drop, use1, use2, use3, split, split3, join, pick, rewrite, fsplit, fjoin, feqL, feqI, suffices, frame, await, done}
-use types.Run.{look, init, forget, stop, from, load, lit, addr, and-then, no-more, assigns, land, returns, enter, alloc1, alloc0, params1, pass1, pass0, free1, free0}
+use types.Kit.{Given, ‵, some, later, _⊛_, ⋆, _$_, _∵_, !, qed, by, move, keep, drop, use1, use2, use3, split, join, pick, rewrite, fsplit, fjoin, feqL, feqI, suffices, frame, await, done}
+use types.Run.{look, init, forget, stop, from, load, lit, addr, and-then, no-more, assigns, land, returns, enter, params1, pass1, pass0}
 use types.Part.{agg, rep}
 use types.Tokens.{lft-new, lft-end}
 use types.SemTy.{Arr, cells}
 use types.Share.{arr-parts}
-use sound.WpLaws.{FmC, fmOf, WpFn-mono}
+use sound.WpLaws.{fmOf, WpFn-mono}
 use denote.RattleType.{RattleType, owns}
 use denote.Laws.{Is, shows}
 use denote.Memory.{partAt, mem, shares}
@@ -40,7 +40,6 @@ use denote.Steps.{owned, peeks, heard, nothing}
 use denote.Struct.Laws as LL
 use denote.Enum.Laws as EL
 use denote.Triple.Statement.{Triple}
-use denote.Triple.Call.{calls-at}
 use denote.Triple.Entry.{onEntry}
 use denote.Triple.Spec.{Meets, tripleOf}
 use denote.Triple.Table.{entered, cited}
@@ -50,13 +49,14 @@ use borrow.Table.OneValue.{part-in, part-out}
 use Rattle.history.specs.Form.{read}
 use Rattle.judge.specs.declared.Call.{Call}
 use Rattle.judge.specs.declared.Verdict.{Verdict}
-use Rattle.judge.specs.Answer.{Replied, Judges}
+use Rattle.judge.specs.Answer.{reply, Judges}
+use Rattle.judge.specs.Working.{noCall}
 use Rattle.judge.proofs.Call as call
 use Rattle.judge.proofs.Call.Laws as call-laws
 use Rattle.judge.proofs.Verdict as verdict
 use Rattle.judge.proofs.Verdict.Laws as verdict-laws
-use Rattle.judge.proofs.Walking.{Entry, noCall, typeAt, use4, big-lit}
-use Rattle.judge.proofs.Calling.{Judge, to-judge, asked-judge, Came}
+use Rattle.judge.proofs.Walking.{Entry, typeOf, span, big-lit, allocates, frees-all, By, calls-by}
+use Rattle.judge.proofs.judge as judge
 use Rattle.judge.proofs.judge.Symbol as judge-def
 use Rattle.judge.proofs.judge.Met as judge-thm
 use Rattle.judge.proofs.judge_alone.Key.{name as #judge·judge-alone}
@@ -83,7 +83,7 @@ room e = subst (Room Entry) (sym e) (lit< tt, lit< tt)
 abbrev stayed : Stays (alone.ended .signature .params) (alone.ended .kept)
 stayed = (stay-dropped (shrSliceOf (0 ∷ []) tt (plain (λ _. u32))) yes, tt)
 
-module _ {M : Type 1} (𝓤 : URA M) (H : Heap 𝓤) (A : Atoms 𝓤) (W : Given 𝓤 H A) (mem′ : Memory → SProp 𝓤) (run : Routine → Fun 𝓤) (𝓣 : Tables 𝓤 H) (known : Triple 𝓤 (𝓣 .C judge-def.name) (Judge 𝓤 H A mem′ run)) where
+module _ {M : Type 1} (𝓤 : URA M) (H : Heap 𝓤) (A : Atoms 𝓤) (W : Given 𝓤 H A) (mem′ : Memory → SProp 𝓤) (run : Routine → Fun 𝓤) (𝓣 : Tables 𝓤 H) (known : Triple 𝓤 (𝓣 .C judge-def.name) (By 𝓤 H A judge.ended (judge.clauses 𝓤 H A mem′ run))) where
   module _ (κ : Lft) (q : Share) (h : RefT (List ℕ)) (roomₕ : Room u32 (length (now h))) where
     abbrev hs : List ℕ
     hs = now h
@@ -95,10 +95,7 @@ module _ {M : Type 1} (𝓤 : URA M) (H : Heap 𝓤) (A : Atoms 𝓤) (W : Given
     abbrev Post : Val → SProp 𝓤
     Post = walkOf 𝓤 H A alone.ended stayed (alone.clauses 𝓤 H A mem′ run) .post (((κ, tt), (q, tt), tt, (h, tt), (slice-vals h, tt)), tt)
 
-    fm : FmC 𝓤 H (W .laws) (𝓣 .C)
-    fm = fmOf 𝓤 H (W .laws) 𝓣
-
-    exits : (r : Verdict) (v : Val) → Replied (read 4096 hs) r → ent 𝓤 (⋆ 𝓤 H A (‵ (verdict.the-row .own r (v ∷ [])) ∷ ‵ (flft κ q) ∷ [])) (Post v)
+    exits : (r : Verdict) (v : Val) → r ≡ reply (read 4096 hs) → ent 𝓤 (⋆ 𝓤 H A (‵ (verdict.the-row .own r (v ∷ [])) ∷ ‵ (flft κ q) ∷ [])) (Post v)
     exits r v replied =
         qed W (‵ (verdict.the-row .own r (v ∷ [])) ∷ ‵ (flft κ q) ∷ []) ∵
         suffices ! _ (ends-at 𝓤 H A alone.ended stayed (alone.clauses 𝓤 H A mem′ run) W (((κ, tt), (q, tt), tt, (h, tt), (slice-vals h, tt)), tt) v r (tt, tt) (tt, tt)) $ says ! replied $
@@ -107,11 +104,9 @@ module _ {M : Type 1} (𝓤 : URA M) (H : Heap 𝓤) (A : Atoms 𝓤) (W : Given
     walk : ent 𝓤 (onEntry 𝓤 H A alone.signature (κ, tt) (q, tt) (h, tt) (slice-vals h, tt)) (WpFn 𝓤 H (𝓣 .C) (𝓣 .Λ) code.function (sliceVal (ptr h) (length hs) ∷ []) Post)
     walk =
         qed W ((‵ (flft κ q) ⊛ ‵ ftrue) ∷ ‵ (owns (ShrSlice (named 0) κ u32 ∷ []) (h, tt) (slice-vals h, tt)) ∷ []) ∵ enter ! (𝓣 .C) (𝓣 .Λ) code.function (sliceVal (ptr h) (length hs) ∷ []) _ $
-        alloc1 ! (λ l₀. alloc1 ! (λ l₁. alloc1 ! (λ l₂. alloc1 ! (λ l₃. alloc1 ! (λ l₄. alloc1 ! (λ l₅. alloc0 ! $ params1 ! $
-        pass1 ! (init ! 8 refl (tt, (tt, (record { fits = roomₕ .0 }, tt)))) $ pass0 ! $
-        move ! (12 ∷ 13 ∷ []) $ split ! $ move ! (2 ∷ []) $ fsplit ! $
-        -- [what the history owns; κ; _0 to _5; that each dies]
-        keep ! (0 ∷ 2 ∷ 14 ∷ 12 ∷ 10 ∷ 8 ∷ 6 ∷ 4 ∷ 15 ∷ 13 ∷ 11 ∷ 9 ∷ 7 ∷ 5 ∷ []) $
+        allocates ! (code.function .locals) (λ l. params1 ! $ pass1 ! (init ! 1 refl (tt, (tt, (record { fits = roomₕ .0 }, tt)))) $ pass0 ! $
+        move ! (12 ∷ 13 ∷ []) $ split ! $ move ! (2 ∷ []) $ fsplit ! $ move ! (1 ∷ 3 ∷ []) $ drop ! $ drop ! $
+        -- [what the history owns; κ; the locals, …]
         assigns ! (agg ! (and-then ! (lit ! tt) (and-then ! (lit ! tt) (and-then ! (lit ! tt) (and-then ! (lit ! tt) (no-more !)))))) (from ! (stop !)) (init ! 5 refl (LL.lawful call.the-type call-laws.the-laws 𝓤 H A W .typed noCall _ is-entry .0)) $
         owned ! Entry (Is Entry) (LL.makes call.the-type call-laws.the-plain 𝓤 H A) noCall _ is-entry $
         use1 W (‵ (Entries .own ys _)) (array-repeat 𝓤 H A W Entry (LL.copy call.the-type call-laws.the-copy 𝓤 H A W) 4096 noCall v₀) $
@@ -120,29 +115,26 @@ module _ {M : Type 1} (𝓤 : URA M) (H : Heap 𝓤) (A : Atoms 𝓤) (W : Given
         assigns ! (addr ! (from ! (stop !))) (from ! (stop !)) (init ! 7 refl (tt, tt)) $
         assigns ! (agg ! (and-then ! (load ! (from ! (stop !)) (look ! 7 refl)) (and-then ! (big-lit ! (record { fits = lit< tt })) (no-more !)))) (from ! (stop !)) (init ! 8 refl (tt, (tt, (record { fits = lit< tt }, tt)))) $
         -- the array is taken apart into its entries, which are lent for α
-        move ! (5 ∷ 0 ∷ []) $ use2 W (‵ (partAt Entries fullShare ys l₂ 0)) (part-in 𝓤 H A W Entries refl fullShare ys l₂ 0 _) $
-        use1 W (‵ (arr-parts (shares Entry) 4096 .part fullShare ys l₂ 0)) (array-apart 𝓤 H A W Entry fullShare tt 4096 ys l₂ 0) $ fsplit ! $ feqL ! (λ e.
-        use1 W (‵ (cells (mem Entry) ys l₂ 0)) (whole-in 𝓤 H A W Entry ys l₂ 0) $ rewrite ! 7 (λ (n : ℕ). ‵ (fat fullShare (typeAt (code.function .locals) 5) l₅ 0 (sliceVal (l₂, 0) n))) (sym e) refl $
+        move ! (5 ∷ 0 ∷ []) $ use2 W (‵ (partAt Entries fullShare ys (l 2) 0)) (part-in 𝓤 H A W Entries refl fullShare ys (l 2) 0 _) $
+        use1 W (‵ (arr-parts (shares Entry) 4096 .part fullShare ys (l 2) 0)) (array-apart 𝓤 H A W Entry fullShare tt 4096 ys (l 2) 0) $ fsplit ! $ feqL ! (λ e.
+        use1 W (‵ (cells (mem Entry) ys (l 2) 0)) (whole-in 𝓤 H A W Entry ys (l 2) 0) $ rewrite ! 7 (λ (n : ℕ). ‵ (fat fullShare (typeOf (code.function .locals) 5) (l 5) 0 (sliceVal (l 2, 0) n))) (sym e) refl $
         lft-new ! tt (λ α. move ! (1 ∷ []) $
-        use1 W (later (some (λ (γ : GName). ‵ (MutSlice (named 1) (α ∷ []) Entry .own (x l₂ γ) (slice-vals (x l₂ γ))) ⊛ ‵ (flent (α ∷ []) (Held Entry (length ys) l₂ 0 γ))))) (lends-slice 𝓤 H A W Entry (named 1) (α ∷ []) ys l₂ 0 (room e)) $ await ! tt $ pick ! (λ γ. split ! $
-        -- [what the table owns; the lender's part; α; what the history owns; κ; …]
-        move ! (4 ∷ 2 ∷ 3 ∷ 0 ∷ []) $ use4 W (raw (Judge 𝓤 H A mem′ run .pre (to-judge 𝓤 H A mem′ run κ (α ∷ []) q fullShare h (x l₂ γ)))) (asked-judge 𝓤 H A mem′ run κ (α ∷ []) q fullShare h (x l₂ γ) W) $
-        calls-at ! fm (Judge 𝓤 H A mem′ run) known (to-judge 𝓤 H A mem′ run κ (α ∷ []) q fullShare h (x l₂ γ)) (and-then ! (load ! (from ! (stop !)) (look ! 3 refl)) (and-then ! (load ! (from ! (stop !)) (look ! 6 refl)) (no-more !))) (λ v.
-        use1 W (Came 𝓤 H A mem′ run κ (α ∷ []) q fullShare h (x l₂ γ) v) (id⊢ 𝓤 _) $ await ! tt $ pick ! (λ r. split ! $ move ! (1 ∷ []) $ pick ! (λ lasts. let zs : List Call = lasts .1 .0 in split ! $ move ! (1 ∷ []) $ heard ! (Judges hs ys zs r) (λ judged.
-        fsplit ! $ drop ! $ fsplit ! $ fsplit ! $ move ! (3 ∷ []) $ split ! $ split3 ! $ move ! (3 ∷ []) $
-        -- [the verdict; κ; α; true; the table's last entries; their length; true; the lender's part; …]
+        use1 W (later (some (λ (γ : GName). ‵ (MutSlice (named 1) (α ∷ []) Entry .own (x (l 2) γ) (slice-vals (x (l 2) γ))) ⊛ ‵ (flent (α ∷ []) (Held Entry (length ys) (l 2) 0 γ))))) (lends-slice 𝓤 H A W Entry (named 1) (α ∷ []) ys (l 2) 0 (room e)) $ await ! tt $ pick ! (λ γ. split ! $
+        -- [what the table owns; the lender's part; α; what the history owns; κ; the locals without _2, …]
+        move ! (4 ∷ 2 ∷ 3 ∷ 0 ∷ []) $
+        calls-by 𝓤 H A judge.ended (judge.clauses 𝓤 H A mem′ run) (((κ, (α ∷ [], tt)), (q, (fullShare, tt)), tt, (h, (x (l 2) γ, tt)), (slice-vals h, (slice-vals (x (l 2) γ), tt))), tt) W (fmOf 𝓤 H (W .laws) 𝓣) known (id⊢ 𝓤 (emp 𝓤)) !
+        (and-then ! (load ! (from ! (stop !)) (look ! 3 refl)) (and-then ! (load ! (from ! (stop !)) (look ! 6 refl)) (no-more !))) (λ v r lasts. let zs : List Call = lasts .1 .0 in heard ! (Judges hs ys zs r) (λ judged.
         peeks ! verdict.the-row (Is verdict.the-row) (shows 𝓤 H A verdict.the-row) r (v ∷ []) (λ is.
-        land ! (from ! (stop !)) (init ! 8 refl (EL.lawful verdict.the-type verdict-laws.the-laws 𝓤 H A W tt .typed r _ is .0)) $
-        -- α is over, and the array is there to be freed
-        move ! (2 ∷ []) $ lft-end ! tt $ move ! (0 ∷ 7 ∷ 4 ∷ []) $
-        use3 W (later (‵ (Arr (mem Entry) (length ys) .lies zs l₂ 0))) (slice-back 𝓤 H A W Entry (α ∷ []) γ zs (length ys) l₂ 0) $ await ! tt $ fsplit ! $ feqL ! (λ e′.
-        use1 W (‵ (row Entry fullShare zs l₂ 0)) (whole-out 𝓤 H A W Entry zs l₂ 0) $ feqI ! ℕ (length zs) 4096 (e′ ∙ e) $ fjoin ! $
-        use1 W (‵ (partAt Entries fullShare zs l₂ 0)) (array-whole 𝓤 H A W Entry fullShare 4096 zs l₂ 0) $
-        use1 W (some (λ (u : Val). ‵ (fat fullShare _ l₂ 0 u) ⊛ ‵ (Entries .own zs (u ∷ [])))) (part-out 𝓤 H A W Entries refl fullShare zs l₂ 0) $ pick ! (λ u. split ! $ move ! (1 ∷ []) $ drop ! $
-        -- [_2; the verdict; κ; true; the length; true; _0; _1; _3 to _5; that each dies]
-        returns ! (look ! 6 refl) $ forget ! 0 refl $ forget ! 6 refl $ forget ! 7 refl $ forget ! 8 refl $ forget ! 9 refl $ forget ! 10 refl $
-        move ! (6 ∷ 11 ∷ []) $ free1 ! $ move ! (6 ∷ 10 ∷ []) $ free1 ! $ move ! (0 ∷ 9 ∷ []) $ free1 ! $ move ! (5 ∷ 8 ∷ []) $ free1 ! $ move ! (5 ∷ 7 ∷ []) $ free1 ! $ move ! (5 ∷ 6 ∷ []) $ free1 ! $ free0 ! $
-        keep ! (0 ∷ 1 ∷ []) $ by ! (exits r v (subst (λ (n : ℕ). Replied (read n hs) r) e (judged .replies))))))))))))))))))))
+        land ! (from ! (stop !)) (init ! 5 refl (EL.lawful verdict.the-type verdict-laws.the-laws 𝓤 H A W tt .typed r _ is .0)) $ move ! (1 ∷ []) $ fsplit ! $ drop ! $ fsplit ! $ fsplit ! $
+        -- [the table's last entries; their length; true; the verdict; κ; α; the lender's part; …] α is over, and the array is there to be freed
+        move ! (5 ∷ []) $ lft-end ! tt $ move ! (0 ∷ 6 ∷ 1 ∷ []) $
+        use3 W (later (‵ (Arr (mem Entry) (length ys) .lies zs (l 2) 0))) (slice-back 𝓤 H A W Entry (α ∷ []) γ zs (length ys) (l 2) 0) $ await ! tt $ fsplit ! $ feqL ! (λ e′.
+        use1 W (‵ (row Entry fullShare zs (l 2) 0)) (whole-out 𝓤 H A W Entry zs (l 2) 0) $ feqI ! ℕ (length zs) 4096 (e′ ∙ e) $ fjoin ! $
+        use1 W (‵ (partAt Entries fullShare zs (l 2) 0)) (array-whole 𝓤 H A W Entry fullShare 4096 zs (l 2) 0) $
+        use1 W (some (λ (u : Val). ‵ (fat fullShare _ (l 2) 0 u) ⊛ ‵ (Entries .own zs (u ∷ [])))) (part-out 𝓤 H A W Entries refl fullShare zs (l 2) 0) $ pick ! (λ u. split ! $ move ! (1 ∷ []) $ drop ! $
+        -- [_2; the length; true; the verdict; κ; the other locals, …]
+        returns ! (look ! 5 refl) $ forget ! 0 refl $ forget ! 5 refl $ forget ! 6 refl $ forget ! 7 refl $ forget ! 8 refl $ forget ! 9 refl $
+        move ! (5 ∷ 6 ∷ 0 ∷ span 7 9) $ frees-all ! (code.function .locals) l $ keep ! (2 ∷ 3 ∷ []) $ by ! (exits r v (subst (λ (n : ℕ). r ≡ reply (read n hs)) e (judged .replies)))))))))))))
 
   alone-walks : Walks 𝓤 H A alone.ended stayed (WpFn 𝓤 H (𝓣 .C) (𝓣 .Λ) code.function) (alone.clauses 𝓤 H A mem′ run)
   alone-walks = walked 𝓤 H A alone.ended stayed (alone.clauses 𝓤 H A mem′ run) (WpFn 𝓤 H (𝓣 .C) (𝓣 .Λ) code.function) (λ κs. (slice-vals, tt)) (λ κs. (shr-slice-tells (named 0) (κs .0) u32, tt))
@@ -160,4 +152,4 @@ judge-alone-spec 𝓤 H 𝓜 𝓖 𝓡 =
     entered 𝓤 H (tripleOf 𝓤 H (𝓖 .A) alone.signature (alone.spec 𝓤 H (𝓖 .A) (𝓜 .mem) (𝓡 .run)))
     (tables 𝓤 H 𝓜 𝓡 code.env .C) (tables 𝓤 H 𝓜 𝓡 code.env .Λ) #judge·judge-alone code.function (code.unfolded 𝓤 H 𝓜 𝓡)
     (alone-meets 𝓤 H (𝓖 .A) (givenOf 𝓤 H 𝓜 𝓖) (𝓜 .mem) (𝓡 .run) (tablesOf 𝓤 H 𝓜 (tables 𝓤 H 𝓜 𝓡 code.env))
-    (cited 𝓤 H (Judge 𝓤 H (𝓖 .A) (𝓜 .mem) (𝓡 .run)) 𝓜 𝓡 code.env judge-def.name judge-def.routine code.calls-judge·judge (judge-thm.met 𝓤 H 𝓜 𝓖 𝓡)))
+    (cited 𝓤 H (By 𝓤 H (𝓖 .A) judge.ended (judge.clauses 𝓤 H (𝓖 .A) (𝓜 .mem) (𝓡 .run))) 𝓜 𝓡 code.env judge-def.name judge-def.routine code.calls-judge·judge (judge-thm.met 𝓤 H 𝓜 𝓖 𝓡)))

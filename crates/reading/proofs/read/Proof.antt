@@ -1,27 +1,24 @@
 -- `reading::read` meets its contract. Assumes nothing.
 use native.Mathlib.Omega.{arith}
 use denote.Ref.{now}
-use Rattle.reading.specs.Steps.{Read}
-use Rattle.reading.proofs.Reading.{no-multiple, too-many, too-few-entries, reads-all, same-reading}
+use Rattle.reading.proofs.Reading.{is-refused, no-multiple, too-many, too-few-entries, reads-all, same-reading}
 use borrow.Author.Needs.{needs}
 use Rattle.reading.proofs.read.Statement.{statement}
 use Rattle.reading.proofs.read.Tie as tie
 
 returns : tie.Need-returns
-unfolding Read
-returns c = no-multiple _ _ (c .if1 .taken)
+returns c = is-refused _ _ _ _ (no-multiple _ _ (c .if1 .taken))
 
 returns-2 : tie.Need-returns-2
-unfolding Read
 returns-2 c =
     let a = c .before .before .before .args in
-    too-many (a .entries) (now (a .history)) (c .before .if1 .left) (omega (arith, c .if2 .taken))
+    is-refused _ _ _ _ (too-many (a .entries) (now (a .history)) (c .before .if1 .left) (omega (arith, c .if2 .taken)))
 
 returns-3 : tie.Need-returns-3
-unfolding Read
 returns-3 c =
     let a = c .before .before .before .before .args in
-    too-few-entries (a .entries) (now (a .history)) (c .before .before .if1 .left) (omega (arith, c .before .if2 .left)) (omega (arith, c .if3 .taken))
+    is-refused _ _ _ _
+    (too-few-entries (a .entries) (now (a .history)) (c .before .before .if1 .left) (omega (arith, c .before .if2 .left)) (omega (arith, c .if3 .taken)))
 
 read-events-requires : tie.Need-read-events-requires
 read-events-requires c κs = search needs

@@ -1,9 +1,8 @@
 -- `reading::read_events` meets its contract. Assumes nothing.
-use Rattle.reading.specs.Steps.{Read}
 use Prim.Native.Nat.{_≤_, _-_}
 use native.Mathlib.Omega.{arith}
 use borrow.Author.Needs.{needs}
-use Rattle.reading.proofs.Reading.{Progress, none-read, event-refused, event-read, all-read}
+use Rattle.reading.proofs.Reading.{Progress, none-read, event-refused, event-read, all-read, is-refused}
 use Rattle.reading.proofs.read_events.Statement.{statement}
 use Rattle.reading.proofs.read_events.Tie as tie
 
@@ -65,9 +64,9 @@ enum-known-e : tie.Need-enum-known-e Inv-loop μ-loop
 enum-known-e c = search needs
 
 returns : tie.Need-returns Inv-loop μ-loop
-unfolding Read
 returns c =
-    event-refused _ _ _ _ (c .before .before .before .before .before .before .before .before .before .before .loop .inv .0) (omega arith) _ _ (c .before .before .before .step .ensures) _ (c .before .e .given .1)
+    is-refused _ _ _ _
+    (event-refused _ _ _ _ (c .before .before .before .before .before .before .before .before .before .before .loop .inv .0) (omega arith) _ _ (c .before .before .before .step .ensures) _ (c .before .e .given .1))
 
 enum-known-e-2 : tie.Need-enum-known-e-2 Inv-loop μ-loop
 enum-known-e-2 c = search needs
@@ -85,7 +84,6 @@ loop-again c = (
 )
 
 returns-2 : tie.Need-returns-2 Inv-loop μ-loop
-unfolding Read
 returns-2 c = all-read _ _ _ _ (c .before .loop .inv .0) (c .loop-test .left) (c .before .loop .inv .1)
 
 pub read-events-spec : {M : Type 1} → statement M

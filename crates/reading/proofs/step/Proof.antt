@@ -3,7 +3,7 @@ use mathlib.Core.Path.{sym, _∙_}
 use native.Mathlib.Omega.{arith}
 use borrow.Author.Tests.{not-true, not-false}
 use Rattle.reading.proofs.Forms.{start-formed, end-formed}
-use Rattle.reading.proofs.Stepping.{not-formed, taken-in, turned-down}
+use Rattle.reading.proofs.Stepping.{not-formed, starts-one, starts-none, taken-in, turned-down}
 use borrow.Author.Needs.{needs}
 use Rattle.reading.proofs.step.Statement.{statement}
 use Rattle.reading.proofs.step.Tie as tie
@@ -29,12 +29,12 @@ add-t13 c = search needs
 returns-2 : tie.Need-returns-2
 returns-2 c =
     let f = start-formed _ _ _ _ (sym (c .before .before .before .before .before .before .formed .ensures) ∙ not-false _ (c .before .before .before .before .before .if1 .left)) (sym (c .before .before .before .before .starts .ensures) ∙ c .before .before .before .if2 .taken) in
-    taken-in _ _ _ _ _ _ _ _ (f .0) (omega arith) (c .before .start .ensures) (c .if3 .taken)
+    taken-in _ _ _ _ _ _ _ _ (f .0) (starts-one _ _ _ _ (f .0) _) (c .before .start .ensures) (c .if3 .taken)
 
 returns-3 : tie.Need-returns-3
 returns-3 c =
     let f = start-formed _ _ _ _ (sym (c .before .before .before .before .before .before .formed .ensures) ∙ not-false _ (c .before .before .before .before .before .if1 .left)) (sym (c .before .before .before .before .starts .ensures) ∙ c .before .before .before .if2 .taken) in
-    turned-down _ _ _ _ _ _ _ _ (f .0) (omega arith) (c .before .start .ensures) (c .if3 .left)
+    turned-down _ _ _ _ _ _ _ _ (f .0) (starts-one _ _ _ _ (f .0) _) (c .before .start .ensures) (c .if3 .left)
 
 finish-requires : tie.Need-finish-requires
 finish-requires c κs =
@@ -45,12 +45,12 @@ finish-requires c κs =
 returns-4 : tie.Need-returns-4
 returns-4 c =
     let f = end-formed _ _ _ _ (sym (c .before .before .before .before .before .before .formed .ensures) ∙ not-false _ (c .before .before .before .before .before .if1 .left)) (sym (c .before .before .before .before .starts .ensures) ∙ c .before .before .before .if2 .left) in
-    taken-in _ _ _ _ _ _ _ _ (f .0) (omega arith) (c .before .finish .ensures) (c .if4 .taken)
+    taken-in _ _ _ _ _ _ _ _ (f .0) (starts-none _ _ _ _ (f .0) _) (c .before .finish .ensures) (c .if4 .taken)
 
 returns-5 : tie.Need-returns-5
 returns-5 c =
     let f = end-formed _ _ _ _ (sym (c .before .before .before .before .before .before .formed .ensures) ∙ not-false _ (c .before .before .before .before .before .if1 .left)) (sym (c .before .before .before .before .starts .ensures) ∙ c .before .before .before .if2 .left) in
-    turned-down _ _ _ _ _ _ _ _ (f .0) (omega arith) (c .before .finish .ensures) (c .if4 .left)
+    turned-down _ _ _ _ _ _ _ _ (f .0) (starts-none _ _ _ _ (f .0) _) (c .before .finish .ensures) (c .if4 .left)
 
 pub step-spec : {M : Type 1} → statement M
 step-spec =
