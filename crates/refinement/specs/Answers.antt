@@ -7,19 +7,20 @@ use Prim.Native.Nat.{ℕ, zero, suc, _+_, _*_, _≤_, _<_}
 use native.Mathlib.Omega.{arith}
 use lib.Dec.{leb, ltb, eqb}
 use lib.ListN.{length, getD}
-use borrow.Author.Tests.{leb-true, ltb-true, ltb-false, eqb-true, eqb-false, not-false}
+use borrow.Author.Tests.{leb-true, ltb-true, ltb-false, eqb-false, not-false}
 use Rattle.history.specs.Lists.{All}
 use Rattle.rules.specs.Sizes.{Sizes, sizesInRange, mostPlace, storeWords}
-use Rattle.rules.specs.Cell.{Reader, reader, Write, content, consumer, producer, tailRecord, headRecord, held, claimed, cursorRecord, foundRecord, cursorPosition, foundPosition, consumerPhase, headPosition, tail, starts, state, phase, position, backed, place, next, prev, used, part, _:=_, clearProducer}
-use Rattle.rules.specs.Range.{Sort, unused, exactly, number, link, record-number, most, any, ofSort, ofSorts, threadInRange, consumerSorts, producerSorts, inRange}
+use Rattle.rules.specs.Cell.{Reader, reader, Write, tailRecord, headRecord, held, claimed, cursorRecord, foundRecord, cursorPosition, foundPosition, consumerPhase, headPosition, tail, starts, state, phase, position, backed, place, next, prev, _:=_, clearProducer}
+use Rattle.rules.specs.Range.{inRange}
 use Rattle.rules.specs.Free.{Picker, Picks, Choice}
-use Rattle.rules.specs.Rule.{Reply, ok, started, going, ended, empty, item, Answer, refuse, reply, need, upTo, within, index, cross, atEnd}
+use Rattle.rules.specs.Rule.{Reply, ok, started, going, ended, empty, item, Answer, refuse, reply, need, upTo, within, index, atEnd}
 use Rattle.rules.specs.Producer.{linked, takePosition, loadTail, lookNext, claimRecord, linkClaimed, shiftTail, goBack, writeEntry, setEntry, claimAhead, linkAhead, producerRules, producerStep}
-use Rattle.rules.specs.Consumer.{byState, front, readTail, scan, readEntry, rescanned, rescan, readItem, markHandled, consumerRules, consumerStep}
+use Rattle.rules.specs.Consumer.{byState, front, readTail, scan, readEntry, rescan, readItem, markHandled, consumerRules, consumerStep}
 use Rattle.rules.specs.Request.{Request, startEnqueue, startDequeue, step, startingEnqueue, startingDequeue, stepping, answer, sizesOf, admitted}
-use Rattle.rules.specs.Update.{both, neither, true-false}
+use Rattle.rules.specs.Update.{both, neither}
 use Rattle.rules.specs.Readback.{WriteThere}
-use Rattle.rules.specs.InRange.{InRange, sortOf, range-has}
+use Rattle.rules.specs.InRange.{InRange, range-has}
+use Rattle.refinement.specs.RecordNumbers.{isLink, links, consumer-link, producer-link, content-link, part-link}
 
 -- The three kinds of replies: ok, a call number, a step's.
 abbrev pub kindOf : Reply → ℕ
@@ -38,66 +39,6 @@ kindFor (step t) = 2
 abbrev pub Sound : Sizes → Request → Answer → Type 0
 Sound z q (refuse n) = (1 ≤ n) × (n ≤ 9)
 Sound z q (reply r ws) = (kindOf r ≡ kindFor q) × All (WriteThere z) ws
-
--- a sort that allows record numbers alone
-isLink : Sort → Bool
-isLink unused = true
-isLink (exactly n) = false
-isLink number = false
-isLink link = true
-isLink record-number = true
-isLink (most n) = false
-isLink any = false
-
-link-most : (z : Sizes) (s : Sort) (x : ℕ) → isLink s ≡ true → ofSort z s x ≡ true → x ≤ z .N
-unfolding isLink
-link-most z unused x l e = omega (arith, eqb-true x 0 e)
-link-most z (exactly n) x l e = absurd (true-false l refl)
-link-most z number x l e = absurd (true-false l refl)
-link-most z link x l e = leb-true x (z .N) e
-link-most z record-number x l e = leb-true x (z .N) (both (leb 1 x) (leb x (z .N)) e .1)
-link-most z (most n) x l e = absurd (true-false l refl)
-link-most z any x l e = absurd (true-false l refl)
-
--- A word that is a record number in every phase is at most N.
-link-at : (z : Sizes) (row : ℕ → ℕ) (i j k : ℕ) (ss : List Sort) → i + j ≡ k → isLink (getD ss j any) ≡ true → ofSorts z row i ss ≡ true → row k ≤ z .N
-unfolding isLink
-link-at z row i j k [] q l e = absurd (true-false l refl)
-link-at z row i zero k (s ∷ ss) q l e =
-    let p : i ≡ k = omega arith in
-    rw (← p) (link-most z s (row i) l (both (ofSort z s (row i)) (ofSorts z row (suc i) ss) e .0))
-link-at z row i (suc j) k (s ∷ ss) q l e =
-    link-at z row (suc i) j k ss (omega arith) l (both (ofSort z s (row i)) (ofSorts z row (suc i) ss) e .1)
-
-links : (k : ℕ) → List (List Sort) → Bool
-links k [] = true
-links k (ss ∷ table) = isLink (getD ss k any) && links k table
-
-links-at : (k : ℕ) (table : List (List Sort)) (p : ℕ) → links k table ≡ true → p < length table → isLink (getD (getD table p []) k any) ≡ true
-unfolding links
-links-at k [] p l h = absurd (omega arith)
-links-at k (ss ∷ table) zero l h = both (isLink (getD ss k any)) (links k table) l .0
-links-at k (ss ∷ table) (suc p) l h = links-at k table p (both (isLink (getD ss k any)) (links k table) l .1) (omega arith)
-
-thread-link : (z : Sizes) (last : ℕ) (table : List (List Sort)) (row : ℕ → ℕ) (k : ℕ) → links k table ≡ true → suc last ≡ length table
-    → threadInRange z last table row ≡ true → row (suc k) ≤ z .N
-thread-link z last table row k l n e =
-    let b = both (leb (row 0) last) (ofSorts z row 1 (getD table (row 0) [])) e in
-    let p = leb-true (row 0) last (b .0) in
-    link-at z row 1 k (suc k) (getD table (row 0) []) (omega arith) (links-at k table (row 0) l (omega arith)) (b .1)
-
-module _ {z : Sizes} {σ : Reader} (range : InRange z σ) where
-  consumer-link : (k : ℕ) → links k consumerSorts ≡ true → σ (consumer (suc k)) ≤ z .N
-  consumer-link k l = thread-link z 7 consumerSorts (λ j. σ (consumer j)) k l refl (range .consuming)
-
-  producer-link : (t : ℕ) → (1 ≤ t) × (t ≤ z .P) → (k : ℕ) → links k producerSorts ≡ true → σ (producer t (suc k)) ≤ z .N
-  producer-link t a k l = thread-link z 11 producerSorts (λ j. σ (producer t j)) k l refl (range .producing t (a .0) (a .1))
-
-  content-link : (k : ℕ) → k < 16 → isLink (sortOf z (content k)) ≡ true → σ (content k) ≤ z .N
-  content-link k h l = link-most z (sortOf z (content k)) (σ (content k)) l (range .words (content k) h)
-
-  part-link : (r k : ℕ) → (r < z .N) × (k < 4) → isLink (sortOf z (part r k)) ≡ true → σ (part r k) ≤ z .N
-  part-link r k h l = link-most z (sortOf z (part r k)) (σ (part r k)) l (range .words (part r k) h)
 
 -- To show that an answer is sound, show it at each leaf.
 by-cond : (z : Sizes) (q : Request) (b : Bool) (a c : Answer) → (b ≡ true → Sound z q a) → (b ≡ false → Sound z q c) → Sound z q (cond b a c)

@@ -13,7 +13,7 @@ use Rattle.history.specs.Lists.{All}
 use Rattle.rules.specs.Sizes.{Sizes, between, sizesInRange, storeWords}
 use Rattle.rules.specs.Free.{Picker, Picks}
 use Rattle.rules.specs.Rule.{Answer, refuse, reply}
-use Rattle.rules.specs.Request.{Request, Result, applied, openWrites, opened, open-store, answer, sizesOf, admitted, result}
+use Rattle.rules.specs.Request.{Request, applied, openWrites, opened, open-store, answer, sizesOf, admitted, result}
 use Rattle.rules.specs.Update.{both}
 use Rattle.rules.specs.Readback.{WriteThere, length-writes, drop-writes}
 use Rattle.rules.specs.Refusal.{by-open}
@@ -61,6 +61,7 @@ opened-beyond z m e l =
     (length-writes z o (openWrites z) ∙ simp (length-append, length-replicate, length-drop) (omega arith))
     (drop-writes z o (openWrites z) there ∙ drop-at (replicate n 0) (drop n m) n (length-replicate n 0))
 
+-- Every call, on any words m.
 pub words-beyond : (pick : Picker) → Picks pick → (m : List ℕ)
     → ((z : Sizes) → Beyond z m (open-store z m .words)) × ((q : Request) → Beyond (sizesOf m) m (result pick q m .words))
 unfolding result

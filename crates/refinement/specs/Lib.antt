@@ -1,3 +1,4 @@
+pub mod RecordNumbers
 pub mod Answers
 pub mod Beyond
 pub mod Calls

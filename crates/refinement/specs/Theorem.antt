@@ -1,19 +1,17 @@
 -- Calls that meet their contracts do what `play` says, so demand 3 holds of them; and what C gets of a call determines its response.
 use mathlib.Core.Path.{_≡_, refl, ap, sym, _∙_, subst}
 use mathlib.Core.Logic.{_≢_}
-use mathlib.Core.Bool.{cond}
-use mathlib.Core.List.{List, [], _∷_, _++_, map}
+use mathlib.Core.List.{List, [], _∷_, map}
 use Prim.Native.Nat.{ℕ, _≤_}
 use native.Mathlib.Omega.{arith}
-use lib.Dec.{eqb}
 use lib.ListN.{length, getD, set, length-set}
 use lib.Seq.{getD-set-same, getD-set-other}
 use borrow.Author.Tests.{ne-eqb}
 use Rattle.history.specs.Lists.{All}
 use Rattle.rules.specs.Sizes.{Sizes}
 use Rattle.rules.specs.Free.{lowestFree}
-use Rattle.rules.specs.Rule.{Reply, Response, refused, accepted, ok, started, going, ended, empty, item, Answer, refuse, reply}
-use Rattle.rules.specs.Request.{Request, startEnqueue, startDequeue, step, Result, applied, answer, open-store, opened, sizesOf, admitted, result}
+use Rattle.rules.specs.Rule.{Response, refused, accepted, ok, started, going, ended, empty, item, Answer, refuse, reply}
+use Rattle.rules.specs.Request.{Request, startEnqueue, startDequeue, step, Result, applied, answer, open-store, sizesOf, admitted, result}
 use Rattle.rules.specs.Play.{Played, playOne, play}
 use Rattle.rules.specs.Pick.{lowest-free-picks}
 use Rattle.rules.specs.Refusal.{by-open}
