@@ -5,6 +5,7 @@ use reading::ANSWER;
 use reading::END;
 use reading::Entered;
 use reading::MEMORY;
+use reading::MOST_EVENTS;
 use reading::START;
 use reading::THREAD;
 use reading::read;
@@ -92,7 +93,7 @@ fn verdict_of(entered: Entered, marked: Marked, stays: bool) -> Verdict
 
 // The fields of call j in the working table.
 fn kind_of(m: &[u32; MEMORY], j: usize) -> u32
-    requires { ⌜ j < 4096 ⌝ }
+    requires { ⌜ j < mostEvents ⌝ }
     ensures { λ r. ⌜ r ≡ row (callAt (now (m .entry)) j) .kind ⌝ }
 {
     if m[THREAD + j] == 0 {
@@ -102,7 +103,7 @@ fn kind_of(m: &[u32; MEMORY], j: usize) -> u32
 }
 
 fn answer_of(m: &[u32; MEMORY], j: usize) -> u32
-    requires { ⌜ j < 4096 ⌝ }
+    requires { ⌜ j < mostEvents ⌝ }
     ensures { λ r. ⌜ r ≡ row (callAt (now (m .entry)) j) .answer ⌝ }
 {
     if m[THREAD + j] != 0 {
@@ -116,7 +117,7 @@ fn answer_of(m: &[u32; MEMORY], j: usize) -> u32
 
 // The record of call j.
 fn entry_of(m: &[u32; MEMORY], j: usize) -> Call
-    requires { ⌜ j < 4096 ⌝ }
+    requires { ⌜ j < mostEvents ⌝ }
     ensures { λ r. ⌜ r ≡ entryIn (now (m .entry)) j ⌝ }
 {
     Call {
@@ -128,8 +129,8 @@ fn entry_of(m: &[u32; MEMORY], j: usize) -> Call
 }
 
 // Whether call j stays in the queue in order: it is no enqueue, or its item was given, or it has not ended before the mark.
-fn stays(call: Call, flags: &[u32; 4_096], j: usize, mark: u32) -> bool
-    requires { ⌜ j < 4096 ⌝ }
+fn stays(call: Call, flags: &[u32; MOST_EVENTS], j: usize, mark: u32) -> bool
+    requires { ⌜ j < mostEvents ⌝ }
     ensures { λ r. ⌜ r ≡ staysAt call (getD (now (flags .entry)) j 0) mark ⌝ }
 {
     (call.kind != 1) | ((flags[j] == 1) | ((call.end == 0) | (mark <= call.end)))
@@ -138,7 +139,7 @@ fn stays(call: Call, flags: &[u32; 4_096], j: usize, mark: u32) -> bool
 // The first n calls go into the table, in starting order. The functions from here on are proved by walks of their MIR, by hand,
 // since each has a reference to a slice of structs.
 fn fill_calls(table: &mut [Call], m: &[u32; MEMORY], n: usize)
-    requires { ⌜ (n ≤ length (now table)) × (n ≤ 4096) ⌝ }
+    requires { ⌜ (n ≤ length (now table)) × (n ≤ mostEvents) ⌝ }
     ensures { λ _. ⌜ now (table .exit) ≡ filled (now (m .entry)) n (now (table .entry)) ⌝ }
 {
     let mut j = 0;
@@ -149,8 +150,8 @@ fn fill_calls(table: &mut [Call], m: &[u32; MEMORY], n: usize)
 }
 
 // The last test of the verdict, over the first n entries of the table.
-fn all_stay(table: &[Call], flags: &[u32; 4_096], n: usize, mark: u32) -> bool
-    requires { ⌜ (n ≤ length (now table)) × (n ≤ 4096) ⌝ }
+fn all_stay(table: &[Call], flags: &[u32; MOST_EVENTS], n: usize, mark: u32) -> bool
+    requires { ⌜ (n ≤ length (now table)) × (n ≤ mostEvents) ⌝ }
     ensures { λ r. ⌜ r ≡ allStay (now (table .entry)) (now (flags .entry)) mark n ⌝ }
 {
     let mut all = true;
@@ -170,7 +171,7 @@ pub fn judge(history: &[u32], table: &mut [Call]) -> Verdict
     let mut m = [0u32; MEMORY];
     let entered = read(history, table.len(), &mut m);
     let calls = calls_of(entered);
-    let mut flags = [0u32; 4_096];
+    let mut flags = [0u32; MOST_EVENTS];
     let marked = marks(&m, &mut flags, calls);
     fill_calls(table, &m, calls);
     let stays = all_stay(table, &flags, tested_of(marked, calls), mark_of(marked));
@@ -186,6 +187,6 @@ pub fn judge_alone(history: &[u32]) -> Verdict
         start: 0,
         end: 0,
         answer: 0,
-    }; 4_096];
+    }; MOST_EVENTS];
     judge(history, &mut table)
 }

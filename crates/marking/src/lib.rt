@@ -2,6 +2,7 @@
 use reading::ANSWER;
 use reading::END;
 use reading::MEMORY;
+use reading::MOST_EVENTS;
 use reading::START;
 use reading::THREAD;
 use reading::VALUE;
@@ -11,6 +12,7 @@ ghost use mathlib.Core.Path.{_≡_};
 ghost use mathlib.Core.Logic.{_≢_};
 ghost use mathlib.Core.List.{[]};
 ghost use Prim.Native.Nat.{_+_, _≤_, _<_};
+ghost use Rattle.history.specs.Form.{mostEvents};
 ghost use Rattle.reading.specs.Table.{threadAt, endAt, answerAt};
 ghost use Rattle.marking.specs.Marks.{Numbered, Found, Given, fairAt, Moves, Marks};
 
@@ -29,7 +31,7 @@ pub enum Marked {
 
 // Where a number stands among those of the calls, or c: it is looked for from the hint on, then before it.
 fn position(m: &[u32; MEMORY], hint: usize, c: usize, number: u32) -> usize
-    requires { ⌜ (hint ≤ c) × (c ≤ 4096) ⌝ }
+    requires { ⌜ (hint ≤ c) × (c ≤ mostEvents) ⌝ }
     ensures { λ r. ⌜ Found (now (m .entry)) c number r ⌝ }
 {
     let late = scan(m, hint, c, number);
@@ -45,8 +47,8 @@ fn position(m: &[u32; MEMORY], hint: usize, c: usize, number: u32) -> usize
 
 // Whether enqueue i may be the item of dequeue j: the same value, not given before, started before j ended, not ended before
 // the mark.
-fn fair(m: &[u32; MEMORY], flags: &[u32; 4_096], i: usize, j: usize, mark: u32) -> bool
-    requires { ⌜ (i < 4096) × (j < 4096) ⌝ }
+fn fair(m: &[u32; MEMORY], flags: &[u32; MOST_EVENTS], i: usize, j: usize, mark: u32) -> bool
+    requires { ⌜ (i < mostEvents) × (j < mostEvents) ⌝ }
     ensures { λ r. ⌜ r ≡ fairAt (now (m .entry)) (now (flags .entry)) i j mark ⌝ }
 {
     let end = m[END + i];
@@ -57,8 +59,8 @@ fn fair(m: &[u32; MEMORY], flags: &[u32; 4_096], i: usize, j: usize, mark: u32) 
 }
 
 // The first enqueue from the hint on whose item was not given, or c: where the next item is looked for first.
-fn first_left(m: &[u32; MEMORY], flags: &[u32; 4_096], hint: usize, c: usize) -> usize
-    requires { ⌜ (hint ≤ c) × (c ≤ 4096) ⌝ }
+fn first_left(m: &[u32; MEMORY], flags: &[u32; MOST_EVENTS], hint: usize, c: usize) -> usize
+    requires { ⌜ (hint ≤ c) × (c ≤ mostEvents) ⌝ }
     ensures { λ r. ⌜ r ≤ c ⌝ }
 {
     let mut j = hint;
@@ -74,13 +76,13 @@ fn first_left(m: &[u32; MEMORY], flags: &[u32; 4_096], hint: usize, c: usize) ->
 // Dequeue j gives an item: its enqueue's start moves the mark.
 fn give(
     m: &[u32; MEMORY],
-    flags: &mut [u32; 4_096],
+    flags: &mut [u32; MOST_EVENTS],
     c: usize,
     mark: u32,
     hint: usize,
     j: usize,
 ) -> Moved
-    requires { ⌜ Numbered (now m) c × (c ≤ 4096) × (hint ≤ c) × (j < c) × (threadAt (now m) j ≡ 0) × (endAt (now m) j ≢ 0) × (answerAt (now m) j ≢ 0) ⌝ }
+    requires { ⌜ Numbered (now m) c × (c ≤ mostEvents) × (hint ≤ c) × (j < c) × (threadAt (now m) j ≡ 0) × (endAt (now m) j ≢ 0) × (answerAt (now m) j ≢ 0) ⌝ }
     ensures { λ r. ⌜ Moves (now (m .entry)) c j mark (now (flags .entry)) (now (flags .exit)) r ⌝ }
 {
     let i = position(m, hint, c, m[ANSWER + j]);
@@ -102,13 +104,13 @@ fn give(
 // Call j moves the mark, if it is a dequeue that has ended.
 fn pass(
     m: &[u32; MEMORY],
-    flags: &mut [u32; 4_096],
+    flags: &mut [u32; MOST_EVENTS],
     c: usize,
     mark: u32,
     hint: usize,
     j: usize,
 ) -> Moved
-    requires { ⌜ Numbered (now m) c × (c ≤ 4096) × (hint ≤ c) × (j < c) ⌝ }
+    requires { ⌜ Numbered (now m) c × (c ≤ mostEvents) × (hint ≤ c) × (j < c) ⌝ }
     ensures { λ r. ⌜ Moves (now (m .entry)) c j mark (now (flags .entry)) (now (flags .exit)) r ⌝ }
 {
     if m[THREAD + j] != 0 {
@@ -125,8 +127,8 @@ fn pass(
 }
 
 // The pass over all calls, in starting order; it flags the enqueues whose items were given.
-pub fn marks(m: &[u32; MEMORY], flags: &mut [u32; 4_096], c: usize) -> Marked
-    requires { ⌜ Numbered (now m) c × (c ≤ 4096) × Given (now m) c (now flags) [] ⌝ }
+pub fn marks(m: &[u32; MEMORY], flags: &mut [u32; MOST_EVENTS], c: usize) -> Marked
+    requires { ⌜ Numbered (now m) c × (c ≤ mostEvents) × Given (now m) c (now flags) [] ⌝ }
     ensures { λ r. ⌜ Marks (now (m .entry)) c (now (flags .exit)) r ⌝ }
 {
     let mut mark = 0;

@@ -7,26 +7,29 @@ ghost use Prim.Native.Nat.{ℕ, _+_, _*_, _/_, _≤_, _<_, max};
 ghost use lib.Dec.{leb, eqb};
 ghost use lib.ListN.{length};
 ghost use Rattle.history.specs.Event.{decode, isProducer};
-ghost use Rattle.history.specs.Form.{readEvents, read};
+ghost use Rattle.history.specs.Form.{mostEvents, readEvents, read};
 ghost use Rattle.reading.specs.Table.{Table, numberAt};
 ghost use Rattle.reading.specs.Steps.{isEvent, startEvent, endEvent, Starts, begun, ended, repeatsAt, Fresh, Enters, Stepped, Read};
 
-// The working memory (specs/Table.antt): a word for each thread, the largest number, and six columns.
-pub const MEMORY: usize = 28_672;
+// The most events of a history.
+pub const MOST_EVENTS: usize = 4_096;
+
+// The working memory (specs/Table.antt): a word for each thread, the largest number, and six columns, each with a word for an event.
+pub const MEMORY: usize = 7 * MOST_EVENTS;
 
 const TOP: usize = 17;
 
-pub const START: usize = 4_096;
+pub const START: usize = MOST_EVENTS;
 
-pub const END: usize = 8_192;
+pub const END: usize = 2 * MOST_EVENTS;
 
-pub const ANSWER: usize = 12_288;
+pub const ANSWER: usize = 3 * MOST_EVENTS;
 
-pub const THREAD: usize = 16_384;
+pub const THREAD: usize = 4 * MOST_EVENTS;
 
-const NUMBER: usize = 20_480;
+const NUMBER: usize = 5 * MOST_EVENTS;
 
-pub const VALUE: usize = 24_576;
+pub const VALUE: usize = 6 * MOST_EVENTS;
 
 // What the words read so far give: a refusal's number, or how many calls have been started.
 pub enum Entered {
@@ -91,7 +94,7 @@ pub fn larger(a: u32, b: u32) -> u32
 
 // The first call of from..to with this number, or to.
 pub fn scan(m: &[u32; MEMORY], from: usize, to: usize, number: u32) -> usize
-    requires { ⌜ (from ≤ to) × (to ≤ 4096) ⌝ }
+    requires { ⌜ (from ≤ to) × (to ≤ mostEvents) ⌝ }
     ensures { λ r. ⌜ (r ≤ to) × (r < to → numberAt (now (m .entry)) r ≡ number) × ((j : ℕ) → j < r → from ≤ j → numberAt (now (m .entry)) j ≢ number) ⌝ }
 {
     let mut j = from;
@@ -106,7 +109,7 @@ pub fn scan(m: &[u32; MEMORY], from: usize, to: usize, number: u32) -> usize
 
 // Call c starts at event k.
 fn begin(m: &mut [u32; MEMORY], c: usize, k: u32, thread: u32, number: u32, value: u32)
-    requires { ⌜ (c < 4096) × (thread ≤ 16) ⌝ }
+    requires { ⌜ (c < mostEvents) × (thread ≤ 16) ⌝ }
     ensures { λ r. ⌜ now (m .exit) ≡ begun (now (m .entry)) c k thread number value ⌝ }
 {
     let top = larger(m[TOP], number);
@@ -122,7 +125,7 @@ fn begin(m: &mut [u32; MEMORY], c: usize, k: u32, thread: u32, number: u32, valu
 
 // Call i ends at event k.
 fn end(m: &mut [u32; MEMORY], i: usize, k: u32, thread: u32, number: u32, value: u32)
-    requires { ⌜ (i < 4096) × (thread ≤ 16) ⌝ }
+    requires { ⌜ (i < mostEvents) × (thread ≤ 16) ⌝ }
     ensures { λ r. ⌜ now (m .exit) ≡ ended (now (m .entry)) i k thread number value ⌝ }
 {
     m[END + i] = k;
@@ -133,7 +136,7 @@ fn end(m: &mut [u32; MEMORY], i: usize, k: u32, thread: u32, number: u32, value:
 
 // Whether no enqueue was started with this number, at once where it is above all of them. A dequeue has none, 0.
 fn fresh(m: &[u32; MEMORY], c: usize, number: u32) -> bool
-    requires { ⌜ Table (now m) c × (c ≤ 4096) ⌝ }
+    requires { ⌜ Table (now m) c × (c ≤ mostEvents) ⌝ }
     ensures { λ r. ⌜ Fresh (now (m .entry)) c number r ⌝ }
 {
     if number == 0 {
@@ -148,7 +151,7 @@ fn fresh(m: &[u32; MEMORY], c: usize, number: u32) -> bool
 
 // A call starts at event k, unless its thread is busy or its number was started before.
 fn start(m: &mut [u32; MEMORY], c: usize, k: u32, thread: u32, number: u32, value: u32) -> bool
-    requires { ⌜ Table (now m) c × (c < 4096) × Starts thread number ⌝ }
+    requires { ⌜ Table (now m) c × (c < mostEvents) × Starts thread number ⌝ }
     ensures { λ r. ⌜ Enters k (startEvent thread number value) (now (m .entry)) c (now (m .exit)) (c + 1) r ⌝ }
 {
     if m[thread as usize] != 0 {
@@ -163,7 +166,7 @@ fn start(m: &mut [u32; MEMORY], c: usize, k: u32, thread: u32, number: u32, valu
 
 // An enqueue's end repeats its number and value.
 fn repeats(m: &[u32; MEMORY], i: usize, thread: u32, number: u32, value: u32) -> bool
-    requires { ⌜ i < 4096 ⌝ }
+    requires { ⌜ i < mostEvents ⌝ }
     ensures { λ r. ⌜ r ≡ repeatsAt (now (m .entry)) i thread number value ⌝ }
 {
     (thread == 0) | ((m[NUMBER + i] == number) & (m[VALUE + i] == value))
@@ -171,7 +174,7 @@ fn repeats(m: &[u32; MEMORY], i: usize, thread: u32, number: u32, value: u32) ->
 
 // The call that the thread has under way ends at event k.
 fn finish(m: &mut [u32; MEMORY], c: usize, k: u32, thread: u32, number: u32, value: u32) -> bool
-    requires { ⌜ Table (now m) c × (c ≤ 4096) × (thread ≤ 16) × (1 ≤ k) ⌝ }
+    requires { ⌜ Table (now m) c × (c ≤ mostEvents) × (thread ≤ 16) × (1 ≤ k) ⌝ }
     ensures { λ r. ⌜ Enters k (endEvent thread number value) (now (m .entry)) c (now (m .exit)) c r ⌝ }
 {
     let busy = m[thread as usize];
@@ -196,7 +199,7 @@ fn step(
     number: u32,
     value: u32,
 ) -> Entered
-    requires { ⌜ Table (now m) c × (c < 4096) × (1 ≤ k) ⌝ }
+    requires { ⌜ Table (now m) c × (c < mostEvents) × (1 ≤ k) ⌝ }
     ensures { λ r. ⌜ Stepped (decode kind thread number value) k (now (m .entry)) c (now (m .exit)) r ⌝ }
 {
     if !formed(kind, thread, number, value) {
@@ -216,7 +219,7 @@ fn step(
 
 // Takes in the events of a history, each in turn.
 fn read_events(history: &[u32], m: &mut [u32; MEMORY]) -> Entered
-    requires { ⌜ Table (now m) 0 × (length (now history) / 4 ≤ 4096) ⌝ }
+    requires { ⌜ Table (now m) 0 × (length (now history) / 4 ≤ mostEvents) ⌝ }
     ensures { λ r. ⌜ Read (readEvents [] (now (history .entry))) (length (now (history .entry)) / 4) (now (m .exit)) r ⌝ }
 {
     let events = history.len() / 4;
@@ -255,7 +258,7 @@ pub fn read(history: &[u32], entries: usize, m: &mut [u32; MEMORY]) -> Entered
     if words % 4 != 0 {
         return Entered::Refused(10);
     }
-    if 4_096 < words / 4 {
+    if MOST_EVENTS < words / 4 {
         return Entered::Refused(10);
     }
     if entries < words / 4 {

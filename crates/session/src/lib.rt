@@ -1,5 +1,6 @@
 // What the program prints, from the bytes that it reads.
 use protocol::Line;
+use reading::MOST_EVENTS;
 use store::Reply;
 use store::Shape;
 ghost use mathlib.Core.Path.{_≡_};
@@ -8,6 +9,7 @@ ghost use Prim.Native.Nat.{ℕ, _+_, _*_, _≤_};
 ghost use lib.ListN.{length};
 ghost use lib.Seq.{sets};
 ghost use Rattle.history.specs.Event.{History};
+ghost use Rattle.history.specs.Form.{mostEvents};
 ghost use Rattle.rules.specs.Request.{startEnqueue, startDequeue, step};
 ghost use Rattle.rules.specs.Play.{events, endOfEnqueue};
 ghost use Rattle.store.specs.Outcome.{response};
@@ -278,7 +280,7 @@ fn take_turn(store: &mut [u32], history: &mut [u32], out: &mut [u8], at: Place, 
 // Runs the lines in turn, from a store and no events.
 fn run_lines(input: &[u8], store: &mut [u32], history: &mut [u32], out: &mut [u8]) -> Next
     requires { ⌜ length (now input) ≤ mostInput ⌝ }
-    requires { ⌜ 16384 ≤ length (now history) ⌝ }
+    requires { ⌜ mostEvents * 4 ≤ length (now history) ⌝ }
     requires { ⌜ mostOutput ≤ length (now out) ⌝ }
     ensures { λ r. ⌜ Ran (now (input .entry)) (now (store .entry)) (now (out .entry)) (now (store .exit)) (now (history .exit)) (now (out .exit)) r ⌝ }
 {
@@ -312,7 +314,7 @@ pub fn run(input: &[u8], out: &mut [u8; 110_617]) -> usize
         return text::write_bytes(out, 0, b"too long\n");
     }
     let mut store = [0u32; 12696];
-    let mut history = [0u32; 16384];
+    let mut history = [0u32; 4 * MOST_EVENTS];
     let next = run_lines(input, &mut store, &mut history, out);
     match next {
         Next::Stop(last) => {
