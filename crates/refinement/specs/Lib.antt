@@ -4,3 +4,4 @@ pub mod Beyond
 pub mod Calls
 pub mod Theorem
 pub mod Contracts
+pub mod SameEvents

@@ -54,6 +54,28 @@ replyEvents (startEnqueue t v) h r = enqueueEvents t v r
 replyEvents startDequeue h r = dequeueEvents r
 replyEvents (step t) h r = stepEvents t h r
 
+-- The thread and the value of a call.
+abbrev pub threadOf : Request → ℕ
+threadOf (startEnqueue t v) = t
+threadOf startDequeue = 0
+threadOf (step t) = t
+
+abbrev pub valueOf : Request → ℕ
+valueOf (startEnqueue t v) = v
+valueOf startDequeue = 0
+valueOf (step t) = 0
+
+-- An accepted start enqueue adds kind 1 with its thread, the call number given and its value; an accepted start dequeue, which alone
+-- replies ok, adds 3. A step that replies end adds 2, repeating its start's words; item adds 4, empty 5. Going adds nothing, and no
+-- refusal does.
+abbrev pub eventsOf : Request → History → Reply → History
+eventsOf q h ok = dequeueStarted ∷ []
+eventsOf q h (started n) = enqueueStarted (threadOf q) n (valueOf q) ∷ []
+eventsOf q h going = []
+eventsOf q h ended = endOfEnqueue (threadOf q) h
+eventsOf q h empty = gaveEmpty ∷ []
+eventsOf q h (item n v) = gaveItem n v ∷ []
+
 abbrev pub events : Request → History → Response → History
 events q h (refused n) = []
 events q h (accepted r) = replyEvents q h r
