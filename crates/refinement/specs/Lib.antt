@@ -4,4 +4,3 @@ pub mod Beyond
 pub mod Calls
 pub mod Theorem
 pub mod Contracts
-pub mod SameEvents

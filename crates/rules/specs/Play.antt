@@ -22,38 +22,6 @@ endOfEnqueue t (dequeueStarted ∷ h) = endOfEnqueue t h
 endOfEnqueue t (gaveItem n v ∷ h) = endOfEnqueue t h
 endOfEnqueue t (gaveEmpty ∷ h) = endOfEnqueue t h
 
--- An accepted start enqueue adds kind 1 with its thread, the call number given and its value.
-abbrev pub enqueueEvents : (t v : ℕ) → Reply → History
-enqueueEvents t v ok = []
-enqueueEvents t v (started n) = enqueueStarted t n v ∷ []
-enqueueEvents t v going = []
-enqueueEvents t v ended = []
-enqueueEvents t v empty = []
-enqueueEvents t v (item n w) = []
-
--- An accepted start dequeue adds 3.
-abbrev pub dequeueEvents : Reply → History
-dequeueEvents ok = dequeueStarted ∷ []
-dequeueEvents (started n) = []
-dequeueEvents going = []
-dequeueEvents ended = []
-dequeueEvents empty = []
-dequeueEvents (item n v) = []
-
--- A step that replies end adds 2, repeating its start's words; item adds 4, empty 5. Going adds nothing, and no refusal does.
-abbrev pub stepEvents : (t : ℕ) → History → Reply → History
-stepEvents t h ok = []
-stepEvents t h (started n) = []
-stepEvents t h going = []
-stepEvents t h ended = endOfEnqueue t h
-stepEvents t h empty = gaveEmpty ∷ []
-stepEvents t h (item n v) = gaveItem n v ∷ []
-
-abbrev pub replyEvents : Request → History → Reply → History
-replyEvents (startEnqueue t v) h r = enqueueEvents t v r
-replyEvents startDequeue h r = dequeueEvents r
-replyEvents (step t) h r = stepEvents t h r
-
 -- The thread and the value of a call.
 abbrev pub threadOf : Request → ℕ
 threadOf (startEnqueue t v) = t
@@ -68,13 +36,13 @@ valueOf (step t) = 0
 -- An accepted start enqueue adds kind 1 with its thread, the call number given and its value; an accepted start dequeue, which alone
 -- replies ok, adds 3. A step that replies end adds 2, repeating its start's words; item adds 4, empty 5. Going adds nothing, and no
 -- refusal does.
-abbrev pub eventsOf : Request → History → Reply → History
-eventsOf q h ok = dequeueStarted ∷ []
-eventsOf q h (started n) = enqueueStarted (threadOf q) n (valueOf q) ∷ []
-eventsOf q h going = []
-eventsOf q h ended = endOfEnqueue (threadOf q) h
-eventsOf q h empty = gaveEmpty ∷ []
-eventsOf q h (item n v) = gaveItem n v ∷ []
+abbrev pub replyEvents : Request → History → Reply → History
+replyEvents q h ok = dequeueStarted ∷ []
+replyEvents q h (started n) = enqueueStarted (threadOf q) n (valueOf q) ∷ []
+replyEvents q h going = []
+replyEvents q h ended = endOfEnqueue (threadOf q) h
+replyEvents q h empty = gaveEmpty ∷ []
+replyEvents q h (item n v) = gaveItem n v ∷ []
 
 abbrev pub events : Request → History → Response → History
 events q h (refused n) = []

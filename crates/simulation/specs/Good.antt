@@ -12,8 +12,8 @@ use Rattle.rules.specs.Sizes.{Sizes, sizesInRange}
 use Rattle.rules.specs.Cell.{Cell, Reader, Write, tail, place}
 use Rattle.rules.specs.Update.{areaOf, after}
 use Rattle.rules.specs.Rule.{Answer, refuse, reply, need, upTo}
-use Rattle.rules.specs.Request.{Request, startEnqueue, startDequeue, step}
-use Rattle.rules.specs.Play.{replyEvents}
+use Rattle.rules.specs.Request.{Request}
+use Rattle.rules.specs.Play.{threadOf, replyEvents}
 use Rattle.rules.specs.Readback.{WriteThere}
 use Rattle.rules.specs.InRange.{InSort, OtherThread, others-untouched, InRange}
 use Rattle.model.specs.Invariant.{Invariant}
@@ -27,12 +27,6 @@ pub record Good (z : Sizes) (σ : Reader) (γ : Ghost) : Type 0 where
   pub agrees : AgreesWith (z .B) σ γ
   pub model : Invariant (z .B) (view σ γ)
   pub formed : wellFormed (γ .history) ≡ true
-
--- The thread that a request is of.
-abbrev pub threadOf : Request → ℕ
-threadOf (startEnqueue t v) = t
-threadOf startDequeue = 0
-threadOf (step t) = t
 
 -- What a call of thread t moves: other threads' words stay; tail, the place of the tail record and the last place only grow; a
 -- record with a place up to the old last one had it before.

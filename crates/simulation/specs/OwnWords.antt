@@ -14,7 +14,7 @@ use Rattle.rules.specs.Address.{AreaThere}
 use Rattle.rules.specs.Range.{producerInRange, consumerInRange}
 use Rattle.rules.specs.Rule.{Reply}
 use Rattle.rules.specs.Request.{Request, step}
-use Rattle.rules.specs.Play.{replyEvents}
+use Rattle.rules.specs.Play.{threadOf, replyEvents}
 use Rattle.rules.specs.Readback.{WriteThere}
 use Rattle.rules.specs.InRange.{InSort, writes-keep-range}
 use Rattle.model.specs.State.{Producer, Consumer, State, at}
@@ -24,7 +24,7 @@ use Rattle.memory.specs.Memory.{ThreadOk, rowOf, Linked}
 use Rattle.memory.specs.OtherThreads.{others-kept}
 use Rattle.memory.specs.Light.{consumer-keeps}
 use Rattle.simulation.specs.View.{Ghost, placesOf, placeOf, producerOf, producersOf, consumerFrom, consumerOf, view, Agrees, cellOf}
-use Rattle.simulation.specs.Good.{Good, Goes, threadOf, Moved, places-stay}
+use Rattle.simulation.specs.Good.{Good, Goes, Moved, places-stay}
 use Rattle.simulation.specs.RecordSteps.{seen-as}
 use Rattle.simulation.specs.ProducerSteps.{producers-after, producer-goes}
 

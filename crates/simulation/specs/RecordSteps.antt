@@ -14,7 +14,7 @@ use Rattle.rules.specs.Update.{after}
 use Rattle.rules.specs.Range.{producerInRange}
 use Rattle.rules.specs.Rule.{Reply}
 use Rattle.rules.specs.Request.{Request}
-use Rattle.rules.specs.Play.{replyEvents}
+use Rattle.rules.specs.Play.{threadOf, replyEvents}
 use Rattle.rules.specs.Readback.{WriteThere}
 use Rattle.rules.specs.InRange.{InSort, writes-keep-range}
 use Rattle.model.specs.State.{Entry, blank, Producer, Consumer, State}
@@ -22,7 +22,7 @@ use Rattle.model.specs.Invariant.{Invariant}
 use Rattle.memory.specs.Chain
 use Rattle.memory.specs.Memory.{Linked, Memory}
 use Rattle.simulation.specs.View.{Ghost, placesOf, placeOf, consumerAt, consumerOf, view, codeOf, Agrees, AgreesWith}
-use Rattle.simulation.specs.Good.{Good, Goes, threadOf, Moved}
+use Rattle.simulation.specs.Good.{Good, Goes, Moved}
 
 module _ (z : Sizes) (σ : Reader) (γ : Ghost) (good : Good z σ γ) (t : ℕ) (a-producer : (1 ≤ t) × (t ≤ z .P)) where
   pub record-goes : (q : Request) (r : Reply) (ws : List Write) (γ′ : Ghost)
