@@ -40,11 +40,11 @@ demand-3-of-calls z before m cs o h =
     subst (Ordered z) (sym (refines (fresh m) cs h)) (rw words at d)
 
 -- A response that a call may have.
-abbrev May : Request → Response → Type 0
+abbrev pub May : Request → Response → Type 0
 May q (refused n) = (1 ≤ n) × (n ≤ 9)
 May q (accepted r) = kindOf r ≡ kindFor q
 
-result-may : (q : Request) (m : List ℕ) → May q (result lowestFree q m .reply)
+pub result-may : (q : Request) (m : List ℕ) → May q (result lowestFree q m .reply)
 unfolding result applied
 result-may q m = go (admitted m (answer lowestFree q)) (admitted-sound lowestFree lowest-free-picks q m)
   where

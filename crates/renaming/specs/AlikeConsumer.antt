@@ -8,7 +8,7 @@ use lib.Dec.{eqb}
 use Rattle.rules.specs.Sizes.{Sizes}
 use Rattle.rules.specs.Cell.{Reader, Write, _:=_, clearConsumer, held, tail, tailRecord, headRecord, headPosition, consumerPhase, cursorRecord, cursorPosition, foundRecord, foundPosition, itemNumber, itemValue, place, used, state, entryNumber, entryValue}
 use Rattle.rules.specs.Update.{after}
-use Rattle.rules.specs.Rule.{Answer, going, empty, item, reply, goes, atEnd, cross}
+use Rattle.rules.specs.Rule.{Answer, going, empty, item, reply, goes, atEnd, cross, need}
 use Rattle.rules.specs.Consumer.{byState, endsEmpty, front, readTail, scan, readEntry, rescanned, rescan, readItem, markHandled}
 use Rattle.memory.specs.Memory.{Memory}
 use Rattle.renaming.specs.Renaming.{renamed, writesTo}
@@ -64,6 +64,13 @@ module _ {z : Sizes} {σ τ : Reader} (pair : Twins z σ τ) where
       → Like z σ τ (cross z σ r k) (cross z τ (f r) k′)
   crosses r k k′ u = by-cross (pair .stores) r k k′ u (λ n e. next-linked m r u n e .0)
 
+  -- what is done at the cursor's record, and at found's
+  at-cursor : (k k′ : ℕ → Answer) → ((r : ℕ) → σ (used r) ≡ 2 → Like z σ τ (k r) (k′ (f r))) → Like z σ τ (need (σ cursorRecord) k) (need (τ cursorRecord) k′)
+  at-cursor k k′ each = by-need (pair .stores) (σ cursorRecord) (τ cursorRecord) k k′ (a .words cursorRecord tt) (λ r q. each r (cursor-linked m r q))
+
+  at-found : (k k′ : ℕ → Answer) → ((r : ℕ) → σ (used r) ≡ 2 → Like z σ τ (k r) (k′ (f r))) → Like z σ τ (need (σ foundRecord) k) (need (τ foundRecord) k′)
+  at-found k k′ each = by-need (pair .stores) (σ foundRecord) (τ foundRecord) k k′ (a .words foundRecord tt) (λ r q. each r (found-linked m r q))
+
   -- 1. Front.
   pub front-alike : Like z σ τ (front z σ) (front z τ)
   unfolding front
@@ -103,9 +110,8 @@ module _ {z : Sizes} {σ τ : Reader} (pair : Twins z σ τ) where
   pub scan-alike : Like z σ τ (scan z σ) (scan z τ)
   unfolding scan
   scan-alike =
-      by-need (pair .stores) (σ cursorRecord) (τ cursorRecord) _ _ (a .words cursorRecord tt)
-      (λ r q.
-      let u : σ (used r) ≡ 2 = cursor-linked m r q in
+      at-cursor _ _
+      (λ r u.
       by-cond (atEnd z σ r (σ cursorPosition)) (atEnd z τ (f r) (τ cursorPosition)) (end-same r u _ _ cursor-same)
       (λ b.
       by-cond (eqb (σ tailRecord) (suc r)) (eqb (τ tailRecord) (suc (f r))) (tail-test pair r)
@@ -122,9 +128,8 @@ module _ {z : Sizes} {σ τ : Reader} (pair : Twins z σ τ) where
   pub read-entry-alike : Like z σ τ (readEntry z σ) (readEntry z τ)
   unfolding readEntry
   read-entry-alike =
-      by-need (pair .stores) (σ cursorRecord) (τ cursorRecord) _ _ (a .words cursorRecord tt)
-      (λ r q.
-      let u : σ (used r) ≡ 2 = cursor-linked m r q in
+      at-cursor _ _
+      (λ r u.
       by-inside r (f r) (σ cursorPosition) (τ cursorPosition) (place-same r u) cursor-same
       (λ i.
       by-cond (eqb (σ (state r i)) 1) (eqb (τ (state (f r) i)) 1) (rw (state-same r u i) refl)
@@ -151,9 +156,8 @@ module _ {z : Sizes} {σ τ : Reader} (pair : Twins z σ τ) where
   pub rescan-alike : Like z σ τ (rescan z σ) (rescan z τ)
   unfolding rescan
   rescan-alike =
-      by-need (pair .stores) (σ cursorRecord) (τ cursorRecord) _ _ (a .words cursorRecord tt)
-      (λ r q.
-      let u : σ (used r) ≡ 2 = cursor-linked m r q in
+      at-cursor _ _
+      (λ r u.
       by-cond (atEnd z σ r (σ cursorPosition)) (atEnd z τ (f r) (τ cursorPosition)) (end-same r u _ _ cursor-same)
       (λ b.
       crosses r
@@ -182,9 +186,8 @@ module _ {z : Sizes} {σ τ : Reader} (pair : Twins z σ τ) where
   pub read-item-alike : Like z σ τ (readItem z σ) (readItem z τ)
   unfolding readItem
   read-item-alike =
-      by-need (pair .stores) (σ foundRecord) (τ foundRecord) _ _ (a .words foundRecord tt)
-      (λ r q.
-      let u : σ (used r) ≡ 2 = found-linked m r q in
+      at-found _ _
+      (λ r u.
       by-inside r (f r) (σ foundPosition) (τ foundPosition) (place-same r u) found-same
       (λ i.
       let number : τ (entryNumber (f r) i) ≡ σ (entryNumber r i) = a .linked r u .entries i 1 in
@@ -196,9 +199,8 @@ module _ {z : Sizes} {σ τ : Reader} (pair : Twins z σ τ) where
   pub mark-handled-alike : Like z σ τ (markHandled z σ) (markHandled z τ)
   unfolding markHandled
   mark-handled-alike =
-      by-need (pair .stores) (σ foundRecord) (τ foundRecord) _ _ (a .words foundRecord tt)
-      (λ r q.
-      let u : σ (used r) ≡ 2 = found-linked m r q in
+      at-found _ _
+      (λ r u.
       by-inside r (f r) (σ foundPosition) (τ foundPosition) (place-same r u) found-same
       (λ i.
       by-cond (eqb (σ foundPosition) (σ headPosition)) (eqb (τ foundPosition) (τ headPosition)) (rw (found-same, position-same) refl)

@@ -15,19 +15,20 @@ use Rattle.criterion.specs.Explained.{Explained}
 use Rattle.criterion.specs.Criterion.{criterion}
 use Rattle.rules.specs.Sizes.{Sizes, between, sizesInRange, storeWords}
 use Rattle.rules.specs.Cell.{Reader, reader, starts, phase}
-use Rattle.rules.specs.Update.{both}
+use Rattle.rules.specs.Update.{both, neither}
 use Rattle.rules.specs.Range.{inRange}
 use Rattle.rules.specs.Free.{Picker, lowestFree}
 use Rattle.rules.specs.Pick.{lowest-free-picks}
 use Rattle.rules.specs.Rule.{Answer, refuse, reply, Response, refused, accepted, ok, started, going, ended, empty, item}
 use Rattle.rules.specs.Refusal.{accepted-not-refused}
 use Rattle.rules.specs.Request.{Result, Request, startEnqueue, startDequeue, step, applied, open-store, opened, startingEnqueue, answer, sizesOf, admitted, result}
-use Rattle.rules.specs.Play.{Played, events, endOfEnqueue, playOne, play}
+use Rattle.rules.specs.Play.{Played, events, endOfEnqueue, playOne, play, threadOf}
 use Rattle.simulation.specs.Good.{by-cond}
 use Rattle.ordering.specs.Theorem.{demand-3}
 use Rattle.protocol.specs.declared.Line.{Line}
 use Rattle.protocol.specs.declared.Line.the-variants.{Open, Enqueue, Dequeue, Step, Bad}
 use Rattle.protocol.specs.Line.{parseLine}
+use Rattle.refinement.specs.Theorem.{May, result-may}
 use Rattle.session.specs.Session.{blank, Session, start, reopened, openTurn, callTurn, opening, calling, callOf, runLine, runLines}
 use Rattle.session.specs.Reading.{Names, Named}
 
@@ -120,10 +121,6 @@ lines-formed ls = past-formed (runLines ls start .session) (after-lines Past ope
 pub lines-linearizable : (ls : List (List ℕ)) → Linearizable (runLines ls start .session .history)
 lines-linearizable ls = let f = lines-formed ls in criterion (runLines ls start .session .history) (f .0) .0 (f .1)
 
-neither : (a b : Bool) → (a || b) ≡ false → (a ≡ false) × (b ≡ false)
-neither true b e = absurd (true≢false e)
-neither false b e = (refl, e)
-
 positive : (t : ℕ) → (t ≡ 0 → ⊥) → 1 ≤ t
 positive zero f = absurd (f refl)
 positive (suc t) f = omega arith
@@ -181,36 +178,21 @@ end-named t (gaveEmpty ∷ h) g a b = end-named t h g a b
 
 call-named : (q : Request) (x : Session) → Named (x .history) → Named (calling q x .session .history)
 unfolding calling
-call-named (startEnqueue t v) x a = go (result lowestFree (startEnqueue t v) (x .words) .reply) refl
+call-named q x a = go (result lowestFree q (x .words) .reply) refl (result-may q (x .words))
   where
-    go : (r : Response) → result lowestFree (startEnqueue t v) (x .words) .reply ≡ r → Named (events (startEnqueue t v) (x .history) r ++ x .history)
-    go (refused n) e = a
-    go (accepted ok) e = a
-    go (accepted (started n)) e = (started-names t v n (x .words) e, a)
-    go (accepted going) e = a
-    go (accepted ended) e = a
-    go (accepted empty) e = a
-    go (accepted (item n w)) e = a
-call-named startDequeue x a = go (result lowestFree startDequeue (x .words) .reply)
-  where
-    go : (r : Response) → Named (events startDequeue (x .history) r ++ x .history)
-    go (refused n) = a
-    go (accepted ok) = a
-    go (accepted (started n)) = a
-    go (accepted going) = a
-    go (accepted ended) = a
-    go (accepted empty) = a
-    go (accepted (item n w)) = a
-call-named (step t) x a = go (result lowestFree (step t) (x .words) .reply)
-  where
-    go : (r : Response) → Named (events (step t) (x .history) r ++ x .history)
-    go (refused n) = a
-    go (accepted ok) = a
-    go (accepted (started n)) = a
-    go (accepted going) = a
-    go (accepted ended) = end-named t (x .history) (x .history) a a
-    go (accepted empty) = a
-    go (accepted (item n w)) = a
+    names : (q : Request) (n : ℕ) → result lowestFree q (x .words) .reply ≡ accepted (started n) → May q (accepted (started n)) → Names (threadOf q) n
+    names (startEnqueue t v) n e m = started-names t v n (x .words) e
+    names startDequeue n e m = absurd (omega arith)
+    names (step t) n e m = absurd (omega arith)
+
+    go : (r : Response) → result lowestFree q (x .words) .reply ≡ r → May q r → Named (events q (x .history) r ++ x .history)
+    go (refused n) e m = a
+    go (accepted ok) e m = a
+    go (accepted (started n)) e m = (names q n e m, a)
+    go (accepted going) e m = a
+    go (accepted ended) e m = end-named (threadOf q) (x .history) (x .history) a a
+    go (accepted empty) e m = a
+    go (accepted (item n w)) e m = a
 
 open-named : (z : Sizes) (x : Session) → Named (x .history) → Named (opening z x .session .history)
 unfolding opening

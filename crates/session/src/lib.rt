@@ -10,8 +10,8 @@ ghost use lib.ListN.{length};
 ghost use lib.Seq.{sets};
 ghost use Rattle.history.specs.Event.{History};
 ghost use Rattle.history.specs.Form.{mostEvents};
-ghost use Rattle.rules.specs.Request.{startEnqueue, startDequeue, step};
-ghost use Rattle.rules.specs.Play.{events, endOfEnqueue};
+ghost use Rattle.rules.specs.Request.{Request, startEnqueue, startDequeue, step};
+ghost use Rattle.rules.specs.Play.{events, endOfEnqueue, threadOf, valueOf};
 ghost use Rattle.store.specs.Outcome.{response};
 ghost use Rattle.store.specs.Shape.{sizes};
 ghost use Rattle.text.specs.Wrote.{Wrote};
@@ -48,44 +48,14 @@ pub enum Next {
     On(Place),
 }
 
-// What a start enqueue of thread t with value v adds.
-fn note_enqueue(t: u32, v: u32, reply: Reply) -> Noted
-    ensures { λ r. ⌜ ((h : History) → notedEvents r h ≡ events (startEnqueue t v) h (response reply)) ⌝ }
-{
-    match reply {
-        Reply::Refused(_) => Noted::Nothing,
-        Reply::Ok => Noted::Nothing,
-        Reply::Started(n) => Noted::Started(t, n, v),
-        Reply::Going => Noted::Nothing,
-        Reply::Ended => Noted::Nothing,
-        Reply::Empty => Noted::Nothing,
-        Reply::Item(_, _) => Noted::Nothing,
-    }
-}
-
-// What a start dequeue adds.
-fn note_dequeue(reply: Reply) -> Noted
-    ensures { λ r. ⌜ ((h : History) → notedEvents r h ≡ events startDequeue h (response reply)) ⌝ }
+// What a call of thread t with value v adds, by its reply.
+fn note(t: u32, v: u32, reply: Reply) -> Noted
+    ensures { λ r. ⌜ ((q : Request) → threadOf q ≡ t → valueOf q ≡ v → (h : History) → notedEvents r h ≡ events q h (response reply)) ⌝ }
 {
     match reply {
         Reply::Refused(_) => Noted::Nothing,
         Reply::Ok => Noted::DequeueStarted,
-        Reply::Started(_) => Noted::Nothing,
-        Reply::Going => Noted::Nothing,
-        Reply::Ended => Noted::Nothing,
-        Reply::Empty => Noted::Nothing,
-        Reply::Item(_, _) => Noted::Nothing,
-    }
-}
-
-// What a step of thread t adds.
-fn note_step(t: u32, reply: Reply) -> Noted
-    ensures { λ r. ⌜ ((h : History) → notedEvents r h ≡ events (step t) h (response reply)) ⌝ }
-{
-    match reply {
-        Reply::Refused(_) => Noted::Nothing,
-        Reply::Ok => Noted::Nothing,
-        Reply::Started(_) => Noted::Nothing,
+        Reply::Started(n) => Noted::Started(t, n, v),
         Reply::Going => Noted::Nothing,
         Reply::Ended => Noted::Ended(t),
         Reply::Empty => Noted::Empty,
@@ -222,7 +192,7 @@ fn enqueue_turn(
     ensures { λ r. ⌜ Turned (calling (startEnqueue t v)) (now (store .entry)) (now (history .entry)) (now (out .entry)) at (now (store .exit)) (now (history .exit)) (now (out .exit)) r ⌝ }
 {
     let reply = engine::start_enqueue(store, t, v);
-    let noted = note_enqueue(t, v, reply);
+    let noted = note(t, v, reply);
     finish(history, out, at, noted, reply)
 }
 
@@ -232,7 +202,7 @@ fn dequeue_turn(store: &mut [u32], history: &mut [u32], out: &mut [u8], at: Plac
     ensures { λ r. ⌜ Turned (calling startDequeue) (now (store .entry)) (now (history .entry)) (now (out .entry)) at (now (store .exit)) (now (history .exit)) (now (out .exit)) r ⌝ }
 {
     let reply = engine::start_dequeue(store);
-    let noted = note_dequeue(reply);
+    let noted = note(0, 0, reply);
     finish(history, out, at, noted, reply)
 }
 
@@ -242,7 +212,7 @@ fn step_turn(store: &mut [u32], history: &mut [u32], out: &mut [u8], at: Place, 
     ensures { λ r. ⌜ Turned (calling (step t)) (now (store .entry)) (now (history .entry)) (now (out .entry)) at (now (store .exit)) (now (history .exit)) (now (out .exit)) r ⌝ }
 {
     let reply = engine::step(store, t);
-    let noted = note_step(t, reply);
+    let noted = note(t, 0, reply);
     finish(history, out, at, noted, reply)
 }
 
