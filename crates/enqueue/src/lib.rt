@@ -8,33 +8,20 @@ ghost use Rattle.store.specs.Outcome.{left, does};
 ghost use Rattle.store.specs.Store.{Admitted};
 use store::Reply;
 use store::Shape;
+use store::Slot;
 use store::clear_producer;
-use store::content;
-use store::index_in;
 use store::part;
-use store::producer;
+use store::phase;
 use store::put_content;
 use store::put_entry;
 use store::put_producer;
+use store::read_contents;
+use store::read_producer;
 use store::record_end;
+use store::select;
+use store::slot_in;
+use store::state;
 use store::word;
-
-// The phases that these steps go to.
-const LOAD: u32 = 2;
-
-const LOOK: u32 = 3;
-
-const CLAIM: u32 = 4;
-
-const SHIFT: u32 = 6;
-
-const BACK: u32 = 7;
-
-const WRITE: u32 = 8;
-
-const SET: u32 = 9;
-
-const CLAIM_AHEAD: u32 = 10;
 
 // 1. Take: L becomes tail, tail grows by one; to 2.
 pub fn take_position(s: &mut [u32], z: Shape, t: u32) -> Reply
@@ -42,13 +29,13 @@ pub fn take_position(s: &mut [u32], z: Shape, t: u32) -> Reply
     requires { ⌜ (1 ≤ t) × (t ≤ z .producers) ⌝ }
     ensures { λ r. ⌜ left r (now (s .exit)) ≡ does (λ z σ. takePosition z σ t) z (now (s .entry)) ⌝ }
 {
-    let tail = content(s, z, word::TAIL);
-    if z.starts <= tail {
+    let c = read_contents(s, z);
+    if z.starts <= c.tail {
         return Reply::Refused(9);
     }
-    put_producer(s, z, t, word::POSITION, tail);
-    put_content(s, z, word::TAIL, tail + 1);
-    put_producer(s, z, t, word::PHASE, LOAD);
+    put_producer(s, z, t, word::POSITION, c.tail);
+    put_content(s, z, word::TAIL, c.tail + 1);
+    put_producer(s, z, t, word::PHASE, phase::LOAD);
     Reply::Going
 }
 
@@ -58,15 +45,10 @@ fn choose_phase(s: &[u32], z: Shape, t: u32, r: u32) -> u32
     requires { ⌜ (1 ≤ t) × (t ≤ z .producers) × (r < z .records) ⌝ }
     ensures { λ p. ⌜ choose (sizes z) (reader (sizes z) (now (s .entry))) t r ≡ p ⌝ }
 {
-    let position = producer(s, z, t, word::POSITION);
+    let position = read_producer(s, z, t).position;
     let end = record_end(s, z, r);
-    if end <= position {
-        return LOOK;
-    }
-    if position + z.entries < end {
-        return BACK;
-    }
-    WRITE
+    let inside = select(position + z.entries < end, phase::BACK, phase::WRITE);
+    select(end <= position, phase::LOOK, inside)
 }
 
 // 2. Load: hold the tail record; choose.
@@ -75,13 +57,13 @@ pub fn load_tail(s: &mut [u32], z: Shape, t: u32) -> Reply
     requires { ⌜ (1 ≤ t) × (t ≤ z .producers) ⌝ }
     ensures { λ r. ⌜ left r (now (s .exit)) ≡ does (λ z σ. loadTail z σ t) z (now (s .entry)) ⌝ }
 {
-    let tail_record = content(s, z, word::TAIL_RECORD);
-    if tail_record == 0 {
+    let c = read_contents(s, z);
+    if c.tail_record == 0 {
         return Reply::Refused(9);
     }
-    let phase = choose_phase(s, z, t, tail_record - 1);
-    put_producer(s, z, t, word::HELD, tail_record);
-    put_producer(s, z, t, word::PHASE, phase);
+    let next = choose_phase(s, z, t, c.tail_record - 1);
+    put_producer(s, z, t, word::HELD, c.tail_record);
+    put_producer(s, z, t, word::PHASE, next);
     Reply::Going
 }
 
@@ -91,15 +73,12 @@ pub fn look_next(s: &mut [u32], z: Shape, t: u32) -> Reply
     requires { ⌜ (1 ≤ t) × (t ≤ z .producers) ⌝ }
     ensures { λ r. ⌜ left r (now (s .exit)) ≡ does (λ z σ. lookNext z σ t) z (now (s .entry)) ⌝ }
 {
-    let held = producer(s, z, t, word::HELD);
+    let held = read_producer(s, z, t).held;
     if held == 0 {
         return Reply::Refused(9);
     }
-    if part(s, z, held - 1, word::NEXT) == 0 {
-        put_producer(s, z, t, word::PHASE, CLAIM);
-        return Reply::Going;
-    }
-    put_producer(s, z, t, word::PHASE, SHIFT);
+    let none = part(s, z, held - 1, word::NEXT) == 0;
+    put_producer(s, z, t, word::PHASE, select(none, phase::CLAIM, phase::SHIFT));
     Reply::Going
 }
 
@@ -109,12 +88,12 @@ pub fn shift_tail(s: &mut [u32], z: Shape, t: u32) -> Reply
     requires { ⌜ (1 ≤ t) × (t ≤ z .producers) ⌝ }
     ensures { λ r. ⌜ left r (now (s .exit)) ≡ does (λ z σ. shiftTail z σ t) z (now (s .entry)) ⌝ }
 {
-    let held = producer(s, z, t, word::HELD);
+    let held = read_producer(s, z, t).held;
     if held == 0 {
         return Reply::Refused(9);
     }
-    if content(s, z, word::TAIL_RECORD) != held {
-        put_producer(s, z, t, word::PHASE, LOAD);
+    if read_contents(s, z).tail_record != held {
+        put_producer(s, z, t, word::PHASE, phase::LOAD);
         return Reply::Going;
     }
     let next = part(s, z, held - 1, word::NEXT);
@@ -122,7 +101,7 @@ pub fn shift_tail(s: &mut [u32], z: Shape, t: u32) -> Reply
         return Reply::Refused(9);
     }
     put_content(s, z, word::TAIL_RECORD, next);
-    put_producer(s, z, t, word::PHASE, LOAD);
+    put_producer(s, z, t, word::PHASE, phase::LOAD);
     Reply::Going
 }
 
@@ -132,7 +111,7 @@ pub fn go_back(s: &mut [u32], z: Shape, t: u32) -> Reply
     requires { ⌜ (1 ≤ t) × (t ≤ z .producers) ⌝ }
     ensures { λ r. ⌜ left r (now (s .exit)) ≡ does (λ z σ. goBack z σ t) z (now (s .entry)) ⌝ }
 {
-    let held = producer(s, z, t, word::HELD);
+    let held = read_producer(s, z, t).held;
     if held == 0 {
         return Reply::Refused(9);
     }
@@ -140,10 +119,10 @@ pub fn go_back(s: &mut [u32], z: Shape, t: u32) -> Reply
     if prev == 0 {
         return Reply::Refused(9);
     }
-    let phase = choose_phase(s, z, t, prev - 1);
+    let next = choose_phase(s, z, t, prev - 1);
     put_producer(s, z, t, word::HELD, prev);
     put_producer(s, z, t, word::BACKED, 1);
-    put_producer(s, z, t, word::PHASE, phase);
+    put_producer(s, z, t, word::PHASE, next);
     Reply::Going
 }
 
@@ -153,19 +132,13 @@ pub fn write_entry(s: &mut [u32], z: Shape, t: u32) -> Reply
     requires { ⌜ (1 ≤ t) × (t ≤ z .producers) ⌝ }
     ensures { λ r. ⌜ left r (now (s .exit)) ≡ does (λ z σ. writeEntry z σ t) z (now (s .entry)) ⌝ }
 {
-    let held = producer(s, z, t, word::HELD);
-    if held == 0 {
+    let p = read_producer(s, z, t);
+    let Slot::At { record, index } = slot_in(s, z, p.held, p.position) else {
         return Reply::Refused(9);
-    }
-    let i = index_in(s, z, held - 1, producer(s, z, t, word::POSITION));
-    if z.entries <= i {
-        return Reply::Refused(9);
-    }
-    let call = producer(s, z, t, word::CALL);
-    let value = producer(s, z, t, word::VALUE);
-    put_entry(s, z, held - 1, i, word::ENTRY_CALL, call);
-    put_entry(s, z, held - 1, i, word::ENTRY_VALUE, value);
-    put_producer(s, z, t, word::PHASE, SET);
+    };
+    put_entry(s, z, record, index, word::ENTRY_CALL, p.call);
+    put_entry(s, z, record, index, word::ENTRY_VALUE, p.value);
+    put_producer(s, z, t, word::PHASE, phase::SET);
     Reply::Going
 }
 
@@ -175,18 +148,14 @@ pub fn set_entry(s: &mut [u32], z: Shape, t: u32) -> Reply
     requires { ⌜ (1 ≤ t) × (t ≤ z .producers) ⌝ }
     ensures { λ r. ⌜ left r (now (s .exit)) ≡ does (λ z σ. setEntry z σ t) z (now (s .entry)) ⌝ }
 {
-    let held = producer(s, z, t, word::HELD);
-    if held == 0 {
+    let p = read_producer(s, z, t);
+    let Slot::At { record, index } = slot_in(s, z, p.held, p.position) else {
         return Reply::Refused(9);
-    }
-    let i = index_in(s, z, held - 1, producer(s, z, t, word::POSITION));
-    if z.entries <= i {
-        return Reply::Refused(9);
-    }
-    let ahead = (i == 1) & (producer(s, z, t, word::BACKED) == 0);
-    put_entry(s, z, held - 1, i, word::STATE, 1);
+    };
+    let ahead = (index == 1) & (p.backed == 0);
+    put_entry(s, z, record, index, word::STATE, state::SET);
     if ahead {
-        put_producer(s, z, t, word::PHASE, CLAIM_AHEAD);
+        put_producer(s, z, t, word::PHASE, phase::CLAIM_AHEAD);
         return Reply::Going;
     }
     clear_producer(s, z, t);

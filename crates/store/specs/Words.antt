@@ -9,7 +9,7 @@ use lib.Dec.{leb}
 use lib.ListN.{length, getD, set, replicate}
 use lib.Seq.{sets}
 use borrow.Author.Tests.{leb-true, eqb-true}
-use Rattle.rules.specs.Sizes.{Sizes, recordWords, firstRecord}
+use Rattle.rules.specs.Sizes.{Sizes, recordWords, firstRecord, mostEntries, mostRecords, mostPlace}
 use Rattle.rules.specs.Cell.{Cell, content, consumer, producer, part, entry, address, reader}
 use Rattle.rules.specs.Update.{both}
 use Rattle.rules.specs.Range.{Sort, unused, exactly, number, link, record-number, most, any, ofSort, ofSorts, threadInRange, consumerSorts, producerSorts, contentSorts}
@@ -145,14 +145,14 @@ pub clear-more : (n : ℕ) (l : List ℕ) (at : ℕ) → set (sets l at (replica
 clear-more zero l at = ap (λ (i : ℕ). set l i 0) (omega arith)
 clear-more (suc n) l at = ap (λ (i : ℕ). set (sets (set l at 0) (suc at) (replicate n 0)) i 0) (omega arith) ∙ clear-more n (set l at 0) (suc at)
 
--- the last record's first word, from the first record's
-pub record-below : (B r : ℕ) → B ≤ 64 → r < 64 → r * (3 * B + 4) ≤ 12348
-record-below B r b h = let l : r ≤ 63 = omega arith in omega (arith, mul-le-mul-right (3 * B + 4) l)
+-- the words of so many records
+pub records-below : (B r : ℕ) → B ≤ mostEntries → r ≤ mostRecords → r * (3 * B + 4) ≤ 12544
+records-below B r b h = omega (arith, mul-le-mul-right (3 * B + 4) h)
 
 -- a record is in the lent words
 pub record-inside : (z : Sizes) (m : List ℕ) (r : ℕ) → Room z m → r < z .N → firstRecord z + r * recordWords z + recordWords z ≤ length m
 record-inside z m r room h = omega (arith, mul-le-mul-right (recordWords z) h)
 
 -- B × place fits
-pub end-below : (B q : ℕ) → B ≤ 64 → q ≤ 500002 → B * q ≤ 32000128
-end-below B q b h = omega (arith, mul-le-mul-right q b, mul-le-mul-left 64 h)
+pub end-below : (B q : ℕ) → B ≤ mostEntries → q ≤ mostPlace → B * q ≤ mostEntries * mostPlace
+end-below B q b h = omega (arith, mul-le-mul-right q b, mul-le-mul-left mostEntries h)

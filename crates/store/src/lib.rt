@@ -1,13 +1,24 @@
 // The lent words of a store by name: what a word holds, and stores to it (document 01, "Store").
 ghost use mathlib.Core.Path.{_≡_};
+ghost use mathlib.Core.Bool.{cond};
 ghost use Prim.Native.Nat.{_+_, _*_, _<_, _≤_};
-ghost use lib.ListN.{length, replicate};
+ghost use lib.ListN.{length, set, replicate};
 ghost use lib.Seq.{sets};
-ghost use Rattle.rules.specs.Sizes.{firstRecord, recordWords};
-ghost use Rattle.rules.specs.Cell.{reader, place, write, _:=_, content, consumer, producer, part, entry, clearConsumer, clearProducer, wipe};
+ghost use Rattle.rules.specs.Sizes.{firstRecord, recordWords, storeWords, mostEntries, mostRecords, mostProducers, mostPlace, mostWords};
+ghost use Rattle.rules.specs.Cell.{reader, place, used, write, _:=_, content, consumer, producer, part, entry, clearConsumer, clearProducer, wipe};
 ghost use Rattle.rules.specs.Address.{There};
 ghost use Rattle.store.specs.Shape.{sizes};
-ghost use Rattle.store.specs.Store.{Room, Admitted, Reads, Indexed};
+ghost use Rattle.store.specs.Store.{Room, Admitted, Reads, Holds};
+ghost use Rattle.store.specs.Rows.{ReadsContents, ReadsConsumer, ReadsProducer};
+ghost use Rattle.store.specs.Slot.{Slotted};
+
+pub mod phase;
+
+pub mod size;
+
+pub mod state;
+
+pub mod usage;
 
 pub mod word;
 
@@ -30,21 +41,88 @@ pub enum Reply {
     Item(u32, u32),
 }
 
-// The first word of record r.
-pub fn record_at(z: Shape, r: u32) -> u32
-    requires { ⌜ (z .entries ≤ 64) × (z .producers ≤ 16) × (r < 64) ⌝ }
-    ensures { λ at. ⌜ (at ≡ firstRecord (sizes z) + r * recordWords (sizes z)) × (at ≤ 12696) ⌝ }
+// Words 6 to 10 of the contents: the queue's two ends, and the enqueue starts.
+pub struct Contents {
+    pub tail: u32,
+    pub tail_record: u32,
+    pub head_record: u32,
+    pub head_position: u32,
+    pub starts: u32,
+}
+
+// The consumer's words.
+pub struct Consumer {
+    pub phase: u32,
+    pub cursor_record: u32,
+    pub cursor_position: u32,
+    pub found_record: u32,
+    pub found_position: u32,
+    pub item_call: u32,
+    pub item_value: u32,
+}
+
+// A producer's words.
+pub struct Producer {
+    pub phase: u32,
+    pub call: u32,
+    pub value: u32,
+    pub position: u32,
+    pub held: u32,
+    pub claimed: u32,
+    pub backed: u32,
+}
+
+// Where a position stands in the record that a link names: at its end, at an index of it, or neither, which is also where the
+// link is none.
+pub enum Slot {
+    None,
+    End { record: u32 },
+    At { record: u32, index: u32 },
+}
+
+// One number or the other.
+pub fn select(test: bool, yes: u32, no: u32) -> u32
+    ensures { λ r. ⌜ r ≡ cond test yes no ⌝ }
 {
-    16 + 8 * (z.producers + 1) + r * (3 * z.entries + 4)
+    if test {
+        yes
+    } else {
+        no
+    }
+}
+
+// The first word of record r, or of what follows the last.
+pub fn record_at(z: Shape, r: u32) -> u32
+    requires { ⌜ (z .entries ≤ mostEntries) × (z .producers ≤ mostProducers) × (r ≤ mostRecords) ⌝ }
+    ensures { λ at. ⌜ (at ≡ firstRecord (sizes z) + r * recordWords (sizes z)) × (at ≤ mostWords) ⌝ }
+{
+    size::CONTENT_WORDS + size::THREAD_WORDS * (z.producers + 1) + r * (3 * z.entries + 4)
+}
+
+// The word at an address, which is that of its cell, and a store to it.
+fn word_at(s: &[u32], z: Shape, at: u32) -> u32
+    requires { ⌜ Admitted (sizes z) (now s) ⌝ }
+    requires { ⌜ at < storeWords (sizes z) ⌝ }
+    ensures { λ x. ⌜ Holds (sizes z) (now (s .entry)) at x ⌝ }
+{
+    s[at as usize]
+}
+
+fn put_word(s: &mut [u32], z: Shape, at: u32, v: u32)
+    requires { ⌜ Room (sizes z) (now s) ⌝ }
+    requires { ⌜ at < storeWords (sizes z) ⌝ }
+    ensures { λ _. ⌜ now (s .exit) ≡ set (now (s .entry)) at v ⌝ }
+{
+    s[at as usize] = v;
 }
 
 // Word k of the contents.
-pub fn content(s: &[u32], z: Shape, k: u32) -> u32
+fn content_word(s: &[u32], z: Shape, k: u32) -> u32
     requires { ⌜ Admitted (sizes z) (now s) ⌝ }
     requires { ⌜ There (sizes z) (content k) ⌝ }
     ensures { λ r. ⌜ Reads (sizes z) (now (s .entry)) (content k) r ⌝ }
 {
-    s[k as usize]
+    word_at(s, z, k)
 }
 
 pub fn put_content(s: &mut [u32], z: Shape, k: u32, v: u32)
@@ -52,17 +130,29 @@ pub fn put_content(s: &mut [u32], z: Shape, k: u32, v: u32)
     requires { ⌜ There (sizes z) (content k) ⌝ }
     ensures { λ _. ⌜ now (s .exit) ≡ write (sizes z) (now (s .entry)) (content k := v) ⌝ }
 {
-    s[k as usize] = v;
+    put_word(s, z, k, v);
+}
+
+pub fn read_contents(s: &[u32], z: Shape) -> Contents
+    requires { ⌜ Admitted (sizes z) (now s) ⌝ }
+    ensures { λ c. ⌜ ReadsContents (sizes z) (now (s .entry)) c ⌝ }
+{
+    Contents {
+        tail: content_word(s, z, word::TAIL),
+        tail_record: content_word(s, z, word::TAIL_RECORD),
+        head_record: content_word(s, z, word::HEAD_RECORD),
+        head_position: content_word(s, z, word::HEAD_POSITION),
+        starts: content_word(s, z, word::STARTS),
+    }
 }
 
 // Word k of the consumer.
-pub fn consumer(s: &[u32], z: Shape, k: u32) -> u32
+fn consumer_word(s: &[u32], z: Shape, k: u32) -> u32
     requires { ⌜ Admitted (sizes z) (now s) ⌝ }
     requires { ⌜ There (sizes z) (consumer k) ⌝ }
     ensures { λ r. ⌜ Reads (sizes z) (now (s .entry)) (consumer k) r ⌝ }
 {
-    let at = 16 + k;
-    s[at as usize]
+    word_at(s, z, size::CONTENT_WORDS + k)
 }
 
 pub fn put_consumer(s: &mut [u32], z: Shape, k: u32, v: u32)
@@ -70,18 +160,31 @@ pub fn put_consumer(s: &mut [u32], z: Shape, k: u32, v: u32)
     requires { ⌜ There (sizes z) (consumer k) ⌝ }
     ensures { λ _. ⌜ now (s .exit) ≡ write (sizes z) (now (s .entry)) (consumer k := v) ⌝ }
 {
-    let at = 16 + k;
-    s[at as usize] = v;
+    put_word(s, z, size::CONTENT_WORDS + k, v);
+}
+
+pub fn read_consumer(s: &[u32], z: Shape) -> Consumer
+    requires { ⌜ Admitted (sizes z) (now s) ⌝ }
+    ensures { λ c. ⌜ ReadsConsumer (sizes z) (now (s .entry)) c ⌝ }
+{
+    Consumer {
+        phase: consumer_word(s, z, word::PHASE),
+        cursor_record: consumer_word(s, z, word::CURSOR_RECORD),
+        cursor_position: consumer_word(s, z, word::CURSOR_POSITION),
+        found_record: consumer_word(s, z, word::FOUND_RECORD),
+        found_position: consumer_word(s, z, word::FOUND_POSITION),
+        item_call: consumer_word(s, z, word::ITEM_CALL),
+        item_value: consumer_word(s, z, word::ITEM_VALUE),
+    }
 }
 
 // Word k of producer t.
-pub fn producer(s: &[u32], z: Shape, t: u32, k: u32) -> u32
+fn producer_word(s: &[u32], z: Shape, t: u32, k: u32) -> u32
     requires { ⌜ Admitted (sizes z) (now s) ⌝ }
     requires { ⌜ There (sizes z) (producer t k) ⌝ }
     ensures { λ r. ⌜ Reads (sizes z) (now (s .entry)) (producer t k) r ⌝ }
 {
-    let at = 16 + 8 * t + k;
-    s[at as usize]
+    word_at(s, z, size::CONTENT_WORDS + size::THREAD_WORDS * t + k)
 }
 
 pub fn put_producer(s: &mut [u32], z: Shape, t: u32, k: u32, v: u32)
@@ -89,8 +192,40 @@ pub fn put_producer(s: &mut [u32], z: Shape, t: u32, k: u32, v: u32)
     requires { ⌜ There (sizes z) (producer t k) ⌝ }
     ensures { λ _. ⌜ now (s .exit) ≡ write (sizes z) (now (s .entry)) (producer t k := v) ⌝ }
 {
-    let at = 16 + 8 * t + k;
-    s[at as usize] = v;
+    put_word(s, z, size::CONTENT_WORDS + size::THREAD_WORDS * t + k, v);
+}
+
+pub fn read_producer(s: &[u32], z: Shape, t: u32) -> Producer
+    requires { ⌜ Admitted (sizes z) (now s) ⌝ }
+    requires { ⌜ (1 ≤ t) × (t ≤ z .producers) ⌝ }
+    ensures { λ p. ⌜ ReadsProducer (sizes z) (now (s .entry)) t p ⌝ }
+{
+    Producer {
+        phase: producer_word(s, z, t, word::PHASE),
+        call: producer_word(s, z, t, word::CALL),
+        value: producer_word(s, z, t, word::VALUE),
+        position: producer_word(s, z, t, word::POSITION),
+        held: producer_word(s, z, t, word::HELD),
+        claimed: producer_word(s, z, t, word::CLAIMED),
+        backed: producer_word(s, z, t, word::BACKED),
+    }
+}
+
+// Word j of record r, its entries' words included.
+fn record_word(s: &[u32], z: Shape, r: u32, j: u32) -> u32
+    requires { ⌜ Admitted (sizes z) (now s) ⌝ }
+    requires { ⌜ (r < z .records) × (j < recordWords (sizes z)) ⌝ }
+    ensures { λ x. ⌜ Holds (sizes z) (now (s .entry)) (firstRecord (sizes z) + r * recordWords (sizes z) + j) x ⌝ }
+{
+    word_at(s, z, record_at(z, r) + j)
+}
+
+fn put_record_word(s: &mut [u32], z: Shape, r: u32, j: u32, v: u32)
+    requires { ⌜ Room (sizes z) (now s) ⌝ }
+    requires { ⌜ (r < z .records) × (j < recordWords (sizes z)) ⌝ }
+    ensures { λ _. ⌜ now (s .exit) ≡ set (now (s .entry)) (firstRecord (sizes z) + r * recordWords (sizes z) + j) v ⌝ }
+{
+    put_word(s, z, record_at(z, r) + j, v);
 }
 
 // Word k of record r.
@@ -99,8 +234,7 @@ pub fn part(s: &[u32], z: Shape, r: u32, k: u32) -> u32
     requires { ⌜ There (sizes z) (part r k) ⌝ }
     ensures { λ x. ⌜ Reads (sizes z) (now (s .entry)) (part r k) x ⌝ }
 {
-    let at = record_at(z, r) + k;
-    s[at as usize]
+    record_word(s, z, r, k)
 }
 
 pub fn put_part(s: &mut [u32], z: Shape, r: u32, k: u32, v: u32)
@@ -108,8 +242,24 @@ pub fn put_part(s: &mut [u32], z: Shape, r: u32, k: u32, v: u32)
     requires { ⌜ There (sizes z) (part r k) ⌝ }
     ensures { λ _. ⌜ now (s .exit) ≡ write (sizes z) (now (s .entry)) (part r k := v) ⌝ }
 {
-    let at = record_at(z, r) + k;
-    s[at as usize] = v;
+    put_record_word(s, z, r, k, v);
+}
+
+// The use of record r.
+pub fn use_of(s: &[u32], z: Shape, r: u32) -> u32
+    requires { ⌜ Admitted (sizes z) (now s) ⌝ }
+    requires { ⌜ r < z .records ⌝ }
+    ensures { λ x. ⌜ Reads (sizes z) (now (s .entry)) (used r) x ⌝ }
+{
+    part(s, z, r, word::USE)
+}
+
+pub fn put_use(s: &mut [u32], z: Shape, r: u32, v: u32)
+    requires { ⌜ Room (sizes z) (now s) ⌝ }
+    requires { ⌜ r < z .records ⌝ }
+    ensures { λ _. ⌜ now (s .exit) ≡ write (sizes z) (now (s .entry)) (used r := v) ⌝ }
+{
+    put_part(s, z, r, word::USE, v);
 }
 
 // Word k of entry i of record r.
@@ -118,8 +268,7 @@ pub fn entry(s: &[u32], z: Shape, r: u32, i: u32, k: u32) -> u32
     requires { ⌜ There (sizes z) (entry r i k) ⌝ }
     ensures { λ x. ⌜ Reads (sizes z) (now (s .entry)) (entry r i k) x ⌝ }
 {
-    let at = record_at(z, r) + (4 + 3 * i + k);
-    s[at as usize]
+    record_word(s, z, r, 4 + 3 * i + k)
 }
 
 pub fn put_entry(s: &mut [u32], z: Shape, r: u32, i: u32, k: u32, v: u32)
@@ -127,8 +276,7 @@ pub fn put_entry(s: &mut [u32], z: Shape, r: u32, i: u32, k: u32, v: u32)
     requires { ⌜ There (sizes z) (entry r i k) ⌝ }
     ensures { λ _. ⌜ now (s .exit) ≡ write (sizes z) (now (s .entry)) (entry r i k := v) ⌝ }
 {
-    let at = record_at(z, r) + (4 + 3 * i + k);
-    s[at as usize] = v;
+    put_record_word(s, z, r, 4 + 3 * i + k, v);
 }
 
 // Zero into n words from word `at` on.
@@ -150,7 +298,7 @@ pub fn clear_consumer(s: &mut [u32], z: Shape)
     requires { ⌜ Room (sizes z) (now s) ⌝ }
     ensures { λ _. ⌜ now (s .exit) ≡ write (sizes z) (now (s .entry)) clearConsumer ⌝ }
 {
-    clear(s, 16, 8);
+    clear(s, size::CONTENT_WORDS, size::THREAD_WORDS);
 }
 
 pub fn clear_producer(s: &mut [u32], z: Shape, t: u32)
@@ -158,7 +306,7 @@ pub fn clear_producer(s: &mut [u32], z: Shape, t: u32)
     requires { ⌜ t ≤ z .producers ⌝ }
     ensures { λ _. ⌜ now (s .exit) ≡ write (sizes z) (now (s .entry)) (clearProducer t) ⌝ }
 {
-    clear(s, 16 + 8 * t, 8);
+    clear(s, size::CONTENT_WORDS + size::THREAD_WORDS * t, size::THREAD_WORDS);
 }
 
 pub fn wipe_record(s: &mut [u32], z: Shape, r: u32)
@@ -173,23 +321,33 @@ pub fn wipe_record(s: &mut [u32], z: Shape, r: u32)
 pub fn record_end(s: &[u32], z: Shape, r: u32) -> u32
     requires { ⌜ Admitted (sizes z) (now s) ⌝ }
     requires { ⌜ r < z .records ⌝ }
-    ensures { λ e. ⌜ (z .entries * reader (sizes z) (now (s .entry)) (place r) ≡ e) × (e ≤ 32000128) ⌝ }
+    ensures { λ e. ⌜ (z .entries * reader (sizes z) (now (s .entry)) (place r) ≡ e) × (e ≤ mostEntries * mostPlace) ⌝ }
 {
     z.entries * part(s, z, r, word::PLACE)
 }
 
-// The index of position p in record r; B where it leaves the record.
-pub fn index_in(s: &[u32], z: Shape, r: u32, p: u32) -> u32
+// Where position p stands in the record that a link names.
+pub fn slot_in(s: &[u32], z: Shape, link: u32, p: u32) -> Slot
     requires { ⌜ Admitted (sizes z) (now s) ⌝ }
-    requires { ⌜ (r < z .records) × (p ≤ z .starts) ⌝ }
-    ensures { λ i. ⌜ Indexed (sizes z) (now (s .entry)) r p i ⌝ }
+    requires { ⌜ (link ≤ z .records) × (p ≤ z .starts) ⌝ }
+    ensures { λ x. ⌜ Slotted (sizes z) (now (s .entry)) link p x ⌝ }
 {
-    let end = record_end(s, z, r);
-    if end <= p {
-        return z.entries;
+    if link == 0 {
+        return Slot::None;
+    }
+    let record = link - 1;
+    let end = record_end(s, z, record);
+    if p == end {
+        return Slot::End { record };
+    }
+    if end < p {
+        return Slot::None;
     }
     if p + z.entries < end {
-        return z.entries;
+        return Slot::None;
     }
-    p + z.entries - end
+    Slot::At {
+        record,
+        index: p + z.entries - end,
+    }
 }

@@ -1,102 +1,62 @@
 -- `enqueue::write_entry` meets its contract.
 use mathlib.Core.Path.{refl}
 use native.Mathlib.Omega.{arith}
-use borrow.Author.Needs.{needs}
 use Rattle.rules.specs.Cell.{writes}
 use Rattle.rules.specs.Producer.{writeEntry}
 use Rattle.rules.specs.Request.{applied}
-use Rattle.store.specs.Steps.{some}
+use Rattle.store.proofs.Slots.{stands-at, not-inside}
+use borrow.Author.Needs.{needs}
 use Rattle.enqueue.proofs.write_entry.Statement.{statement}
 use Rattle.enqueue.proofs.write_entry.Tie as tie
 
-producer-requires : tie.Need-producer-requires
-producer-requires c κs = search needs
+read-producer-requires : tie.Need-read-producer-requires
+read-producer-requires c κs = search needs
+
+slot-in-requires : tie.Need-slot-in-requires
+slot-in-requires c κs = search needs
+
+enum-known-record : tie.Need-enum-known-record
+enum-known-record c = search needs
 
 same-length : tie.Need-same-length
 same-length c = search needs
 
 returns : tie.Need-returns
-unfolding writeEntry applied
-returns c = rw (c .before .producer .ensures .is, c .if1 .taken) refl
+unfolding writeEntry
+returns c =
+    let p = c .before .before .before .read-producer .ensures in
+    rw (p .held .is, p .position .is) (not-inside _ _ (c .match .keys2) (c .before .slot-in .ensures))
 
-sub-index-in : tie.Need-sub-index-in
-sub-index-in c = search needs
+put-entry-requires : tie.Need-put-entry-requires
+put-entry-requires c κs = omega (arith, c .before .before .before .before .before .before .before .before .before .pre, stands-at (c .before .before .before .before .slot-in .ensures) (c .before .before .«record» .given .1))
 
-producer-requires-2 : tie.Need-producer-requires-2
-producer-requires-2 c κs = search needs
+put-entry-requires-2 : tie.Need-put-entry-requires-2
+put-entry-requires-2 c κs = omega (arith, c .before .before .before .before .before .before .before .before .before .before .before .before .before .pre, stands-at (c .before .before .before .before .before .before .before .before .slot-in .ensures) (c .before .before .before .before .before .before .«record» .given .1))
 
-index-in-requires : tie.Need-index-in-requires
-index-in-requires c κs = search needs
+put-producer-requires : tie.Need-put-producer-requires
+put-producer-requires c κs = search needs
 
 same-length-2 : tie.Need-same-length-2
 same-length-2 c = search needs
 
 returns-2 : tie.Need-returns-2
-unfolding writeEntry applied
-returns-2 c =
-    let producer = c .before .before .before .before .before .before .producer in
-    let if1 = c .before .before .before .before .before .if1 in
-    let producer2 = c .before .before .before .producer2 in
-    let index-in = c .before .before .index-in in
-    rw (some (producer .ensures .is) (if1 .left), producer2 .ensures .is, index-in .ensures .outside (c .if2 .taken)) refl
-
-producer-requires-3 : tie.Need-producer-requires-3
-producer-requires-3 c κs = search needs
-
-producer-requires-4 : tie.Need-producer-requires-4
-producer-requires-4 c κs = search needs
-
-sub-put-entry : tie.Need-sub-put-entry
-sub-put-entry c = search needs
-
-put-entry-requires : tie.Need-put-entry-requires
-put-entry-requires c κs = omega (arith, c .before .before .before .before .before .before .before .before .before .before .before .before .before .before)
-
-sub-put-entry-2 : tie.Need-sub-put-entry-2
-sub-put-entry-2 c = search needs
-
-put-entry-requires-2 : tie.Need-put-entry-requires-2
-put-entry-requires-2 c κs = omega (arith, c .before .before .before .before .before .before .before .before .before .before .before .before .before .before .before .before .before .before)
-
-put-producer-requires : tie.Need-put-producer-requires
-put-producer-requires c κs = omega (arith, c .before .before .before .before .before .before .before .before .before .before .before .before .before .before .before .before .before .before .before .before .before .before)
-
-same-length-3 : tie.Need-same-length-3
-same-length-3 c = search needs
-
-returns-3 : tie.Need-returns-3
 unfolding writeEntry applied writes
-returns-3 c =
-    let producer = c .before .before .before .before .before .before .before .before .before .before .before .before .before .before .before .before .before .before .before .before .before .before .producer in
-    let if1 = c .before .before .before .before .before .before .before .before .before .before .before .before .before .before .before .before .before .before .before .before .before .if1 in
-    let producer2 = c .before .before .before .before .before .before .before .before .before .before .before .before .before .before .before .before .before .before .before .producer2 in
-    let index-in = c .before .before .before .before .before .before .before .before .before .before .before .before .before .before .before .before .before .before .index-in in
-    let if2 = c .before .before .before .before .before .before .before .before .before .before .before .before .before .before .before .before .if2 in
-    let producer3 = c .before .before .before .before .before .before .before .before .before .before .before .before .before .before .producer3 in
-    let producer4 = c .before .before .before .before .before .before .before .before .before .before .before .before .producer4 in
-    let put-entry = c .before .before .before .before .before .before .before .before .before .before .put-entry in
-    let put-entry2 = c .before .before .before .before .before .before .put-entry2 in
-    let put-producer = c .before .before .put-producer in
-    rw (some (producer .ensures .is) (if1 .left), producer2 .ensures .is, index-in .ensures .inside (if2 .left), index-in .ensures .is (if2 .left), producer3 .ensures .is, producer4 .ensures .is, put-producer .ensures, put-entry2 .ensures, put-entry .ensures) refl
+returns-2 c =
+    let p = c .before .before .before .before .before .before .before .before .before .before .before .before .before .before .before .before .before .read-producer .ensures in
+    let at = stands-at (c .before .before .before .before .before .before .before .before .before .before .before .before .before .before .before .slot-in .ensures) (c .before .before .before .before .before .before .before .before .before .before .before .before .before .«record» .given .1) in
+    rw (p .held .is, p .position .is, at .link, at .inside, at .is, p .call .is, p .value .is, c .before .before .put-producer .ensures, c .before .before .before .before .before .before .put-entry2 .ensures, c .before .before .before .before .before .before .before .before .before .before .put-entry .ensures) refl
 
 pub write-entry-spec : {M : Type 1} → statement M
 write-entry-spec =
     tie.close
     (tie.spec
-    producer-requires
+    read-producer-requires
+    slot-in-requires
+    enum-known-record
     same-length
     returns
-    sub-index-in
-    producer-requires-2
-    index-in-requires
-    same-length-2
-    returns-2
-    producer-requires-3
-    producer-requires-4
-    sub-put-entry
     put-entry-requires
-    sub-put-entry-2
     put-entry-requires-2
     put-producer-requires
-    same-length-3
-    returns-3)
+    same-length-2
+    returns-2)

@@ -1,56 +1,26 @@
 -- `store::entry` meets its contract.
-use Prim.Native.Nat.{_+_, _*_}
-use native.Mathlib.Omega.{arith}
-use borrow.Author.Needs.{needs}
-use denote.Ref.{now}
+use mathlib.Core.Path.{refl}
 use Rattle.rules.specs.Cell.{entry}
-use Rattle.store.specs.Shape.{sizes}
-use Rattle.store.specs.Words.{reads-word, inside-words}
+use borrow.Author.Needs.{needs}
 use Rattle.store.proofs.entry.Statement.{statement}
 use Rattle.store.proofs.entry.Tie as tie
 
-record-at-requires : tie.Need-record-at-requires
-record-at-requires c κs = search needs
+mul-record-word : tie.Need-mul-record-word
+mul-record-word c = search needs
 
-mul-at : tie.Need-mul-at
-mul-at c = search needs
+add-record-word : tie.Need-add-record-word
+add-record-word c = search needs
 
-add-at : tie.Need-add-at
-add-at c = search needs
+add-record-word-2 : tie.Need-add-record-word-2
+add-record-word-2 c = search needs
 
-add-at-2 : tie.Need-add-at-2
-add-at-2 c = search needs
-
-add-at-3 : tie.Need-add-at-3
-add-at-3 c = search needs
-
-cast-result : tie.Need-cast-result
-cast-result c = search needs
-
-mul-result : tie.Need-mul-result
-mul-result c = search needs
-
-shared-slice-read-result : tie.Need-shared-slice-read-result
-shared-slice-read-result c =
-    let a = c .before .before .before .args in
-    omega (arith, inside-words (sizes (a .z)) (now (a .s)) (entry (a .r) (a .i) (a .k)) (c .before .before .before .pre .0 .room) (c .before .before .before .pre .1))
+record-word-requires : tie.Need-record-word-requires
+record-word-requires c κs = search needs
 
 returns : tie.Need-returns
-returns c =
-    let a = c .before .before .before .args in
-    let at = c .before .record-at .result + (4 + 3 * a .i + a .k) in
-    reads-word (sizes (a .z)) (now (a .s)) (entry (a .r) (a .i) (a .k)) (c .before .before .before .pre .0) (c .before .before .before .pre .1) at (omega arith) (omega (arith, c .shared-slice-known2 .given at))
+returns c = c .record-word .ensures .reads (entry (c .before .before .args .r) (c .before .before .args .i) (c .before .before .args .k)) (c .before .before .pre .1) refl
 
 pub entry-spec : {M : Type 1} → statement M
 entry-spec =
     tie.close
-    (tie.spec
-    record-at-requires
-    mul-at
-    add-at
-    add-at-2
-    add-at-3
-    cast-result
-    mul-result
-    shared-slice-read-result
-    returns)
+    (tie.spec mul-record-word add-record-word add-record-word-2 record-word-requires returns)

@@ -1,7 +1,7 @@
 -- `store::record_at` meets its contract.
 use native.Mathlib.Omega.{arith}
+use Rattle.store.specs.Words.{records-below}
 use borrow.Author.Needs.{needs}
-use Rattle.store.specs.Words.{record-below}
 use Rattle.store.proofs.record_at.Statement.{statement}
 use Rattle.store.proofs.record_at.Tie as tie
 
@@ -21,19 +21,13 @@ add-result-3 : tie.Need-add-result-3
 add-result-3 c = search needs
 
 mul-result-3 : tie.Need-mul-result-3
-mul-result-3 c =
-    let a = c .before .before .args in
-    omega (arith, record-below (a .z .entries) (a .r) (omega arith) (omega arith))
+mul-result-3 c = omega (arith, records-below (c .before .before .args .z .entries) (c .before .before .args .r) (omega arith) (omega arith))
 
 add-result-4 : tie.Need-add-result-4
-add-result-4 c =
-    let a = c .before .before .args in
-    omega (arith, record-below (a .z .entries) (a .r) (omega arith) (omega arith))
+add-result-4 c = omega (arith, records-below (c .before .before .args .z .entries) (c .before .before .args .r) (omega arith) (omega arith))
 
 returns : tie.Need-returns
-returns c =
-    let a = c .before .before .args in
-    omega (arith, record-below (a .z .entries) (a .r) (omega arith) (omega arith))
+returns c = omega (arith, records-below (c .before .before .args .z .entries) (c .before .before .args .r) (omega arith) (omega arith))
 
 pub record-at-spec : {M : Type 1} → statement M
 record-at-spec =

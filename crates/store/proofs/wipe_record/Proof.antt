@@ -1,13 +1,9 @@
 -- `store::wipe_record` meets its contract.
-use mathlib.Core.Path.{ap, _∙_}
-use Prim.Native.Nat.{ℕ, _+_, _*_}
 use native.Mathlib.Omega.{arith}
-use lib.ListN.{replicate}
-use lib.Seq.{sets}
-use borrow.Author.Needs.{needs}
 use denote.Ref.{now}
 use Rattle.store.specs.Shape.{sizes}
 use Rattle.store.specs.Words.{record-inside}
+use borrow.Author.Needs.{needs}
 use Rattle.store.proofs.wipe_record.Statement.{statement}
 use Rattle.store.proofs.wipe_record.Tie as tie
 
@@ -29,10 +25,7 @@ same-length : tie.Need-same-length
 same-length c = search needs
 
 returns : tie.Need-returns
-returns c =
-    let a = c .before .before .before .before .before .before .before .args in
-    c .before .before .clear .ensures
-    ∙ ap (λ (at : ℕ). sets (now (a .s)) at (replicate (3 * a .z .entries + 4) 0)) (c .before .before .before .before .record-at .ensures .0)
+returns c = rw (← c .before .before .before .before .record-at .ensures .0) (c .before .before .clear .ensures)
 
 pub wipe-record-spec : {M : Type 1} → statement M
 wipe-record-spec =

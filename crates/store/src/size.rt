@@ -1,0 +1,23 @@
+// The sizes of a store and their limits (document 01, "Store").
+
+// The most entries in a record (B), records (N), producers (P) and enqueue starts allowed (M).
+pub const MOST_ENTRIES: u32 = 64;
+
+pub const MOST_RECORDS: u32 = 64;
+
+pub const MOST_PRODUCERS: u32 = 16;
+
+pub const MOST_STARTS: u32 = 1000000;
+
+// The largest place that a record may have.
+pub const MOST_PLACE: u32 = 500002;
+
+// The words of the contents and of a thread. Every thread's words begin after the contents: the consumer's first.
+pub const CONTENT_WORDS: u32 = 16;
+
+pub const THREAD_WORDS: u32 = 8;
+
+// A record's words at the most, place, next, prev and use and three for each entry, and a store's.
+pub const MOST_RECORD_WORDS: usize = 196;
+
+pub const MOST_WORDS: usize = 12696;
