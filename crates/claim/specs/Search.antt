@@ -1,23 +1,18 @@
 -- The search for the lowest free record, one record at a time.
 use mathlib.Core.Path.{_≡_, refl, subst}
-use mathlib.Core.Bool.{Bool, true, false, _&&_, _||_, not}
+use mathlib.Core.Bool.{Bool, true, false, _||_, not}
 use Prim.Native.Nat.{ℕ, zero, suc, _+_, _≤_, _<_}
 use native.Mathlib.Decide.{decLe}
 use native.Mathlib.Omega.{arith}
 use native.Mathlib.Numerals.{add-one}
 use lib.Dec.{eqb}
 use Rattle.rules.specs.Cell.{Reader, held, claimed}
-use Rattle.rules.specs.Range.{every}
 use Rattle.rules.specs.Free.{holds, firstFree}
 
--- no producer among the first t, and not the next
-pub none-more : (σ : Reader) (r t : ℕ) {b : Bool} {x y : ℕ} → every t (λ u. not (holds σ (suc u) r)) ≡ b
-    → σ (held (t + 1)) ≡ x → σ (claimed (t + 1)) ≡ y
-    → every (t + 1) (λ u. not (holds σ (suc u) r)) ≡ (b && not (eqb x (r + 1) || eqb y (r + 1)))
-none-more σ r t e p q = rw (add-one t, add-one r, e, rw add-one at p, rw add-one at q) refl
-
-pub none-of-all : (σ : Reader) (r : ℕ) {k n : ℕ} {b : Bool} → k ≡ n → every k (λ u. not (holds σ (suc u) r)) ≡ b → every n (λ u. not (holds σ (suc u) r)) ≡ b
-none-of-all σ r e h = rw e at h
+-- the next producer does not hold record r
+pub not-next : (σ : Reader) (r t : ℕ) {x y : ℕ} → σ (held (t + 1)) ≡ x → σ (claimed (t + 1)) ≡ y
+    → not (holds σ (suc t) r) ≡ not (eqb x (r + 1) || eqb y (r + 1))
+not-next σ r t p q = rw (add-one r, rw add-one at p, rw add-one at q) refl
 
 -- none below i, and not i
 pub none-yet : (p : ℕ → Bool) (i : ℕ) → firstFree i p ≡ 0 → p i ≡ false → firstFree (suc i) p ≡ 0

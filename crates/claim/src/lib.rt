@@ -1,22 +1,24 @@
 // Free records, and the phases that claim one (document 01, "Store" and "Calls"). The words are admitted.
 ghost use mathlib.Core.Path.{_≡_};
 ghost use mathlib.Core.Bool.{not};
-ghost use mathlib.Core.List.{[], _∷_};
 ghost use Prim.Native.Nat.{suc, _≤_, _<_};
-ghost use Rattle.rules.specs.Cell.{reader, writes, _:=_, wipe, used, claimed, phase};
+ghost use Rattle.rules.specs.Cell.{reader};
 ghost use Rattle.rules.specs.Range.{every};
 ghost use Rattle.rules.specs.Free.{holds, free, lowestFree};
 ghost use Rattle.rules.specs.Producer.{claimRecord, claimAhead};
 ghost use Rattle.store.specs.Shape.{sizes};
 ghost use Rattle.store.specs.Outcome.{left, does};
-ghost use Rattle.store.specs.Store.{Room, Admitted};
+ghost use Rattle.store.specs.Store.{Admitted};
+ghost use Rattle.claim.specs.Claim.{Claimed};
 use store::Reply;
 use store::Shape;
 use store::clear_producer;
-use store::part;
-use store::producer;
-use store::put_part;
+use store::phase;
 use store::put_producer;
+use store::put_use;
+use store::read_producer;
+use store::usage;
+use store::use_of;
 use store::wipe_record;
 use store::word;
 
@@ -30,9 +32,8 @@ fn held_by_none(s: &[u32], z: Shape, r: u32) -> bool
     let mut none = true;
     let mut t: u32 = 0;
     while t < z.producers {
-        let held = producer(s, z, t + 1, word::HELD);
-        let claimed = producer(s, z, t + 1, word::CLAIMED);
-        none = none & !((held == name) | (claimed == name));
+        let p = read_producer(s, z, t + 1);
+        none = none & !((p.held == name) | (p.claimed == name));
         t += 1;
     }
     none
@@ -44,11 +45,11 @@ fn is_free(s: &[u32], z: Shape, r: u32) -> bool
     requires { ⌜ r < z .records ⌝ }
     ensures { λ b. ⌜ free (sizes z) (reader (sizes z) (now (s .entry))) r ≡ b ⌝ }
 {
-    let used = part(s, z, r, word::USE);
-    if used == 0 {
+    let used = use_of(s, z, r);
+    if used == usage::FREE {
         return true;
     }
-    if used != 3 {
+    if used != usage::RETIRED {
         return false;
     }
     held_by_none(s, z, r)
@@ -69,16 +70,22 @@ fn lowest_free(s: &[u32], z: Shape) -> u32
     0
 }
 
-// Claiming zeroes record r and gives it use 1. Then to phase p.
-fn take_record(s: &mut [u32], z: Shape, t: u32, r: u32, p: u32)
-    requires { ⌜ Room (sizes z) (now s) ⌝ }
-    requires { ⌜ (1 ≤ t) × (t ≤ z .producers) × (r < z .records) ⌝ }
-    ensures { λ _. ⌜ now (s .exit) ≡ writes (sizes z) (now (s .entry)) (wipe r ∷ used r := 1 ∷ claimed t := suc r ∷ phase t := p ∷ []) ⌝ }
+// Claiming picks a free record, zeroes it and gives it use 1; to phase p. The record plus one; 0, and nothing stored, where none
+// is free.
+fn claim(s: &mut [u32], z: Shape, t: u32, p: u32) -> u32
+    requires { ⌜ Admitted (sizes z) (now s) ⌝ }
+    requires { ⌜ (1 ≤ t) × (t ≤ z .producers) ⌝ }
+    ensures { λ k. ⌜ Claimed (sizes z) (now (s .entry)) t p k (now (s .exit)) ⌝ }
 {
-    wipe_record(s, z, r);
-    put_part(s, z, r, word::USE, 1);
-    put_producer(s, z, t, word::CLAIMED, r + 1);
+    let name = lowest_free(s, z);
+    if name == 0 {
+        return 0;
+    }
+    wipe_record(s, z, name - 1);
+    put_use(s, z, name - 1, usage::CLAIMED);
+    put_producer(s, z, t, word::CLAIMED, name);
     put_producer(s, z, t, word::PHASE, p);
+    name
 }
 
 // 4. Claim a record; to 5. Refusal 8: no record free.
@@ -87,11 +94,9 @@ pub fn claim_record(s: &mut [u32], z: Shape, t: u32) -> Reply
     requires { ⌜ (1 ≤ t) × (t ≤ z .producers) ⌝ }
     ensures { λ r. ⌜ left r (now (s .exit)) ≡ does (λ z σ. claimRecord z σ t (lowestFree z σ)) z (now (s .entry)) ⌝ }
 {
-    let r = lowest_free(s, z);
-    if r == 0 {
+    if claim(s, z, t, phase::LINK) == 0 {
         return Reply::Refused(8);
     }
-    take_record(s, z, t, r - 1, 5);
     Reply::Going
 }
 
@@ -101,11 +106,9 @@ pub fn claim_ahead(s: &mut [u32], z: Shape, t: u32) -> Reply
     requires { ⌜ (1 ≤ t) × (t ≤ z .producers) ⌝ }
     ensures { λ r. ⌜ left r (now (s .exit)) ≡ does (λ z σ. claimAhead z σ t (lowestFree z σ)) z (now (s .entry)) ⌝ }
 {
-    let r = lowest_free(s, z);
-    if r == 0 {
+    if claim(s, z, t, phase::LINK_AHEAD) == 0 {
         clear_producer(s, z, t);
         return Reply::Ended;
     }
-    take_record(s, z, t, r - 1, 11);
     Reply::Going
 }

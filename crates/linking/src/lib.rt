@@ -10,9 +10,13 @@ use store::Reply;
 use store::Shape;
 use store::clear_producer;
 use store::part;
-use store::producer;
+use store::phase;
 use store::put_part;
 use store::put_producer;
+use store::put_use;
+use store::read_producer;
+use store::size;
+use store::usage;
 use store::word;
 
 // Link: if next of held is none, the claimed record becomes it, linked, prev held, place one more. Otherwise it is given
@@ -22,26 +26,25 @@ fn link(s: &mut [u32], z: Shape, t: u32) -> bool
     requires { ⌜ (1 ≤ t) × (t ≤ z .producers) ⌝ }
     ensures { λ ok. ⌜ Linked (sizes z) (now (s .entry)) t ok (now (s .exit)) ⌝ }
 {
-    let held = producer(s, z, t, word::HELD);
-    if held == 0 {
+    let p = read_producer(s, z, t);
+    if p.held == 0 {
         return false;
     }
-    let claimed = producer(s, z, t, word::CLAIMED);
-    if claimed == 0 {
+    if p.claimed == 0 {
         return false;
     }
-    if part(s, z, held - 1, word::NEXT) != 0 {
-        put_part(s, z, claimed - 1, word::USE, 0);
+    if part(s, z, p.held - 1, word::NEXT) != 0 {
+        put_use(s, z, p.claimed - 1, usage::FREE);
         return true;
     }
-    let place = part(s, z, held - 1, word::PLACE);
-    if 500002 <= place {
+    let place = part(s, z, p.held - 1, word::PLACE);
+    if size::MOST_PLACE <= place {
         return false;
     }
-    put_part(s, z, held - 1, word::NEXT, claimed);
-    put_part(s, z, claimed - 1, word::USE, 2);
-    put_part(s, z, claimed - 1, word::PREV, held);
-    put_part(s, z, claimed - 1, word::PLACE, place + 1);
+    put_part(s, z, p.held - 1, word::NEXT, p.claimed);
+    put_use(s, z, p.claimed - 1, usage::LINKED);
+    put_part(s, z, p.claimed - 1, word::PREV, p.held);
+    put_part(s, z, p.claimed - 1, word::PLACE, place + 1);
     true
 }
 
@@ -55,7 +58,7 @@ pub fn link_claimed(s: &mut [u32], z: Shape, t: u32) -> Reply
         return Reply::Refused(9);
     }
     put_producer(s, z, t, word::CLAIMED, 0);
-    put_producer(s, z, t, word::PHASE, 6);
+    put_producer(s, z, t, word::PHASE, phase::SHIFT);
     Reply::Going
 }
 

@@ -1,4 +1,5 @@
 -- `claim::held_by_none` meets its contract.
+use native.Mathlib.Numerals.{add-one}
 use mathlib.Core.Bool.{not}
 use mathlib.Core.Path.{_≡_, refl}
 use Prim.Native.Nat.{suc, _-_, _≤_}
@@ -8,7 +9,7 @@ use Rattle.rules.specs.Cell.{reader}
 use Rattle.rules.specs.Free.{holds}
 use Rattle.rules.specs.Range.{every}
 use Rattle.store.specs.Shape.{sizes}
-use Rattle.claim.specs.Search.{none-more, none-of-all}
+use Rattle.claim.specs.Search.{not-next}
 use Rattle.claim.proofs.held_by_none.Statement.{statement}
 use Rattle.claim.proofs.held_by_none.Tie as tie
 
@@ -24,17 +25,11 @@ add-name c = omega arith
 loop-holds : tie.Need-loop-holds Inv-loop μ-loop
 loop-holds c = (omega arith, refl)
 
-add-producer : tie.Need-add-producer Inv-loop μ-loop
-add-producer c = omega arith
+add-read-producer : tie.Need-add-read-producer Inv-loop μ-loop
+add-read-producer c = omega arith
 
-producer-requires : tie.Need-producer-requires Inv-loop μ-loop
-producer-requires c κs = (c .before .before .before .before .pre .0, omega arith)
-
-add-producer-2 : tie.Need-add-producer-2 Inv-loop μ-loop
-add-producer-2 c = omega arith
-
-producer-requires-2 : tie.Need-producer-requires-2 Inv-loop μ-loop
-producer-requires-2 c κs = (c .before .before .before .before .before .pre .0, omega arith)
+read-producer-requires : tie.Need-read-producer-requires Inv-loop μ-loop
+read-producer-requires c κs = (c .before .before .before .before .pre .0, omega arith)
 
 add-t : tie.Need-add-t Inv-loop μ-loop
 add-t c = omega arith
@@ -44,16 +39,15 @@ loop-less c = omega arith
 
 loop-again : tie.Need-loop-again Inv-loop μ-loop
 loop-again c =
-    let a = c .before .before .before .before .before .before .args in (
-      omega arith,
-      none-more (reader (sizes (a .z)) (now (a .s))) (a .r) (c .before .before .before .before .loop .t) (c .before .before .before .before .loop .inv .1) (c .before .producer .ensures .is) (c .producer2 .ensures .is),
-    )
+    let a = c .before .before .before .before .before .before .before .args in
+    let p = c .before .before .read-producer .ensures in
+    let l = c .before .before .before .before .before .loop in
+    (omega arith, rw (add-one (l .t), l .inv .1, not-next (reader (sizes (a .z)) (now (a .s))) (a .r) (l .t) (p .held .is) (p .claimed .is)) refl)
 
 returns : tie.Need-returns Inv-loop μ-loop
 returns c =
-    let a = c .before .before .before .before .args in
-    let e : c .before .before .loop .t ≡ a .z .producers = omega arith in
-    none-of-all (reader (sizes (a .z)) (now (a .s))) (a .r) e (c .before .before .loop .inv .1)
+    let e : c .before .before .loop .t ≡ c .before .before .before .before .args .z .producers = omega arith in
+    rw e at (c .before .before .loop .inv .1)
 
 pub held-by-none-spec : {M : Type 1} → statement M
 held-by-none-spec =
@@ -63,10 +57,8 @@ held-by-none-spec =
     μ-loop
     add-name
     loop-holds
-    add-producer
-    producer-requires
-    add-producer-2
-    producer-requires-2
+    add-read-producer
+    read-producer-requires
     add-t
     loop-less
     loop-again

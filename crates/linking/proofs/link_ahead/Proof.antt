@@ -1,9 +1,10 @@
 -- `linking::link_ahead` meets its contract.
-use native.Mathlib.Omega.{arith}
-use borrow.Author.Needs.{needs}
+use mathlib.Core.List.{[], _∷_}
 use borrow.Author.Tests.{not-true, not-false}
-use Rattle.rules.specs.Cell.{writes}
-use Rattle.linking.specs.Link.{ahead-refused, ahead-made}
+use Rattle.rules.specs.Cell.{clearProducer, writes}
+use Rattle.rules.specs.Producer.{linkAhead}
+use Rattle.rules.specs.Rule.{ended}
+use borrow.Author.Needs.{needs}
 use Rattle.linking.proofs.link_ahead.Statement.{statement}
 use Rattle.linking.proofs.link_ahead.Tie as tie
 
@@ -14,21 +15,18 @@ same-length : tie.Need-same-length
 same-length c = search needs
 
 returns : tie.Need-returns
-returns c = ahead-refused (c .before .before .before .link .ensures) (not-true _ (c .if1 .taken))
+unfolding linkAhead
+returns c = rw (not-true (c .before .before .before .link .result) (c .if1 .taken)) at (c .before .before .before .link .ensures .then ended (clearProducer (c .before .before .before .before .before .before .args .t) ∷ []))
 
 clear-producer-requires : tie.Need-clear-producer-requires
-clear-producer-requires c κs = omega (arith, c .before .before .before .before .before .before .before)
+clear-producer-requires c κs = search needs
 
 same-length-2 : tie.Need-same-length-2
 same-length-2 c = search needs
 
 returns-2 : tie.Need-returns-2
-unfolding writes
-returns-2 c =
-    let link = c .before .before .before .before .before .before .before .link in
-    let if1 = c .before .before .before .before .if1 in
-    let clear-producer = c .before .before .clear-producer in
-    rw (clear-producer .ensures) (ahead-made (link .ensures) (not-false _ (if1 .left)))
+unfolding linkAhead writes
+returns-2 c = rw (c .before .before .clear-producer .ensures) (rw (not-false (c .before .before .before .before .before .before .before .link .result) (c .before .before .before .before .if1 .left)) at (c .before .before .before .before .before .before .before .link .ensures .then ended (clearProducer (c .before .before .before .before .before .before .before .before .before .before .args .t) ∷ [])))
 
 pub link-ahead-spec : {M : Type 1} → statement M
 link-ahead-spec =

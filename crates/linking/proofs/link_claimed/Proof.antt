@@ -1,9 +1,10 @@
 -- `linking::link_claimed` meets its contract.
-use native.Mathlib.Omega.{arith}
-use borrow.Author.Needs.{needs}
+use mathlib.Core.List.{[], _∷_}
 use borrow.Author.Tests.{not-true, not-false}
-use Rattle.rules.specs.Cell.{writes}
-use Rattle.linking.specs.Link.{claimed-refused, claimed-made}
+use Rattle.rules.specs.Cell.{_:=_, claimed, phase, writes}
+use Rattle.rules.specs.Producer.{linkClaimed}
+use Rattle.rules.specs.Rule.{going}
+use borrow.Author.Needs.{needs}
 use Rattle.linking.proofs.link_claimed.Statement.{statement}
 use Rattle.linking.proofs.link_claimed.Tie as tie
 
@@ -14,25 +15,21 @@ same-length : tie.Need-same-length
 same-length c = search needs
 
 returns : tie.Need-returns
-returns c = claimed-refused (c .before .before .before .link .ensures) (not-true _ (c .if1 .taken))
+unfolding linkClaimed
+returns c = rw (not-true (c .before .before .before .link .result) (c .if1 .taken)) at (c .before .before .before .link .ensures .then going (claimed (c .before .before .before .before .before .before .args .t) := 0 ∷ phase (c .before .before .before .before .before .before .args .t) := 6 ∷ []))
 
 put-producer-requires : tie.Need-put-producer-requires
-put-producer-requires c κs = omega (arith, c .before .before .before .before .before .before .before)
+put-producer-requires c κs = search needs
 
 put-producer-requires-2 : tie.Need-put-producer-requires-2
-put-producer-requires-2 c κs = omega (arith, c .before .before .before .before .before .before .before .before .before .before .before)
+put-producer-requires-2 c κs = search needs
 
 same-length-2 : tie.Need-same-length-2
 same-length-2 c = search needs
 
 returns-2 : tie.Need-returns-2
-unfolding writes
-returns-2 c =
-    let link = c .before .before .before .before .before .before .before .before .before .before .before .link in
-    let if1 = c .before .before .before .before .before .before .before .before .if1 in
-    let put-producer = c .before .before .before .before .before .before .put-producer in
-    let put-producer2 = c .before .before .put-producer2 in
-    rw (put-producer2 .ensures, put-producer .ensures) (claimed-made (link .ensures) (not-false _ (if1 .left)))
+unfolding linkClaimed writes
+returns-2 c = rw (c .before .before .put-producer2 .ensures, c .before .before .before .before .before .before .put-producer .ensures) (rw (not-false (c .before .before .before .before .before .before .before .before .before .before .before .link .result) (c .before .before .before .before .before .before .before .before .if1 .left)) at (c .before .before .before .before .before .before .before .before .before .before .before .link .ensures .then going (claimed (c .before .before .before .before .before .before .before .before .before .before .before .before .before .before .args .t) := 0 ∷ phase (c .before .before .before .before .before .before .before .before .before .before .before .before .before .before .args .t) := 6 ∷ [])))
 
 pub link-claimed-spec : {M : Type 1} → statement M
 link-claimed-spec =
