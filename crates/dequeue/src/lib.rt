@@ -1,127 +1,108 @@
 // The consumer's phases 1 to 4, a function each (document 01, "Calls"). The words are admitted.
 ghost use mathlib.Core.Path.{_≡_};
-ghost use Prim.Native.Nat.{_≤_, _<_};
+ghost use Prim.Native.Nat.{_<_};
+ghost use Rattle.rules.specs.Rule.{cross};
 ghost use Rattle.rules.specs.Consumer.{front, readTail, scan, readEntry};
 ghost use Rattle.store.specs.Shape.{sizes};
 ghost use Rattle.store.specs.Outcome.{left, does};
 ghost use Rattle.store.specs.Store.{Admitted};
-ghost use Rattle.dequeue.specs.Front.{Crossed, frontEnd, frontEntry};
+ghost use Rattle.dequeue.specs.Crossing.{Crossed, toHead, toCursor};
 use store::Reply;
 use store::Shape;
+use store::Slot;
 use store::clear_consumer;
-use store::consumer;
-use store::content;
 use store::entry;
-use store::index_in;
 use store::part;
+use store::phase;
 use store::put_consumer;
 use store::put_content;
-use store::put_part;
+use store::put_cursor;
+use store::put_found;
+use store::put_head;
+use store::put_use;
+use store::read_consumer;
+use store::read_contents;
 use store::record_end;
+use store::slot_in;
+use store::state;
+use store::usage;
 use store::word;
 
-// Where a crossing leads: a stored record number, 0 where it is refused, and that record's first position.
-pub struct Crossing {
-    pub record: u32,
-    pub position: u32,
+// Where a crossing leads: a link and the first position of its record, or nowhere, where it is refused.
+pub enum Crossing {
+    None,
+    To { link: u32, position: u32 },
 }
 
 // From record r to its next, at that one's first position.
 pub fn cross_from(s: &[u32], z: Shape, r: u32) -> Crossing
     requires { ⌜ Admitted (sizes z) (now s) ⌝ }
     requires { ⌜ r < z .records ⌝ }
-    ensures { λ c. ⌜ Crossed (sizes z) (now (s .entry)) r (c .record) (c .position) ⌝ }
+    ensures { λ x. ⌜ Crossed (sizes z) (now (s .entry)) r x ⌝ }
 {
-    let next = part(s, z, r, word::NEXT);
-    if next == 0 {
-        return Crossing {
-            record: 0,
-            position: 0,
-        };
+    let link = part(s, z, r, word::NEXT);
+    if link == 0 {
+        return Crossing::None;
     }
-    let place = part(s, z, next - 1, word::PLACE);
+    let place = part(s, z, link - 1, word::PLACE);
     if place == 0 {
-        return Crossing {
-            record: 0,
-            position: 0,
-        };
+        return Crossing::None;
     }
     let position = z.entries * (place - 1);
     if z.starts < position {
-        return Crossing {
-            record: 0,
-            position: 0,
-        };
+        return Crossing::None;
     }
-    Crossing {
-        record: next,
-        position,
-    }
+    Crossing::To { link, position }
 }
 
-// At the end of the head record: empty if it is also the tail record; otherwise next becomes head record, head position its
-// first, the old one is retired; stay.
-fn front_end(s: &mut [u32], z: Shape, h: u32) -> Reply
+// Next becomes head record, head position its first, the old one is retired.
+fn move_head(s: &mut [u32], z: Shape, h: u32) -> Reply
     requires { ⌜ Admitted (sizes z) (now s) ⌝ }
     requires { ⌜ h < z .records ⌝ }
-    ensures { λ r. ⌜ left r (now (s .exit)) ≡ does (λ z σ. frontEnd z σ h) z (now (s .entry)) ⌝ }
+    ensures { λ r. ⌜ left r (now (s .exit)) ≡ does (λ z σ. cross z σ h (toHead h)) z (now (s .entry)) ⌝ }
 {
-    if content(s, z, word::TAIL_RECORD) == h + 1 {
-        clear_consumer(s, z);
-        return Reply::Empty;
-    }
-    let c = cross_from(s, z, h);
-    if c.record == 0 {
+    let Crossing::To { link, position } = cross_from(s, z, h) else {
         return Reply::Refused(9);
-    }
-    put_content(s, z, word::HEAD_RECORD, c.record);
-    put_content(s, z, word::HEAD_POSITION, c.position);
-    put_part(s, z, h, word::USE, 3);
+    };
+    put_head(s, z, link, position);
+    put_use(s, z, h, usage::RETIRED);
     Reply::Going
 }
 
-// Else read the entry: handled advances the head; set goes to 6 with found the head; empty goes to 2.
-fn front_entry(s: &mut [u32], z: Shape, h: u32, p: u32) -> Reply
-    requires { ⌜ Admitted (sizes z) (now s) ⌝ }
-    requires { ⌜ (h < z .records) × (p ≤ z .starts) ⌝ }
-    ensures { λ r. ⌜ left r (now (s .exit)) ≡ does (λ z σ. frontEntry z σ h p) z (now (s .entry)) ⌝ }
-{
-    let i = index_in(s, z, h, p);
-    if z.entries <= i {
-        return Reply::Refused(9);
-    }
-    let state = entry(s, z, h, i, word::STATE);
-    if state == 0 {
-        put_consumer(s, z, word::PHASE, 2);
-        return Reply::Going;
-    }
-    if state == 1 {
-        put_consumer(s, z, word::FOUND_RECORD, h + 1);
-        put_consumer(s, z, word::FOUND_POSITION, p);
-        put_consumer(s, z, word::PHASE, 6);
-        return Reply::Going;
-    }
-    if z.starts <= p {
-        return Reply::Refused(9);
-    }
-    put_content(s, z, word::HEAD_POSITION, p + 1);
-    Reply::Going
-}
-
-// 1. Front.
+// 1. Front. At the end of the head record: empty if it is also the tail record; otherwise next becomes head record, head
+// position its first, the old one is retired; stay. Else read the entry: handled advances the head; set goes to 6 with found
+// the head; empty goes to 2.
 pub fn read_front(s: &mut [u32], z: Shape) -> Reply
     requires { ⌜ Admitted (sizes z) (now s) ⌝ }
     ensures { λ r. ⌜ left r (now (s .exit)) ≡ does front z (now (s .entry)) ⌝ }
 {
-    let head = content(s, z, word::HEAD_RECORD);
-    if head == 0 {
+    let q = read_contents(s, z);
+    let slot = slot_in(s, z, q.head_record, q.head_position);
+    if let Slot::End { record } = slot {
+        if q.tail_record == q.head_record {
+            clear_consumer(s, z);
+            return Reply::Empty;
+        }
+        return move_head(s, z, record);
+    }
+    let Slot::At { record, index } = slot else {
+        return Reply::Refused(9);
+    };
+    let found = entry(s, z, record, index, word::STATE);
+    if found == state::EMPTY {
+        put_consumer(s, z, word::PHASE, phase::READ_TAIL);
+        return Reply::Going;
+    }
+    if found == state::SET {
+        put_found(s, z, q.head_record, q.head_position);
+        put_consumer(s, z, word::PHASE, phase::READ_ITEM);
+        return Reply::Going;
+    }
+    if z.starts <= q.head_position {
         return Reply::Refused(9);
     }
-    let position = content(s, z, word::HEAD_POSITION);
-    if position == record_end(s, z, head - 1) {
-        return front_end(s, z, head - 1);
-    }
-    front_entry(s, z, head - 1, position)
+    put_content(s, z, word::HEAD_POSITION, q.head_position + 1);
+    Reply::Going
 }
 
 // 2. Read tail: equal to the head position is empty; otherwise the cursor is the next position; to 3.
@@ -129,18 +110,29 @@ pub fn read_tail(s: &mut [u32], z: Shape) -> Reply
     requires { ⌜ Admitted (sizes z) (now s) ⌝ }
     ensures { λ r. ⌜ left r (now (s .exit)) ≡ does readTail z (now (s .entry)) ⌝ }
 {
-    let position = content(s, z, word::HEAD_POSITION);
-    if content(s, z, word::TAIL) == position {
+    let q = read_contents(s, z);
+    if q.tail == q.head_position {
         clear_consumer(s, z);
         return Reply::Empty;
     }
-    if z.starts <= position {
+    if z.starts <= q.head_position {
         return Reply::Refused(9);
     }
-    let head = content(s, z, word::HEAD_RECORD);
-    put_consumer(s, z, word::CURSOR_RECORD, head);
-    put_consumer(s, z, word::CURSOR_POSITION, position + 1);
-    put_consumer(s, z, word::PHASE, 3);
+    put_cursor(s, z, q.head_record, q.head_position + 1);
+    put_consumer(s, z, word::PHASE, phase::SCAN);
+    Reply::Going
+}
+
+// Cross to next, the cursor at its first position.
+fn move_cursor(s: &mut [u32], z: Shape, r: u32) -> Reply
+    requires { ⌜ Admitted (sizes z) (now s) ⌝ }
+    requires { ⌜ r < z .records ⌝ }
+    ensures { λ a. ⌜ left a (now (s .exit)) ≡ does (λ z σ. cross z σ r toCursor) z (now (s .entry)) ⌝ }
+{
+    let Crossing::To { link, position } = cross_from(s, z, r) else {
+        return Reply::Refused(9);
+    };
+    put_cursor(s, z, link, position);
     Reply::Going
 }
 
@@ -150,30 +142,24 @@ pub fn scan_on(s: &mut [u32], z: Shape) -> Reply
     requires { ⌜ Admitted (sizes z) (now s) ⌝ }
     ensures { λ r. ⌜ left r (now (s .exit)) ≡ does scan z (now (s .entry)) ⌝ }
 {
-    let cursor = consumer(s, z, word::CURSOR_RECORD);
-    if cursor == 0 {
+    let c = read_consumer(s, z);
+    if c.cursor_record == 0 {
         return Reply::Refused(9);
     }
-    let position = consumer(s, z, word::CURSOR_POSITION);
-    if position != record_end(s, z, cursor - 1) {
-        if position == content(s, z, word::TAIL) {
+    let q = read_contents(s, z);
+    if c.cursor_position != record_end(s, z, c.cursor_record - 1) {
+        if c.cursor_position == q.tail {
             clear_consumer(s, z);
             return Reply::Empty;
         }
-        put_consumer(s, z, word::PHASE, 4);
+        put_consumer(s, z, word::PHASE, phase::READ_ENTRY);
         return Reply::Going;
     }
-    if content(s, z, word::TAIL_RECORD) == cursor {
+    if q.tail_record == c.cursor_record {
         clear_consumer(s, z);
         return Reply::Empty;
     }
-    let c = cross_from(s, z, cursor - 1);
-    if c.record == 0 {
-        return Reply::Refused(9);
-    }
-    put_consumer(s, z, word::CURSOR_RECORD, c.record);
-    put_consumer(s, z, word::CURSOR_POSITION, c.position);
-    Reply::Going
+    move_cursor(s, z, c.cursor_record - 1)
 }
 
 // 4. Read the entry: set makes it found, and the cursor returns to the head; to 5. Otherwise advance; to 3.
@@ -181,29 +167,21 @@ pub fn read_entry(s: &mut [u32], z: Shape) -> Reply
     requires { ⌜ Admitted (sizes z) (now s) ⌝ }
     ensures { λ r. ⌜ left r (now (s .exit)) ≡ does readEntry z (now (s .entry)) ⌝ }
 {
-    let cursor = consumer(s, z, word::CURSOR_RECORD);
-    if cursor == 0 {
+    let c = read_consumer(s, z);
+    let Slot::At { record, index } = slot_in(s, z, c.cursor_record, c.cursor_position) else {
         return Reply::Refused(9);
-    }
-    let position = consumer(s, z, word::CURSOR_POSITION);
-    let i = index_in(s, z, cursor - 1, position);
-    if z.entries <= i {
-        return Reply::Refused(9);
-    }
-    if entry(s, z, cursor - 1, i, word::STATE) == 1 {
-        let head = content(s, z, word::HEAD_RECORD);
-        let head_position = content(s, z, word::HEAD_POSITION);
-        put_consumer(s, z, word::FOUND_RECORD, cursor);
-        put_consumer(s, z, word::FOUND_POSITION, position);
-        put_consumer(s, z, word::CURSOR_RECORD, head);
-        put_consumer(s, z, word::CURSOR_POSITION, head_position);
-        put_consumer(s, z, word::PHASE, 5);
+    };
+    if entry(s, z, record, index, word::STATE) == state::SET {
+        let q = read_contents(s, z);
+        put_found(s, z, c.cursor_record, c.cursor_position);
+        put_cursor(s, z, q.head_record, q.head_position);
+        put_consumer(s, z, word::PHASE, phase::RESCAN);
         return Reply::Going;
     }
-    if z.starts <= position {
+    if z.starts <= c.cursor_position {
         return Reply::Refused(9);
     }
-    put_consumer(s, z, word::CURSOR_POSITION, position + 1);
-    put_consumer(s, z, word::PHASE, 3);
+    put_consumer(s, z, word::CURSOR_POSITION, c.cursor_position + 1);
+    put_consumer(s, z, word::PHASE, phase::SCAN);
     Reply::Going
 }

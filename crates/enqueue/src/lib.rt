@@ -29,12 +29,12 @@ pub fn take_position(s: &mut [u32], z: Shape, t: u32) -> Reply
     requires { ⌜ (1 ≤ t) × (t ≤ z .producers) ⌝ }
     ensures { λ r. ⌜ left r (now (s .exit)) ≡ does (λ z σ. takePosition z σ t) z (now (s .entry)) ⌝ }
 {
-    let c = read_contents(s, z);
-    if z.starts <= c.tail {
+    let q = read_contents(s, z);
+    if z.starts <= q.tail {
         return Reply::Refused(9);
     }
-    put_producer(s, z, t, word::POSITION, c.tail);
-    put_content(s, z, word::TAIL, c.tail + 1);
+    put_producer(s, z, t, word::POSITION, q.tail);
+    put_content(s, z, word::TAIL, q.tail + 1);
     put_producer(s, z, t, word::PHASE, phase::LOAD);
     Reply::Going
 }
@@ -57,12 +57,12 @@ pub fn load_tail(s: &mut [u32], z: Shape, t: u32) -> Reply
     requires { ⌜ (1 ≤ t) × (t ≤ z .producers) ⌝ }
     ensures { λ r. ⌜ left r (now (s .exit)) ≡ does (λ z σ. loadTail z σ t) z (now (s .entry)) ⌝ }
 {
-    let c = read_contents(s, z);
-    if c.tail_record == 0 {
+    let q = read_contents(s, z);
+    if q.tail_record == 0 {
         return Reply::Refused(9);
     }
-    let next = choose_phase(s, z, t, c.tail_record - 1);
-    put_producer(s, z, t, word::HELD, c.tail_record);
+    let next = choose_phase(s, z, t, q.tail_record - 1);
+    put_producer(s, z, t, word::HELD, q.tail_record);
     put_producer(s, z, t, word::PHASE, next);
     Reply::Going
 }

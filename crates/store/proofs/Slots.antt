@@ -25,17 +25,22 @@ module _ {z : Sizes} {m : List ℕ} {l p : ℕ} {x : Slot} (s : Slotted z m l p 
   pub stands-at : {r i : ℕ} → x ≡ At r i → StandsAt z (reader z m) l p r i
   stands-at e = rw e at (s .stands)
 
+module _ {z : Sizes} {m : List ℕ} {l p : ℕ} where
+  -- not in the record
+  pub not-inside : (b : ℕ → Answer) (x : Slot) → OneOf (0 ∷ 1 ∷ []) (tagOf the-type x) → Slotted z m l p x
+      → left (Refused 9) m ≡ applied z m (need l (λ r. cond (within z (reader z m) r p) (b r) (refuse 9)))
+  unfolding applied
+  not-inside b None k s = ap (applied z m) (sym (s .stands .outside b))
+  not-inside b (End r) k s = rw (s .stands .link, s .stands .outside) refl
+  not-inside b (At r i) (inl k) s = absurd (omega arith)
+  not-inside b (At r i) (inr k) s = absurd (omega arith)
+
   -- neither at the record's end nor in it
-  pub nowhere : (a b : ℕ → Answer) → x ≡ None
+  pub nowhere : (a b : ℕ → Answer) (x : Slot) → OneOf (0 ∷ 2 ∷ []) (tagOf the-type x) → OneOf (0 ∷ 1 ∷ []) (tagOf the-type x) → Slotted z m l p x
       → left (Refused 9) m ≡ applied z m (need l (λ r. cond (atEnd z (reader z m) r p) (a r) (cond (within z (reader z m) r p) (b r) (refuse 9))))
   unfolding applied
-  nowhere a b e = ap (applied z m) (sym ((rw e at (s .stands)) .refused a b))
-
--- not in the record
-pub not-inside : {z : Sizes} {m : List ℕ} {l p : ℕ} (b : ℕ → Answer) (x : Slot) → OneOf (0 ∷ 1 ∷ []) (tagOf the-type x) → Slotted z m l p x
-    → left (Refused 9) m ≡ applied z m (need l (λ r. cond (within z (reader z m) r p) (b r) (refuse 9)))
-unfolding applied
-not-inside {z = z} {m = m} b None k s = ap (applied z m) (sym (s .stands .outside b))
-not-inside b (End r) k s = rw (s .stands .link, s .stands .outside) refl
-not-inside b (At r i) (inl e) s = absurd (omega arith)
-not-inside b (At r i) (inr e) s = absurd (omega arith)
+  nowhere a b None j k s = ap (applied z m) (sym (s .stands .refused a b))
+  nowhere a b (End r) (inl j) k s = absurd (omega arith)
+  nowhere a b (End r) (inr j) k s = absurd (omega arith)
+  nowhere a b (At r i) j (inl k) s = absurd (omega arith)
+  nowhere a b (At r i) j (inr k) s = absurd (omega arith)

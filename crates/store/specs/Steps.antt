@@ -1,4 +1,4 @@
--- What the proofs of the phases share: a link that is not none, as the rules take it apart.
+-- What the proofs of the phases share: a link that is not none, and a state, as the rules take them apart.
 use mathlib.Core.Path.{_≡_}
 use Prim.Native.Nat.{ℕ, suc, _-_}
 use native.Mathlib.Omega.{arith}
@@ -12,3 +12,7 @@ some {x} {h} e n = go h e n
 
 pub suc-pred : {h : ℕ} → (h ≡ 0 → ⊥) → suc (h - 1) ≡ h
 suc-pred {h} n = omega arith
+
+-- a state that is neither empty nor set
+pub handled : {x s : ℕ} → x ≡ s → (s ≡ 0 → ⊥) → (s ≡ 1 → ⊥) → x ≡ suc (suc (s - 2))
+handled {x} {s} e n o = omega arith

@@ -5,7 +5,7 @@ ghost use Prim.Native.Nat.{_+_, _*_, _<_, _≤_};
 ghost use lib.ListN.{length, set, replicate};
 ghost use lib.Seq.{sets};
 ghost use Rattle.rules.specs.Sizes.{firstRecord, recordWords, storeWords, mostEntries, mostRecords, mostProducers, mostPlace, mostWords};
-ghost use Rattle.rules.specs.Cell.{reader, place, used, write, _:=_, content, consumer, producer, part, entry, clearConsumer, clearProducer, wipe};
+ghost use Rattle.rules.specs.Cell.{reader, place, used, write, _:=_, content, consumer, producer, part, entry, headRecord, headPosition, cursorRecord, cursorPosition, foundRecord, foundPosition, clearConsumer, clearProducer, wipe};
 ghost use Rattle.rules.specs.Address.{There};
 ghost use Rattle.store.specs.Shape.{sizes};
 ghost use Rattle.store.specs.Store.{Room, Admitted, Reads, Holds};
@@ -116,6 +116,17 @@ fn put_word(s: &mut [u32], z: Shape, at: u32, v: u32)
     s[at as usize] = v;
 }
 
+// Two words, one after the other.
+fn put_pair(s: &mut [u32], z: Shape, at: u32, v: u32, w: u32)
+    requires { ⌜ Room (sizes z) (now s) ⌝ }
+    requires { ⌜ at + 1 < storeWords (sizes z) ⌝ }
+    ensures { λ _. ⌜ now (s .exit) ≡ set (set (now (s .entry)) at v) (at + 1) w ⌝ }
+{
+    let i = at as usize;
+    s[i] = v;
+    s[i + 1] = w;
+}
+
 // Word k of the contents.
 fn content_word(s: &[u32], z: Shape, k: u32) -> u32
     requires { ⌜ Admitted (sizes z) (now s) ⌝ }
@@ -131,6 +142,14 @@ pub fn put_content(s: &mut [u32], z: Shape, k: u32, v: u32)
     ensures { λ _. ⌜ now (s .exit) ≡ write (sizes z) (now (s .entry)) (content k := v) ⌝ }
 {
     put_word(s, z, k, v);
+}
+
+// The head, a link and a position.
+pub fn put_head(s: &mut [u32], z: Shape, link: u32, position: u32)
+    requires { ⌜ Room (sizes z) (now s) ⌝ }
+    ensures { λ _. ⌜ now (s .exit) ≡ write (sizes z) (write (sizes z) (now (s .entry)) (headRecord := link)) (headPosition := position) ⌝ }
+{
+    put_pair(s, z, word::HEAD_RECORD, link, position);
 }
 
 pub fn read_contents(s: &[u32], z: Shape) -> Contents
@@ -161,6 +180,21 @@ pub fn put_consumer(s: &mut [u32], z: Shape, k: u32, v: u32)
     ensures { λ _. ⌜ now (s .exit) ≡ write (sizes z) (now (s .entry)) (consumer k := v) ⌝ }
 {
     put_word(s, z, size::CONTENT_WORDS + k, v);
+}
+
+// The cursor, a link and a position, and the entry found.
+pub fn put_cursor(s: &mut [u32], z: Shape, link: u32, position: u32)
+    requires { ⌜ Room (sizes z) (now s) ⌝ }
+    ensures { λ _. ⌜ now (s .exit) ≡ write (sizes z) (write (sizes z) (now (s .entry)) (cursorRecord := link)) (cursorPosition := position) ⌝ }
+{
+    put_pair(s, z, size::CONTENT_WORDS + word::CURSOR_RECORD, link, position);
+}
+
+pub fn put_found(s: &mut [u32], z: Shape, link: u32, position: u32)
+    requires { ⌜ Room (sizes z) (now s) ⌝ }
+    ensures { λ _. ⌜ now (s .exit) ≡ write (sizes z) (write (sizes z) (now (s .entry)) (foundRecord := link)) (foundPosition := position) ⌝ }
+{
+    put_pair(s, z, size::CONTENT_WORDS + word::FOUND_RECORD, link, position);
 }
 
 pub fn read_consumer(s: &[u32], z: Shape) -> Consumer

@@ -42,7 +42,7 @@ loop-again c =
     let a = c .before .before .before .before .before .before .before .args in
     let p = c .before .before .read-producer .ensures in
     let l = c .before .before .before .before .before .loop in
-    (omega arith, rw (add-one (l .t), l .inv .1, not-next (reader (sizes (a .z)) (now (a .s))) (a .r) (l .t) (p .held .is) (p .claimed .is)) refl)
+    (omega arith, rw (add-one (l .t), l .inv .1, not-next (reader (sizes (a .z)) (now (a .s))) (a .r) (l .t) (p .held) (p .claimed)) refl)
 
 returns : tie.Need-returns Inv-loop μ-loop
 returns c =

@@ -1,38 +1,42 @@
 -- `dequeue::read_front` meets its contract.
-use mathlib.Core.Path.{refl}
+use mathlib.Core.Path.{refl, sym, _∙_}
+use Prim.Native.Nat.{suc}
+use native.Mathlib.Numerals.{add-one}
 use native.Mathlib.Omega.{arith}
-use borrow.Author.Needs.{needs}
+use borrow.Author.Tests.{eq-eqb, ne-eqb, le-leb, lt-leb}
+use Rattle.rules.specs.Cell.{writes}
 use Rattle.rules.specs.Consumer.{front}
 use Rattle.rules.specs.Request.{applied}
-use Rattle.store.specs.Steps.{some}
-use Rattle.dequeue.specs.Front.{at-end, not-end}
+use Rattle.store.specs.Steps.{handled}
+use Rattle.store.proofs.Slots.{stands-end, stands-at, nowhere}
+use borrow.Author.Needs.{needs}
 use Rattle.dequeue.proofs.read_front.Statement.{statement}
 use Rattle.dequeue.proofs.read_front.Tie as tie
 
-content-requires : tie.Need-content-requires
-content-requires c κs = search needs
+read-contents-requires : tie.Need-read-contents-requires
+read-contents-requires c κs = search needs
+
+slot-in-requires : tie.Need-slot-in-requires
+slot-in-requires c κs = search needs
+
+enum-known-slot : tie.Need-enum-known-slot
+enum-known-slot c = search needs
+
+clear-consumer-requires : tie.Need-clear-consumer-requires
+clear-consumer-requires c κs = search needs
 
 same-length : tie.Need-same-length
 same-length c = search needs
 
 returns : tie.Need-returns
-unfolding applied front
-returns c = rw (c .before .content .ensures .is, c .if1 .taken) refl
+unfolding front applied writes
+returns c =
+    let q = c .before .before .before .before .before .before .before .before .before .before .before .read-contents .ensures in
+    let end = stands-end (c .before .before .before .before .before .before .before .before .before .slot-in .ensures) (c .before .before .before .before .before .before .before .slot .given .1) in
+    rw (q .head-record, q .head-position, end .link, end .ends, q .tail-record, eq-eqb _ _ (c .before .before .before .before .if1 .taken ∙ end .link), c .before .before .clear-consumer .ensures) refl
 
-content-requires-2 : tie.Need-content-requires-2
-content-requires-2 c κs = search needs
-
-sub-record-end : tie.Need-sub-record-end
-sub-record-end c = search needs
-
-record-end-requires : tie.Need-record-end-requires
-record-end-requires c κs = search needs
-
-sub-front-end : tie.Need-sub-front-end
-sub-front-end c = search needs
-
-front-end-requires : tie.Need-front-end-requires
-front-end-requires c κs = search needs
+move-head-requires : tie.Need-move-head-requires
+move-head-requires c κs = (c .before .before .before .before .before .before .before .before .before .before .before .pre, stands-end (c .before .before .before .before .before .before .slot-in .ensures) (c .before .before .before .before .slot .given .1) .below)
 
 same-length-2 : tie.Need-same-length-2
 same-length-2 c = search needs
@@ -40,19 +44,12 @@ same-length-2 c = search needs
 returns-2 : tie.Need-returns-2
 unfolding front
 returns-2 c =
-    let content = c .before .before .before .before .before .before .before .before .before .before .content in
-    let if1 = c .before .before .before .before .before .before .before .before .before .if1 in
-    let content2 = c .before .before .before .before .before .before .before .content2 in
-    let record-end = c .before .before .before .before .before .record-end in
-    let if2 = c .before .before .before .before .if2 in
-    let front-end = c .before .before .front-end in
-    rw (some (content .ensures .is) (if1 .left), content2 .ensures .is, at-end {p = content2 .result} (record-end .ensures .0) (omega (arith, if2 .taken))) (front-end .ensures)
+    let q = c .before .before .before .before .before .before .before .before .before .before .before .read-contents .ensures in
+    let end = stands-end (c .before .before .before .before .before .before .before .before .before .slot-in .ensures) (c .before .before .before .before .before .before .before .slot .given .1) in
+    rw (q .head-record, q .head-position, end .link, end .ends, q .tail-record, ne-eqb _ _ (λ e. c .before .before .before .before .if1 .left (e ∙ sym (end .link)))) (c .before .before .move-head .ensures)
 
-sub-front-entry : tie.Need-sub-front-entry
-sub-front-entry c = search needs
-
-front-entry-requires : tie.Need-front-entry-requires
-front-entry-requires c κs = search needs
+enum-known-slot-2 : tie.Need-enum-known-slot-2
+enum-known-slot-2 c = search needs
 
 same-length-3 : tie.Need-same-length-3
 same-length-3 c = search needs
@@ -60,29 +57,95 @@ same-length-3 c = search needs
 returns-3 : tie.Need-returns-3
 unfolding front
 returns-3 c =
-    let content = c .before .before .before .before .before .before .before .before .before .before .content in
-    let if1 = c .before .before .before .before .before .before .before .before .before .if1 in
-    let content2 = c .before .before .before .before .before .before .before .content2 in
-    let record-end = c .before .before .before .before .before .record-end in
-    let if2 = c .before .before .before .before .if2 in
-    let front-entry = c .before .before .front-entry in
-    rw (some (content .ensures .is) (if1 .left), content2 .ensures .is, not-end {p = content2 .result} (record-end .ensures .0) (λ e. omega (arith, if2 .left))) (front-entry .ensures)
+    let q = c .before .before .before .before .read-contents .ensures in
+    rw (q .head-record, q .head-position) (nowhere _ _ _ (c .before .match .keys2) (c .match2 .keys2) (c .before .before .slot-in .ensures))
+
+entry-requires : tie.Need-entry-requires
+entry-requires c κs = (c .before .before .before .before .before .before .before .before .before .before .pre, omega (arith, stands-at (c .before .before .before .before .before .slot-in .ensures) (c .before .before .slot2 .given .1)))
+
+put-consumer-requires : tie.Need-put-consumer-requires
+put-consumer-requires c κs = search needs
+
+same-length-4 : tie.Need-same-length-4
+same-length-4 c = search needs
+
+returns-4 : tie.Need-returns-4
+unfolding front applied writes
+returns-4 c =
+    let q = c .before .before .before .before .before .before .before .before .before .before .before .before .before .read-contents .ensures in
+    let at = stands-at (c .before .before .before .before .before .before .before .before .before .before .before .slot-in .ensures) (c .before .before .before .before .before .before .before .before .slot2 .given .1) in
+    rw (q .head-record, q .head-position, at .link, at .before, at .inside, at .is, c .before .before .before .before .before .entry .ensures .is, c .before .before .before .before .if2 .taken, c .before .before .put-consumer .ensures) refl
+
+put-found-requires : tie.Need-put-found-requires
+put-found-requires c κs = search needs
+
+put-consumer-requires-2 : tie.Need-put-consumer-requires-2
+put-consumer-requires-2 c κs = search needs
+
+same-length-5 : tie.Need-same-length-5
+same-length-5 c = search needs
+
+returns-5 : tie.Need-returns-5
+unfolding front applied writes
+returns-5 c =
+    let q = c .before .before .before .before .before .before .before .before .before .before .before .before .before .before .before .before .before .before .read-contents .ensures in
+    let at = stands-at (c .before .before .before .before .before .before .before .before .before .before .before .before .before .before .before .before .slot-in .ensures) (c .before .before .before .before .before .before .before .before .before .before .before .before .before .slot2 .given .1) in
+    rw (q .head-record, q .head-position, at .link, at .before, at .inside, at .is, c .before .before .before .before .before .before .before .before .before .before .entry .ensures .is, c .before .before .before .before .before .before .before .before .if3 .taken, c .before .before .put-consumer2 .ensures, c .before .before .before .before .before .before .put-found .ensures, at .link) refl
+
+same-length-6 : tie.Need-same-length-6
+same-length-6 c = search needs
+
+returns-6 : tie.Need-returns-6
+unfolding front applied
+returns-6 c =
+    let q = c .before .before .before .before .before .before .before .before .before .before .before .before .before .read-contents .ensures in
+    let at = stands-at (c .before .before .before .before .before .before .before .before .before .before .before .slot-in .ensures) (c .before .before .before .before .before .before .before .before .slot2 .given .1) in
+    rw (q .head-record, q .head-position, at .link, at .before, at .inside, at .is, handled (c .before .before .before .before .before .entry .ensures .is) (c .before .before .before .before .if2 .left) (c .before .before .before .if3 .left), lt-leb (suc (c .before .before .before .before .before .before .before .before .before .before .before .before .before .read-contents .result .«head_position»)) (c .before .before .before .before .before .before .before .before .before .before .before .before .before .before .before .before .args .z .starts) (omega arith)) refl
+
+add-put-content : tie.Need-add-put-content
+add-put-content c = search needs
+
+put-content-requires : tie.Need-put-content-requires
+put-content-requires c κs = search needs
+
+same-length-7 : tie.Need-same-length-7
+same-length-7 c = search needs
+
+returns-7 : tie.Need-returns-7
+unfolding front applied writes
+returns-7 c =
+    let q = c .before .before .before .before .before .before .before .before .before .before .before .before .before .before .before .before .before .before .read-contents .ensures in
+    let at = stands-at (c .before .before .before .before .before .before .before .before .before .before .before .before .before .before .before .before .slot-in .ensures) (c .before .before .before .before .before .before .before .before .before .before .before .before .before .slot2 .given .1) in
+    let p = c .before .before .before .before .before .before .before .before .before .before .before .before .before .before .before .before .before .before .read-contents .result .«head_position» in
+    rw (q .head-record, q .head-position, at .link, at .before, at .inside, at .is, handled (c .before .before .before .before .before .before .before .before .before .before .entry .ensures .is) (c .before .before .before .before .before .before .before .before .before .if2 .left) (c .before .before .before .before .before .before .before .before .if3 .left), le-leb (suc p) (c .before .before .before .before .before .before .before .before .before .before .before .before .before .before .before .before .before .before .before .before .before .args .z .starts) (omega (arith, c .before .before .before .before .before .if4)), c .before .before .put-content .ensures, add-one p) refl
 
 pub read-front-spec : {M : Type 1} → statement M
 read-front-spec =
     tie.close
     (tie.spec
-    content-requires
+    read-contents-requires
+    slot-in-requires
+    enum-known-slot
+    clear-consumer-requires
     same-length
     returns
-    content-requires-2
-    sub-record-end
-    record-end-requires
-    sub-front-end
-    front-end-requires
+    move-head-requires
     same-length-2
     returns-2
-    sub-front-entry
-    front-entry-requires
+    enum-known-slot-2
     same-length-3
-    returns-3)
+    returns-3
+    entry-requires
+    put-consumer-requires
+    same-length-4
+    returns-4
+    put-found-requires
+    put-consumer-requires-2
+    same-length-5
+    returns-5
+    same-length-6
+    returns-6
+    add-put-content
+    put-content-requires
+    same-length-7
+    returns-7)

@@ -20,7 +20,7 @@ select-requires-2 : tie.Need-select-requires-2
 select-requires-2 c κs = search needs
 
 returns : tie.Need-returns
-returns c = rw (c .before .before .before .before .read-producer .ensures .position .is, c .before .before .before .record-end .ensures .0, c .select2 .ensures, c .before .select .ensures) refl
+returns c = rw (c .before .before .before .before .read-producer .ensures .position, c .before .before .before .record-end .ensures .0, c .select2 .ensures, c .before .select .ensures) refl
 
 pub choose-phase-spec : {M : Type 1} → statement M
 choose-phase-spec =

@@ -16,7 +16,7 @@ same-length c = search needs
 
 returns : tie.Need-returns
 unfolding goBack applied
-returns c = rw (c .before .read-producer .ensures .held .is, c .if1 .taken) refl
+returns c = rw (c .before .read-producer .ensures .held, c .if1 .taken) refl
 
 sub-part : tie.Need-sub-part
 sub-part c = search needs
@@ -29,7 +29,7 @@ same-length-2 c = search needs
 
 returns-2 : tie.Need-returns-2
 unfolding goBack applied
-returns-2 c = rw (some (c .before .before .before .before .read-producer .ensures .held .is) (c .before .before .before .if1 .left), c .before .part .ensures .is, c .if2 .taken) refl
+returns-2 c = rw (some (c .before .before .before .before .read-producer .ensures .held) (c .before .before .before .if1 .left), c .before .part .ensures .is, c .if2 .taken) refl
 
 sub-choose-phase : tie.Need-sub-choose-phase
 sub-choose-phase c = search needs
@@ -51,7 +51,7 @@ same-length-3 c = search needs
 
 returns-3 : tie.Need-returns-3
 unfolding goBack applied writes
-returns-3 c = rw (some (c .before .before .before .before .before .before .before .before .before .before .before .before .before .before .before .before .before .before .read-producer .ensures .held .is) (c .before .before .before .before .before .before .before .before .before .before .before .before .before .before .before .before .before .if1 .left), some (c .before .before .before .before .before .before .before .before .before .before .before .before .before .before .before .part .ensures .is) (c .before .before .before .before .before .before .before .before .before .before .before .before .before .before .if2 .left), c .before .before .before .before .before .before .before .before .before .before .before .before .choose-phase .ensures, suc-pred (c .before .before .before .before .before .before .before .before .before .before .before .before .before .before .if2 .left), c .before .before .put-producer3 .ensures, c .before .before .before .before .before .before .put-producer2 .ensures, c .before .before .before .before .before .before .before .before .before .before .put-producer .ensures) refl
+returns-3 c = rw (some (c .before .before .before .before .before .before .before .before .before .before .before .before .before .before .before .before .before .before .read-producer .ensures .held) (c .before .before .before .before .before .before .before .before .before .before .before .before .before .before .before .before .before .if1 .left), some (c .before .before .before .before .before .before .before .before .before .before .before .before .before .before .before .part .ensures .is) (c .before .before .before .before .before .before .before .before .before .before .before .before .before .before .if2 .left), c .before .before .before .before .before .before .before .before .before .before .before .before .choose-phase .ensures, suc-pred (c .before .before .before .before .before .before .before .before .before .before .before .before .before .before .if2 .left), c .before .before .put-producer3 .ensures, c .before .before .before .before .before .before .put-producer2 .ensures, c .before .before .before .before .before .before .before .before .before .before .put-producer .ensures) refl
 
 pub go-back-spec : {M : Type 1} → statement M
 go-back-spec =

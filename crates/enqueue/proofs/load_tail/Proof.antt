@@ -16,7 +16,7 @@ same-length c = search needs
 
 returns : tie.Need-returns
 unfolding loadTail applied
-returns c = rw (c .before .before .read-contents .ensures .tail-record .is, c .if1 .taken) refl
+returns c = rw (c .before .before .read-contents .ensures .tail-record, c .if1 .taken) refl
 
 sub-choose-phase : tie.Need-sub-choose-phase
 sub-choose-phase c = search needs
@@ -35,7 +35,7 @@ same-length-2 c = search needs
 
 returns-2 : tie.Need-returns-2
 unfolding loadTail applied writes
-returns-2 c = rw (some (c .before .before .before .before .before .before .before .before .before .before .before .before .before .read-contents .ensures .tail-record .is) (c .before .before .before .before .before .before .before .before .before .before .before .if1 .left), c .before .before .before .before .before .before .before .before .choose-phase .ensures, suc-pred (c .before .before .before .before .before .before .before .before .before .before .before .if1 .left), c .before .before .put-producer2 .ensures, c .before .before .before .before .before .before .put-producer .ensures) refl
+returns-2 c = rw (some (c .before .before .before .before .before .before .before .before .before .before .before .before .before .read-contents .ensures .tail-record) (c .before .before .before .before .before .before .before .before .before .before .before .if1 .left), c .before .before .before .before .before .before .before .before .choose-phase .ensures, suc-pred (c .before .before .before .before .before .before .before .before .before .before .before .if1 .left), c .before .before .put-producer2 .ensures, c .before .before .before .before .before .before .put-producer .ensures) refl
 
 pub load-tail-spec : {M : Type 1} → statement M
 load-tail-spec =

@@ -25,7 +25,7 @@ returns : tie.Need-returns
 unfolding setEntry
 returns c =
     let p = c .before .before .before .read-producer .ensures in
-    rw (p .held .is, p .position .is) (not-inside _ _ (c .match .keys2) (c .before .slot-in .ensures))
+    rw (p .held, p .position) (not-inside _ _ (c .match .keys2) (c .before .slot-in .ensures))
 
 put-entry-requires : tie.Need-put-entry-requires
 put-entry-requires c κs = omega (arith, c .before .before .before .before .before .before .before .before .before .before .pre, stands-at (c .before .before .before .before .before .slot-in .ensures) (c .before .before .before .«record» .given .1))
@@ -41,7 +41,7 @@ unfolding setEntry applied writes
 returns-2 c =
     let p = c .before .before .before .before .before .before .before .before .before .before .before .before .before .before .before .read-producer .ensures in
     let at = stands-at (c .before .before .before .before .before .before .before .before .before .before .before .before .before .slot-in .ensures) (c .before .before .before .before .before .before .before .before .before .before .before .«record» .given .1) in
-    rw (p .held .is, p .position .is, at .link, at .inside, at .is, p .backed .is, c .before .before .before .before .if1 .taken, c .before .before .put-producer .ensures, c .before .before .before .before .before .before .before .put-entry .ensures) refl
+    rw (p .held, p .position, at .link, at .inside, at .is, p .backed, c .before .before .before .before .if1 .taken, c .before .before .put-producer .ensures, c .before .before .before .before .before .before .before .put-entry .ensures) refl
 
 clear-producer-requires : tie.Need-clear-producer-requires
 clear-producer-requires c κs = search needs
@@ -54,7 +54,7 @@ unfolding setEntry applied writes
 returns-3 c =
     let p = c .before .before .before .before .before .before .before .before .before .before .before .before .before .before .before .read-producer .ensures in
     let at = stands-at (c .before .before .before .before .before .before .before .before .before .before .before .before .before .slot-in .ensures) (c .before .before .before .before .before .before .before .before .before .before .before .«record» .given .1) in
-    rw (p .held .is, p .position .is, at .link, at .inside, at .is, p .backed .is, c .before .before .before .before .if1 .left, c .before .before .clear-producer .ensures, c .before .before .before .before .before .before .before .put-entry .ensures) refl
+    rw (p .held, p .position, at .link, at .inside, at .is, p .backed, c .before .before .before .before .if1 .left, c .before .before .clear-producer .ensures, c .before .before .before .before .before .before .before .put-entry .ensures) refl
 
 pub set-entry-spec : {M : Type 1} → statement M
 set-entry-spec =

@@ -18,7 +18,7 @@ same-length c = search needs
 
 returns : tie.Need-returns
 unfolding shiftTail applied
-returns c = rw (c .before .read-producer .ensures .held .is, c .if1 .taken) refl
+returns c = rw (c .before .read-producer .ensures .held, c .if1 .taken) refl
 
 read-contents-requires : tie.Need-read-contents-requires
 read-contents-requires c κs = search needs
@@ -31,7 +31,7 @@ same-length-2 c = search needs
 
 returns-2 : tie.Need-returns-2
 unfolding shiftTail applied writes
-returns-2 c = rw (some (c .before .before .before .before .before .before .before .before .before .read-producer .ensures .held .is) (c .before .before .before .before .before .before .before .before .if1 .left), c .before .before .before .before .before .before .read-contents .ensures .tail-record .is, suc-pred (c .before .before .before .before .before .before .before .before .if1 .left), ne-eqb _ _ (c .before .before .before .before .if2 .taken), c .before .before .put-producer .ensures) refl
+returns-2 c = rw (some (c .before .before .before .before .before .before .before .before .before .read-producer .ensures .held) (c .before .before .before .before .before .before .before .before .if1 .left), c .before .before .before .before .before .before .read-contents .ensures .tail-record, suc-pred (c .before .before .before .before .before .before .before .before .if1 .left), ne-eqb _ _ (c .before .before .before .before .if2 .taken), c .before .before .put-producer .ensures) refl
 
 sub-part : tie.Need-sub-part
 sub-part c = search needs
@@ -44,7 +44,7 @@ same-length-3 c = search needs
 
 returns-3 : tie.Need-returns-3
 unfolding shiftTail applied
-returns-3 c = rw (some (c .before .before .before .before .before .before .before .before .read-producer .ensures .held .is) (c .before .before .before .before .before .before .before .if1 .left), c .before .before .before .before .before .read-contents .ensures .tail-record .is, suc-pred (c .before .before .before .before .before .before .before .if1 .left), eq-eqb _ _ (c .before .before .before .if2 .left), c .before .part .ensures .is, c .if3 .taken) refl
+returns-3 c = rw (some (c .before .before .before .before .before .before .before .before .read-producer .ensures .held) (c .before .before .before .before .before .before .before .if1 .left), c .before .before .before .before .before .read-contents .ensures .tail-record, suc-pred (c .before .before .before .before .before .before .before .if1 .left), eq-eqb _ _ (c .before .before .before .if2 .left), c .before .part .ensures .is, c .if3 .taken) refl
 
 put-content-requires : tie.Need-put-content-requires
 put-content-requires c κs = search needs
@@ -57,7 +57,7 @@ same-length-4 c = search needs
 
 returns-4 : tie.Need-returns-4
 unfolding shiftTail applied writes
-returns-4 c = rw (some (c .before .before .before .before .before .before .before .before .before .before .before .before .before .before .before .before .read-producer .ensures .held .is) (c .before .before .before .before .before .before .before .before .before .before .before .before .before .before .before .if1 .left), c .before .before .before .before .before .before .before .before .before .before .before .before .before .read-contents .ensures .tail-record .is, suc-pred (c .before .before .before .before .before .before .before .before .before .before .before .before .before .before .before .if1 .left), eq-eqb _ _ (c .before .before .before .before .before .before .before .before .before .before .before .if2 .left), some (c .before .before .before .before .before .before .before .before .before .part .ensures .is) (c .before .before .before .before .before .before .before .before .if3 .left), suc-pred (c .before .before .before .before .before .before .before .before .if3 .left), c .before .before .put-producer2 .ensures, c .before .before .before .before .before .before .put-content .ensures) refl
+returns-4 c = rw (some (c .before .before .before .before .before .before .before .before .before .before .before .before .before .before .before .before .read-producer .ensures .held) (c .before .before .before .before .before .before .before .before .before .before .before .before .before .before .before .if1 .left), c .before .before .before .before .before .before .before .before .before .before .before .before .before .read-contents .ensures .tail-record, suc-pred (c .before .before .before .before .before .before .before .before .before .before .before .before .before .before .before .if1 .left), eq-eqb _ _ (c .before .before .before .before .before .before .before .before .before .before .before .if2 .left), some (c .before .before .before .before .before .before .before .before .before .part .ensures .is) (c .before .before .before .before .before .before .before .before .if3 .left), suc-pred (c .before .before .before .before .before .before .before .before .if3 .left), c .before .before .put-producer2 .ensures, c .before .before .before .before .before .before .put-content .ensures) refl
 
 pub shift-tail-spec : {M : Type 1} → statement M
 shift-tail-spec =

@@ -19,7 +19,7 @@ same-length c = search needs
 
 returns : tie.Need-returns
 unfolding takePosition applied
-returns c = rw (c .before .before .before .read-contents .ensures .tail .is, lt-leb (suc (c .before .before .before .read-contents .result .tail)) (c .before .before .before .before .before .before .args .z .starts) (omega arith)) refl
+returns c = rw (c .before .before .before .read-contents .ensures .tail, lt-leb (suc (c .before .before .before .read-contents .result .tail)) (c .before .before .before .before .before .before .args .z .starts) (omega arith)) refl
 
 put-producer-requires : tie.Need-put-producer-requires
 put-producer-requires c κs = search needs
@@ -40,7 +40,7 @@ returns-2 : tie.Need-returns-2
 unfolding takePosition applied writes
 returns-2 c =
     let tail = c .before .before .before .before .before .before .before .before .before .before .before .before .before .before .before .before .read-contents .result .tail in
-    rw (c .before .before .before .before .before .before .before .before .before .before .before .before .before .before .before .before .read-contents .ensures .tail .is, le-leb (suc tail) (c .before .before .before .before .before .before .before .before .before .before .before .before .before .before .before .before .before .before .before .args .z .starts) (omega arith), c .before .before .put-producer2 .ensures, c .before .before .before .before .before .before .put-content .ensures, c .before .before .before .before .before .before .before .before .before .before .before .put-producer .ensures, add-one) refl
+    rw (c .before .before .before .before .before .before .before .before .before .before .before .before .before .before .before .before .read-contents .ensures .tail, le-leb (suc tail) (c .before .before .before .before .before .before .before .before .before .before .before .before .before .before .before .before .before .before .before .args .z .starts) (omega arith), c .before .before .put-producer2 .ensures, c .before .before .before .before .before .before .put-content .ensures, c .before .before .before .before .before .before .before .before .before .before .before .put-producer .ensures, add-one) refl
 
 pub take-position-spec : {M : Type 1} → statement M
 take-position-spec =

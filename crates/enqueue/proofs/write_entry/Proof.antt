@@ -25,7 +25,7 @@ returns : tie.Need-returns
 unfolding writeEntry
 returns c =
     let p = c .before .before .before .read-producer .ensures in
-    rw (p .held .is, p .position .is) (not-inside _ _ (c .match .keys2) (c .before .slot-in .ensures))
+    rw (p .held, p .position) (not-inside _ _ (c .match .keys2) (c .before .slot-in .ensures))
 
 put-entry-requires : tie.Need-put-entry-requires
 put-entry-requires c κs = omega (arith, c .before .before .before .before .before .before .before .before .before .pre, stands-at (c .before .before .before .before .slot-in .ensures) (c .before .before .«record» .given .1))
@@ -44,7 +44,7 @@ unfolding writeEntry applied writes
 returns-2 c =
     let p = c .before .before .before .before .before .before .before .before .before .before .before .before .before .before .before .before .before .read-producer .ensures in
     let at = stands-at (c .before .before .before .before .before .before .before .before .before .before .before .before .before .before .before .slot-in .ensures) (c .before .before .before .before .before .before .before .before .before .before .before .before .before .«record» .given .1) in
-    rw (p .held .is, p .position .is, at .link, at .inside, at .is, p .call .is, p .value .is, c .before .before .put-producer .ensures, c .before .before .before .before .before .before .put-entry2 .ensures, c .before .before .before .before .before .before .before .before .before .before .put-entry .ensures) refl
+    rw (p .held, p .position, at .link, at .inside, at .is, p .call, p .value, c .before .before .put-producer .ensures, c .before .before .before .before .before .before .put-entry2 .ensures, c .before .before .before .before .before .before .before .before .before .before .put-entry .ensures) refl
 
 pub write-entry-spec : {M : Type 1} → statement M
 write-entry-spec =

@@ -20,7 +20,7 @@ same-length c = search needs
 
 returns : tie.Need-returns
 unfolding applied
-returns c = record { then = λ r ws. rw (c .before .before .read-producer .ensures .held .is, c .if1 .taken) refl }
+returns c = record { then = λ r ws. rw (c .before .before .read-producer .ensures .held, c .if1 .taken) refl }
 
 same-length-2 : tie.Need-same-length-2
 same-length-2 c = search needs
@@ -29,7 +29,7 @@ returns-2 : tie.Need-returns-2
 unfolding applied
 returns-2 c =
     let p = c .before .before .before .before .read-producer .ensures in
-    record { then = λ r ws. rw (some (p .held .is) (c .before .before .if1 .left), p .claimed .is, c .if2 .taken) refl }
+    record { then = λ r ws. rw (some (p .held) (c .before .before .if1 .left), p .claimed, c .if2 .taken) refl }
 
 sub-part : tie.Need-sub-part
 sub-part c = search needs
@@ -50,7 +50,7 @@ returns-3 : tie.Need-returns-3
 unfolding applied writes
 returns-3 c =
     let p = c .before .before .before .before .before .before .before .before .before .before .before .before .before .read-producer .ensures in
-    record { then = λ r ws. rw (some (p .held .is) (c .before .before .before .before .before .before .before .before .before .before .before .if1 .left), some (p .claimed .is) (c .before .before .before .before .before .before .before .before .before .if2 .left), c .before .before .before .before .before .before .part .ensures .is, ne-eqb _ _ (c .before .before .before .before .before .if3 .taken), c .before .before .put-use .ensures) refl }
+    record { then = λ r ws. rw (some (p .held) (c .before .before .before .before .before .before .before .before .before .before .before .if1 .left), some (p .claimed) (c .before .before .before .before .before .before .before .before .before .if2 .left), c .before .before .before .before .before .before .part .ensures .is, ne-eqb _ _ (c .before .before .before .before .before .if3 .taken), c .before .before .put-use .ensures) refl }
 
 sub-part-2 : tie.Need-sub-part-2
 sub-part-2 c = search needs
@@ -66,7 +66,7 @@ unfolding applied
 returns-4 c =
     let p = c .before .before .before .before .before .before .before .before .before .before .before .before .read-producer .ensures in
     let full = lt-leb (suc (c .before .part2 .result)) mostPlace (omega arith) in
-    record { then = λ r ws. rw (some (p .held .is) (c .before .before .before .before .before .before .before .before .before .before .if1 .left), some (p .claimed .is) (c .before .before .before .before .before .before .before .before .if2 .left), c .before .before .before .before .before .part .ensures .is, eq-eqb _ _ (c .before .before .before .before .if3 .left), c .before .part2 .ensures .is, full) refl }
+    record { then = λ r ws. rw (some (p .held) (c .before .before .before .before .before .before .before .before .before .before .if1 .left), some (p .claimed) (c .before .before .before .before .before .before .before .before .if2 .left), c .before .before .before .before .before .part .ensures .is, eq-eqb _ _ (c .before .before .before .before .if3 .left), c .before .part2 .ensures .is, full) refl }
 
 sub-put-part : tie.Need-sub-put-part
 sub-put-part c = search needs
@@ -104,7 +104,7 @@ returns-5 c =
     let p = c .before .before .before .before .before .before .before .before .before .before .before .before .before .before .before .before .before .before .before .before .before .before .before .before .before .before .before .before .before .before .before .before .read-producer .ensures in
     let place = c .before .before .before .before .before .before .before .before .before .before .before .before .before .before .before .before .before .before .before .before .before .part2 .result in
     let fits = le-leb (suc place) mostPlace (omega (arith, c .before .before .before .before .before .before .before .before .before .before .before .before .before .before .before .before .before .before .before .before .if4)) in
-    record { then = λ r ws. rw (some (p .held .is) (c .before .before .before .before .before .before .before .before .before .before .before .before .before .before .before .before .before .before .before .before .before .before .before .before .before .before .before .before .before .before .if1 .left), some (p .claimed .is) (c .before .before .before .before .before .before .before .before .before .before .before .before .before .before .before .before .before .before .before .before .before .before .before .before .before .before .before .before .if2 .left), c .before .before .before .before .before .before .before .before .before .before .before .before .before .before .before .before .before .before .before .before .before .before .before .before .before .part .ensures .is, eq-eqb _ _ (c .before .before .before .before .before .before .before .before .before .before .before .before .before .before .before .before .before .before .before .before .before .before .before .before .if3 .left), c .before .before .before .before .before .before .before .before .before .before .before .before .before .before .before .before .before .before .before .before .before .part2 .ensures .is, fits, suc-pred (c .before .before .before .before .before .before .before .before .before .before .before .before .before .before .before .before .before .before .before .before .before .before .before .before .before .before .before .before .before .before .if1 .left), suc-pred (c .before .before .before .before .before .before .before .before .before .before .before .before .before .before .before .before .before .before .before .before .before .before .before .before .before .before .before .before .if2 .left), c .before .before .put-part3 .ensures, c .before .before .before .before .before .before .before .put-part2 .ensures, c .before .before .before .before .before .before .before .before .before .before .before .before .put-use2 .ensures, c .before .before .before .before .before .before .before .before .before .before .before .before .before .before .before .before .before .put-part .ensures, add-one place) refl }
+    record { then = λ r ws. rw (some (p .held) (c .before .before .before .before .before .before .before .before .before .before .before .before .before .before .before .before .before .before .before .before .before .before .before .before .before .before .before .before .before .before .if1 .left), some (p .claimed) (c .before .before .before .before .before .before .before .before .before .before .before .before .before .before .before .before .before .before .before .before .before .before .before .before .before .before .before .before .if2 .left), c .before .before .before .before .before .before .before .before .before .before .before .before .before .before .before .before .before .before .before .before .before .before .before .before .before .part .ensures .is, eq-eqb _ _ (c .before .before .before .before .before .before .before .before .before .before .before .before .before .before .before .before .before .before .before .before .before .before .before .before .if3 .left), c .before .before .before .before .before .before .before .before .before .before .before .before .before .before .before .before .before .before .before .before .before .part2 .ensures .is, fits, suc-pred (c .before .before .before .before .before .before .before .before .before .before .before .before .before .before .before .before .before .before .before .before .before .before .before .before .before .before .before .before .before .before .if1 .left), suc-pred (c .before .before .before .before .before .before .before .before .before .before .before .before .before .before .before .before .before .before .before .before .before .before .before .before .before .before .before .before .if2 .left), c .before .before .put-part3 .ensures, c .before .before .before .before .before .before .before .put-part2 .ensures, c .before .before .before .before .before .before .before .before .before .before .before .before .put-use2 .ensures, c .before .before .before .before .before .before .before .before .before .before .before .before .before .before .before .before .before .put-part .ensures, add-one place) refl }
 
 pub link-spec : {M : Type 1} → statement M
 link-spec =

@@ -1,0 +1,40 @@
+-- Crossing to the next record, in the words of the rules: `cross`.
+use mathlib.Core.Path.{_≡_}
+use mathlib.Core.Bool.{true, cond}
+use mathlib.Core.List.{List, [], _∷_}
+use Prim.Native.Nat.{ℕ, suc, _*_}
+use lib.Dec.{leb}
+use Rattle.rules.specs.Sizes.{Sizes}
+use Rattle.rules.specs.Cell.{Reader, reader, _:=_, headRecord, headPosition, cursorRecord, cursorPosition, place, next, used}
+use Rattle.rules.specs.Rule.{Answer, refuse, goes, need}
+use Rattle.dequeue.specs.declared.Crossing.{Crossing}
+use Rattle.dequeue.specs.declared.Crossing.the-variants.{None, To}
+
+-- Record r crosses to link l at position p: next is there, it has a place, and its first position is in range.
+pub record CrossesTo (z : Sizes) (σ : Reader) (r l p : ℕ) : Type 0 where
+  pub to : ℕ
+  pub before : ℕ
+  pub link : σ (next r) ≡ suc to
+  pub placed : σ (place to) ≡ suc before
+  pub fits : leb (z .B * before) (z .M) ≡ true
+  pub link-is : l ≡ suc to
+  pub position-is : p ≡ z .B * before
+
+-- It does not: refusal 9, whatever would follow.
+pub record CrossesNowhere (z : Sizes) (σ : Reader) (r : ℕ) : Type 0 where
+  pub refused : (a : ℕ → ℕ → Answer) → need (σ (next r)) (λ n. need (σ (place n)) λ q. cond (leb (z .B * q) (z .M)) (a n q) (refuse 9)) ≡ refuse 9
+
+abbrev pub Crosses : Sizes → Reader → ℕ → Crossing → Type 0
+Crosses z σ r None = CrossesNowhere z σ r
+Crosses z σ r (To l p) = CrossesTo z σ r l p
+
+pub record Crossed (z : Sizes) (m : List ℕ) (r : ℕ) (x : Crossing) : Type 0 where
+  pub crosses : Crosses z (reader z m) r x
+
+-- phase 1, the head at the end of its record h
+abbrev pub toHead : (h n p : ℕ) → Answer
+toHead h n p = goes (headRecord := suc n ∷ headPosition := p ∷ used h := 3 ∷ [])
+
+-- phase 3, crossing
+abbrev pub toCursor : (n p : ℕ) → Answer
+toCursor n p = goes (cursorRecord := suc n ∷ cursorPosition := p ∷ [])
