@@ -1,34 +1,47 @@
--- The two halves of phase 5: the cursor at a record's end, and at an entry.
-use mathlib.Core.Bool.{cond}
-use mathlib.Core.List.{List, [], _∷_}
+-- Parts of phase 5: the cursor's move, a crossing, and a set entry.
+use mathlib.Core.Path.{_≡_, refl}
+use mathlib.Core.Bool.{Bool, true, false, cond}
+use mathlib.Core.List.{List, [], _∷_, _++_}
 use Prim.Native.Nat.{ℕ, suc}
 use lib.Dec.{eqb}
 use Rattle.rules.specs.Sizes.{Sizes}
-use Rattle.rules.specs.Cell.{Reader, Write, _:=_, headRecord, headPosition, consumerPhase, cursorRecord, cursorPosition, foundRecord, foundPosition, state}
-use Rattle.rules.specs.Rule.{Answer, upTo, inside}
+use Rattle.rules.specs.Cell.{Reader, reader, Write, write, writes, _:=_, headRecord, headPosition, consumerPhase, cursorRecord, cursorPosition, foundRecord, foundPosition}
+use Rattle.rules.specs.Rule.{Answer, goes}
 use Rattle.rules.specs.Consumer.{rescanned}
+use Rattle.rules.specs.Request.{applied}
+use Rattle.store.specs.declared.Reply.the-variants.{Going}
+use Rattle.store.specs.Outcome.{left}
 
--- phase 5, the end of the rescan
+-- the end of the rescan
 abbrev pub settles : List Write
 settles = cursorRecord := 0 ∷ cursorPosition := 0 ∷ consumerPhase := 6 ∷ []
 
+-- the cursor moves to link l and position p, found at another position
+abbrev pub moves : (l p found : ℕ) → List Write
+moves l p found = cond (eqb p found) settles (cursorRecord := l ∷ cursorPosition := p ∷ [])
+
 module _ (z : Sizes) (σ : Reader) where
-  -- phase 5, the cursor at the end of its record r
+  -- the cursor crosses to record n at position p
   abbrev pub toRescan : (n p : ℕ) → Answer
   toRescan n p = rescanned z σ p (σ foundPosition) (cursorRecord := suc n ∷ cursorPosition := p ∷ []) []
 
-  -- phase 5, a set entry at position p of record r
-  abbrev pub rescanFound : (r p : ℕ) → Answer
-  rescanFound r p =
-      rescanned z σ (σ headPosition) p
+  -- a set entry at the cursor
+  abbrev pub rescanFound : Answer
+  rescanFound =
+      rescanned z σ (σ headPosition) (σ cursorPosition)
       (cursorRecord := σ headRecord ∷ cursorPosition := σ headPosition ∷ [])
-      (foundRecord := suc r ∷ foundPosition := p ∷ [])
+      (foundRecord := σ cursorRecord ∷ foundPosition := σ cursorPosition ∷ [])
 
-  -- phase 5, the cursor at position p of its record r
-  abbrev pub rescanEntry : (r p : ℕ) → Answer
-  rescanEntry r p =
-      inside z σ r p
-      λ i. cond (eqb (σ (state r i)) 1)
-      (rescanFound r p)
-      (upTo (z .M) (suc p)
-      (rescanned z σ (suc p) (σ foundPosition) (cursorPosition := suc p ∷ []) []))
+-- What moved is written first, then the cursor's move.
+pub moved : (z : Sizes) (m : List ℕ) (l p found : ℕ) (first : List Write)
+    → left Going (writes z (writes z m first) (moves l p found)) ≡ applied z m (rescanned z (reader z m) p found (cursorRecord := l ∷ cursorPosition := p ∷ []) first)
+unfolding writes applied
+moved z m l p found first = go m first (eqb p found)
+  where
+    go : (m : List ℕ) (first : List Write) (b : Bool)
+        → left Going (writes z (writes z m first) (cond b settles (cursorRecord := l ∷ cursorPosition := p ∷ [])))
+        ≡ applied z m (cond b (goes (first ++ settles)) (goes (first ++ (cursorRecord := l ∷ cursorPosition := p ∷ []))))
+    go m [] true = refl
+    go m [] false = refl
+    go m (w ∷ ws) true = go (write z m w) ws true
+    go m (w ∷ ws) false = go (write z m w) ws false

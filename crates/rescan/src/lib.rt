@@ -1,25 +1,30 @@
 // The consumer's phases 5 to 7, a function each (document 01, "Calls"). The words are admitted.
 ghost use mathlib.Core.Path.{_≡_};
-ghost use Prim.Native.Nat.{_≤_, _<_};
+ghost use Prim.Native.Nat.{_<_};
 ghost use Rattle.rules.specs.Cell.{writes};
 ghost use Rattle.rules.specs.Rule.{cross};
 ghost use Rattle.rules.specs.Consumer.{rescan, readItem, markHandled};
 ghost use Rattle.store.specs.Shape.{sizes};
 ghost use Rattle.store.specs.Outcome.{left, does};
 ghost use Rattle.store.specs.Store.{Room, Admitted};
-ghost use Rattle.rescan.specs.Rescan.{toRescan, settles, rescanFound, rescanEntry};
+ghost use Rattle.rescan.specs.Rescan.{settles, moves, toRescan, rescanFound};
+use dequeue::Crossing;
 use dequeue::cross_from;
 use store::Reply;
 use store::Shape;
+use store::Slot;
 use store::clear_consumer;
-use store::consumer;
-use store::content;
 use store::entry;
-use store::index_in;
+use store::phase;
 use store::put_consumer;
 use store::put_content;
+use store::put_cursor;
 use store::put_entry;
-use store::record_end;
+use store::put_found;
+use store::read_consumer;
+use store::read_contents;
+use store::slot_in;
+use store::state;
 use store::word;
 
 // The entry found is the one to take; the cursor is not in use any more; to 6.
@@ -27,89 +32,77 @@ fn settle(s: &mut [u32], z: Shape)
     requires { ⌜ Room (sizes z) (now s) ⌝ }
     ensures { λ _. ⌜ now (s .exit) ≡ writes (sizes z) (now (s .entry)) settles ⌝ }
 {
-    put_consumer(s, z, word::CURSOR_RECORD, 0);
-    put_consumer(s, z, word::CURSOR_POSITION, 0);
-    put_consumer(s, z, word::PHASE, 6);
+    put_cursor(s, z, 0, 0);
+    put_consumer(s, z, word::PHASE, phase::READ_ITEM);
 }
 
-// The cursor stands at its record's end, and crosses.
+// The cursor moves to a link and a position. When its position then equals that of found, the same step goes to 6; otherwise
+// stay.
+fn move_cursor(s: &mut [u32], z: Shape, link: u32, position: u32, found: u32)
+    requires { ⌜ Room (sizes z) (now s) ⌝ }
+    ensures { λ _. ⌜ now (s .exit) ≡ writes (sizes z) (now (s .entry)) (moves link position found) ⌝ }
+{
+    if position == found {
+        settle(s, z);
+        return;
+    }
+    put_cursor(s, z, link, position);
+}
+
+// The cursor stands at the end of its record r, and crosses.
 fn rescan_end(s: &mut [u32], z: Shape, r: u32) -> Reply
     requires { ⌜ Admitted (sizes z) (now s) ⌝ }
     requires { ⌜ r < z .records ⌝ }
     ensures { λ a. ⌜ left a (now (s .exit)) ≡ does (λ z σ. cross z σ r (toRescan z σ)) z (now (s .entry)) ⌝ }
 {
-    let c = cross_from(s, z, r);
-    if c.record == 0 {
+    let Crossing::To { link, position } = cross_from(s, z, r) else {
         return Reply::Refused(9);
-    }
-    if c.position == consumer(s, z, word::FOUND_POSITION) {
-        settle(s, z);
-        return Reply::Going;
-    }
-    put_consumer(s, z, word::CURSOR_RECORD, c.record);
-    put_consumer(s, z, word::CURSOR_POSITION, c.position);
+    };
+    let found = read_consumer(s, z).found_position;
+    move_cursor(s, z, link, position, found);
     Reply::Going
 }
 
 // A set entry becomes found and the cursor returns to the head.
-fn rescan_found(s: &mut [u32], z: Shape, r: u32, p: u32) -> Reply
+fn rescan_found(s: &mut [u32], z: Shape) -> Reply
     requires { ⌜ Admitted (sizes z) (now s) ⌝ }
-    requires { ⌜ r < z .records ⌝ }
-    ensures { λ a. ⌜ left a (now (s .exit)) ≡ does (λ z σ. rescanFound z σ r p) z (now (s .entry)) ⌝ }
+    ensures { λ a. ⌜ left a (now (s .exit)) ≡ does rescanFound z (now (s .entry)) ⌝ }
 {
-    let head = content(s, z, word::HEAD_RECORD);
-    let position = content(s, z, word::HEAD_POSITION);
-    put_consumer(s, z, word::FOUND_RECORD, r + 1);
-    put_consumer(s, z, word::FOUND_POSITION, p);
-    if position == p {
-        settle(s, z);
-        return Reply::Going;
-    }
-    put_consumer(s, z, word::CURSOR_RECORD, head);
-    put_consumer(s, z, word::CURSOR_POSITION, position);
-    Reply::Going
-}
-
-// Reads one entry; one that is not set is passed by one position.
-fn rescan_entry(s: &mut [u32], z: Shape, r: u32, p: u32) -> Reply
-    requires { ⌜ Admitted (sizes z) (now s) ⌝ }
-    requires { ⌜ (r < z .records) × (p ≤ z .starts) ⌝ }
-    ensures { λ a. ⌜ left a (now (s .exit)) ≡ does (λ z σ. rescanEntry z σ r p) z (now (s .entry)) ⌝ }
-{
-    let i = index_in(s, z, r, p);
-    if z.entries <= i {
-        return Reply::Refused(9);
-    }
-    if entry(s, z, r, i, word::STATE) == 1 {
-        return rescan_found(s, z, r, p);
-    }
-    if z.starts <= p {
-        return Reply::Refused(9);
-    }
-    if p + 1 == consumer(s, z, word::FOUND_POSITION) {
-        settle(s, z);
-        return Reply::Going;
-    }
-    put_consumer(s, z, word::CURSOR_POSITION, p + 1);
+    let c = read_consumer(s, z);
+    let q = read_contents(s, z);
+    put_found(s, z, c.cursor_record, c.cursor_position);
+    move_cursor(s, z, q.head_record, q.head_position, c.cursor_position);
     Reply::Going
 }
 
 // 5. Rescan from the head, head included, to the position before found, that one included. One step either crosses, when the
-// cursor stands at a record's end, or reads one entry. When the cursor's position then equals that of found, the same step
-// goes to 6; otherwise stay.
+// cursor stands at a record's end, or reads one entry. A set entry becomes found and the cursor returns to the head; any
+// other is passed by one position. When the cursor's position then equals that of found, the same step goes to 6; otherwise
+// stay.
 pub fn rescan_on(s: &mut [u32], z: Shape) -> Reply
     requires { ⌜ Admitted (sizes z) (now s) ⌝ }
     ensures { λ r. ⌜ left r (now (s .exit)) ≡ does rescan z (now (s .entry)) ⌝ }
 {
-    let cursor = consumer(s, z, word::CURSOR_RECORD);
-    if cursor == 0 {
+    let c = read_consumer(s, z);
+    let slot = slot_in(s, z, c.cursor_record, c.cursor_position);
+    if let Slot::End { record } = slot {
+        return rescan_end(s, z, record);
+    }
+    let Slot::At { record, index } = slot else {
+        return Reply::Refused(9);
+    };
+    if entry(s, z, record, index, word::STATE) == state::SET {
+        return rescan_found(s, z);
+    }
+    if z.starts <= c.cursor_position {
         return Reply::Refused(9);
     }
-    let position = consumer(s, z, word::CURSOR_POSITION);
-    if position == record_end(s, z, cursor - 1) {
-        return rescan_end(s, z, cursor - 1);
+    if c.cursor_position + 1 == c.found_position {
+        settle(s, z);
+        return Reply::Going;
     }
-    rescan_entry(s, z, cursor - 1, position)
+    put_consumer(s, z, word::CURSOR_POSITION, c.cursor_position + 1);
+    Reply::Going
 }
 
 // 6. Read call number and value; to 7.
@@ -117,19 +110,15 @@ pub fn read_item(s: &mut [u32], z: Shape) -> Reply
     requires { ⌜ Admitted (sizes z) (now s) ⌝ }
     ensures { λ r. ⌜ left r (now (s .exit)) ≡ does readItem z (now (s .entry)) ⌝ }
 {
-    let found = consumer(s, z, word::FOUND_RECORD);
-    if found == 0 {
+    let c = read_consumer(s, z);
+    let Slot::At { record, index } = slot_in(s, z, c.found_record, c.found_position) else {
         return Reply::Refused(9);
-    }
-    let i = index_in(s, z, found - 1, consumer(s, z, word::FOUND_POSITION));
-    if z.entries <= i {
-        return Reply::Refused(9);
-    }
-    let number = entry(s, z, found - 1, i, word::ENTRY_CALL);
-    let value = entry(s, z, found - 1, i, word::ENTRY_VALUE);
+    };
+    let number = entry(s, z, record, index, word::ENTRY_CALL);
+    let value = entry(s, z, record, index, word::ENTRY_VALUE);
     put_consumer(s, z, word::ITEM_CALL, number);
     put_consumer(s, z, word::ITEM_VALUE, value);
-    put_consumer(s, z, word::PHASE, 7);
+    put_consumer(s, z, word::PHASE, phase::MARK);
     Reply::Going
 }
 
@@ -138,28 +127,21 @@ pub fn mark_handled(s: &mut [u32], z: Shape) -> Reply
     requires { ⌜ Admitted (sizes z) (now s) ⌝ }
     ensures { λ r. ⌜ left r (now (s .exit)) ≡ does markHandled z (now (s .entry)) ⌝ }
 {
-    let found = consumer(s, z, word::FOUND_RECORD);
-    if found == 0 {
+    let c = read_consumer(s, z);
+    let Slot::At { record, index } = slot_in(s, z, c.found_record, c.found_position) else {
         return Reply::Refused(9);
-    }
-    let position = consumer(s, z, word::FOUND_POSITION);
-    let i = index_in(s, z, found - 1, position);
-    if z.entries <= i {
-        return Reply::Refused(9);
-    }
-    let number = consumer(s, z, word::ITEM_CALL);
-    let value = consumer(s, z, word::ITEM_VALUE);
-    let head = content(s, z, word::HEAD_POSITION);
-    if position != head {
-        put_entry(s, z, found - 1, i, word::STATE, 2);
+    };
+    let head = read_contents(s, z).head_position;
+    if c.found_position != head {
+        put_entry(s, z, record, index, word::STATE, state::HANDLED);
         clear_consumer(s, z);
-        return Reply::Item(number, value);
+        return Reply::Item(c.item_call, c.item_value);
     }
     if z.starts <= head {
         return Reply::Refused(9);
     }
-    put_entry(s, z, found - 1, i, word::STATE, 2);
+    put_entry(s, z, record, index, word::STATE, state::HANDLED);
     put_content(s, z, word::HEAD_POSITION, head + 1);
     clear_consumer(s, z);
-    Reply::Item(number, value)
+    Reply::Item(c.item_call, c.item_value)
 }
