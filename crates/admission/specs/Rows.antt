@@ -7,9 +7,9 @@ use native.Mathlib.Omega.{arith}
 use lib.Dec.{leb, eqb}
 use lib.ListN.{length, getD, drop}
 use borrow.Author.Tests.{eq-eqb, ne-eqb, le-leb, lt-leb}
-use Rattle.rules.specs.Sizes.{Sizes}
+use Rattle.rules.specs.Sizes.{Sizes, contentWords, threadWords}
 use Rattle.rules.specs.Cell.{reader, content, consumer, producer}
-use Rattle.rules.specs.Range.{Sort, unused, exactly, number, link, record-number, most, any, ofSort, ofSorts, every, threadInRange, producerInRange, consumerInRange, contentSorts, producerSorts, consumerSorts, idleSorts, placedSorts, cursorSorts}
+use Rattle.rules.specs.Range.{Sort, unused, exactly, number, link, record-number, most, any, ofSort, ofSorts, every, threadInRange, producerInRange, consumerInRange, contentSorts, producerSorts, consumerSorts, idleSorts, placedSorts, cursorSorts, lastProducerPhase, lastConsumerPhase}
 use Rattle.rules.specs.Update.{both, true-false}
 use Rattle.rules.specs.Request.{sizesOf}
 use Rattle.store.specs.Caps.{cap, mostWord}
@@ -74,29 +74,29 @@ thread-past z last sorts σ p e l = rw (e, lt-leb p last l) refl
 
 -- the same of a producer and of the consumer, from the lent words
 module _ (z : Sizes) (m : List ℕ) (fit : (j : ℕ) → getD m j 0 ≤ mostWord) where
-  producer-phase : (t : ℕ) → (1 ≤ t) × (t ≤ z .P) → (p : ℕ) → getD m (16 + 8 * t) 0 ≡ p → reader z m (producer t 0) ≡ p
+  producer-phase : (t : ℕ) → (1 ≤ t) × (t ≤ z .P) → (p : ℕ) → getD m (contentWords + threadWords * t) 0 ≡ p → reader z m (producer t 0) ≡ p
   producer-phase t h p e = word-at z m (producer t 0) (h .0, h .1, omega arith) ∙ ap (λ (x : ℕ). getD m x 0) (omega arith) ∙ e
 
-  pub producer-row : (t : ℕ) → (1 ≤ t) × (t ≤ z .P) → (p : ℕ) (ss : List Sort) → getD m (16 + 8 * t) 0 ≡ p → p ≤ 11 → getD producerSorts p [] ≡ ss
-      → allCapped ss ≡ true → length ss ≡ 7 → producerInRange z (reader z m) t ≡ atMost (from m (16 + 8 * t)) 1 (map (cap z) ss)
+  pub producer-row : (t : ℕ) → (1 ≤ t) × (t ≤ z .P) → (p : ℕ) (ss : List Sort) → getD m (contentWords + threadWords * t) 0 ≡ p → p ≤ lastProducerPhase → getD producerSorts p [] ≡ ss
+      → allCapped ss ≡ true → length ss ≡ 7 → producerInRange z (reader z m) t ≡ atMost (from m (contentWords + threadWords * t)) 1 (map (cap z) ss)
   producer-row t h p ss e l g c n =
-      thread-test z 11 producerSorts (λ j. reader z m (producer t j)) (from m (16 + 8 * t)) p ss (producer-phase t h p e) l g c n
-      (λ j i. (word-at z m (producer t j) (h .0, h .1, i), fit (16 + 8 * t + j)))
+      thread-test z lastProducerPhase producerSorts (λ j. reader z m (producer t j)) (from m (contentWords + threadWords * t)) p ss (producer-phase t h p e) l g c n
+      (λ j i. (word-at z m (producer t j) (h .0, h .1, i), fit (contentWords + threadWords * t + j)))
 
-  pub producer-past : (t : ℕ) → (1 ≤ t) × (t ≤ z .P) → (p : ℕ) → getD m (16 + 8 * t) 0 ≡ p → 11 < p → producerInRange z (reader z m) t ≡ false
-  producer-past t h p e l = thread-past z 11 producerSorts (λ j. reader z m (producer t j)) p (producer-phase t h p e) l
+  pub producer-past : (t : ℕ) → (1 ≤ t) × (t ≤ z .P) → (p : ℕ) → getD m (contentWords + threadWords * t) 0 ≡ p → lastProducerPhase < p → producerInRange z (reader z m) t ≡ false
+  producer-past t h p e l = thread-past z lastProducerPhase producerSorts (λ j. reader z m (producer t j)) p (producer-phase t h p e) l
 
-  pub consumer-row : (p : ℕ) (ss : List Sort) → getD m 16 0 ≡ p → p ≤ 7 → getD consumerSorts p [] ≡ ss
-      → allCapped ss ≡ true → length ss ≡ 7 → consumerInRange z (reader z m) ≡ atMost (from m 16) 1 (map (cap z) ss)
+  pub consumer-row : (p : ℕ) (ss : List Sort) → getD m contentWords 0 ≡ p → p ≤ lastConsumerPhase → getD consumerSorts p [] ≡ ss
+      → allCapped ss ≡ true → length ss ≡ 7 → consumerInRange z (reader z m) ≡ atMost (from m contentWords) 1 (map (cap z) ss)
   consumer-row p ss e l g c n =
-      thread-test z 7 consumerSorts (λ j. reader z m (consumer j)) (from m 16) p ss (word-at z m (consumer 0) (omega arith) ∙ e) l g c n
-      (λ j i. (word-at z m (consumer j) i, fit (16 + j)))
+      thread-test z lastConsumerPhase consumerSorts (λ j. reader z m (consumer j)) (from m contentWords) p ss (word-at z m (consumer 0) (omega arith) ∙ e) l g c n
+      (λ j i. (word-at z m (consumer j) i, fit (contentWords + j)))
 
-  pub consumer-past : (p : ℕ) → getD m 16 0 ≡ p → 7 < p → consumerInRange z (reader z m) ≡ false
-  consumer-past p e l = thread-past z 7 consumerSorts (λ j. reader z m (consumer j)) p (word-at z m (consumer 0) (omega arith) ∙ e) l
+  pub consumer-past : (p : ℕ) → getD m contentWords 0 ≡ p → lastConsumerPhase < p → consumerInRange z (reader z m) ≡ false
+  consumer-past p e l = thread-past z lastConsumerPhase consumerSorts (λ j. reader z m (consumer j)) p (word-at z m (consumer 0) (omega arith) ∙ e) l
 
 -- the producer's phases but 0, 1, 5, 10 and 11; the consumer's but 3 to 7
-pub placed-phase : (p : ℕ) → p ≤ 11 → (p ≡ 0 → ⊥) → (p ≡ 1 → ⊥) → (p ≡ 5 → ⊥) → (p ≡ 10 → ⊥) → (p ≡ 11 → ⊥) → getD producerSorts p [] ≡ placedSorts
+pub placed-phase : (p : ℕ) → p ≤ lastProducerPhase → (p ≡ 0 → ⊥) → (p ≡ 1 → ⊥) → (p ≡ 5 → ⊥) → (p ≡ 10 → ⊥) → (p ≡ 11 → ⊥) → getD producerSorts p [] ≡ placedSorts
 placed-phase zero h a b c d e = absurd (a refl)
 placed-phase (suc zero) h a b c d e = absurd (b refl)
 placed-phase (suc (suc zero)) h a b c d e = refl
@@ -117,7 +117,7 @@ idle-phase (suc zero) h = refl
 idle-phase (suc (suc zero)) h = refl
 idle-phase (suc (suc (suc p))) h = absurd (omega arith)
 
-pub cursor-phase : (p : ℕ) → 3 ≤ p → p ≤ 7 → (p ≡ 5 → ⊥) → (p ≡ 6 → ⊥) → (p ≡ 7 → ⊥) → getD consumerSorts p [] ≡ cursorSorts
+pub cursor-phase : (p : ℕ) → 3 ≤ p → p ≤ lastConsumerPhase → (p ≡ 5 → ⊥) → (p ≡ 6 → ⊥) → (p ≡ 7 → ⊥) → getD consumerSorts p [] ≡ cursorSorts
 cursor-phase zero l h a b c = absurd (omega arith)
 cursor-phase (suc zero) l h a b c = absurd (omega arith)
 cursor-phase (suc (suc zero)) l h a b c = absurd (omega arith)
@@ -139,5 +139,5 @@ pub contents-test : (z : Sizes) (m : List ℕ) → z ≡ sizesOf m
 contents-test z m e =
     rw (word 0 (omega arith), word 1 (omega arith), word 2 (omega arith), word 3 (omega arith), word 4 (omega arith), word 5 (omega arith), word 6 (omega arith), word 7 (omega arith), word 8 (omega arith), word 9 (omega arith), word 10 (omega arith), word 11 (omega arith), word 12 (omega arith), word 13 (omega arith), word 14 (omega arith), word 15 (omega arith), eq-eqb (getD m 0 0) (z .B) (sym (ap (λ (y : Sizes). y .B) e)), eq-eqb (getD m 1 0) (z .N) (sym (ap (λ (y : Sizes). y .N) e)), eq-eqb (getD m 2 0) (z .P) (sym (ap (λ (y : Sizes). y .P) e)), eq-eqb (getD m 3 0) (z .M) (sym (ap (λ (y : Sizes). y .M) e))) refl
   where
-    word : (k : ℕ) → k < 16 → reader z m (content k) ≡ getD m k 0
+    word : (k : ℕ) → k < contentWords → reader z m (content k) ≡ getD m k 0
     word k h = word-at z m (content k) h

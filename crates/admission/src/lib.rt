@@ -4,9 +4,9 @@ ghost use mathlib.Core.Bool.{_&&_};
 ghost use mathlib.Core.List.{[], _∷_};
 ghost use Prim.Native.Nat.{suc, _+_, _*_, _≤_, _<_};
 ghost use lib.ListN.{length};
-ghost use Rattle.rules.specs.Sizes.{sizesInRange, storeWords};
+ghost use Rattle.rules.specs.Sizes.{sizesInRange, recordWords, storeWords, mostEntries, mostRecords, mostProducers, mostPlace, mostWords};
 ghost use Rattle.rules.specs.Cell.{reader, content};
-ghost use Rattle.rules.specs.Range.{ofSorts, contentSorts, every, consumerInRange, producerInRange, recordInRange, inRange};
+ghost use Rattle.rules.specs.Range.{ofSorts, contentSorts, every, consumerInRange, producerInRange, recordInRange, threadsInRange, recordsInRange, inRange};
 ghost use Rattle.rules.specs.Request.{sizesOf};
 ghost use Rattle.store.specs.Shape.{sizes};
 ghost use Rattle.store.specs.Store.{Room};
@@ -14,7 +14,12 @@ ghost use Rattle.admission.specs.Refusal.{refusal};
 ghost use Rattle.admission.specs.Rows.{atMost, from};
 ghost use Rattle.admission.specs.Bounds.{bounds, wordTest, Bounded};
 use store::Shape;
+use store::phase;
 use store::record_at;
+use store::record_words;
+use store::size;
+use store::state;
+use store::usage;
 
 // Any 32-bit number.
 const ANY: u32 = 4294967295;
@@ -22,17 +27,17 @@ const ANY: u32 = 4294967295;
 // Writes the most that each word of a record may be to a row that allows any: place, next, prev and use, then state and call
 // number of each entry.
 fn fill_bounds(b: &mut [u32], z: Shape)
-    requires { ⌜ (z .entries ≤ 64) × (3 * z .entries + 4 ≤ length (now b)) ⌝ }
+    requires { ⌜ (z .entries ≤ mostEntries) × (recordWords (sizes z) ≤ length (now b)) ⌝ }
     ensures { λ _. ⌜ now (b .exit) ≡ bounds (now (b .entry)) (sizes z) (z .entries) ⌝ }
 {
-    b[0] = 500002;
+    b[0] = size::MOST_PLACE;
     b[1] = z.records;
     b[2] = z.records;
-    b[3] = 3;
+    b[3] = usage::RETIRED;
     let count = z.entries as usize;
     let mut i: usize = 0;
     while i < count {
-        b[4 + 3 * i] = 2;
+        b[4 + 3 * i] = state::HANDLED;
         b[5 + 3 * i] = z.starts;
         i += 1;
     }
@@ -62,8 +67,7 @@ fn pair_in_range(s: &[u32], z: Shape, b: &[u32], r: u32, q: u32) -> bool
 {
     let at = record_at(z, r) as usize;
     let other = record_at(z, q) as usize;
-    let n = 3 * z.entries + 4;
-    rows_at_most(s, at, other, b, n as usize)
+    rows_at_most(s, at, other, b, record_words(z) as usize)
 }
 
 // Every record, b their bounds: two at a time, the first half beside the second; of an odd number the middle one is looked at
@@ -71,7 +75,7 @@ fn pair_in_range(s: &[u32], z: Shape, b: &[u32], r: u32, q: u32) -> bool
 fn pairs_in_range(s: &[u32], z: Shape, b: &[u32]) -> bool
     requires { ⌜ Room (sizes z) (now s) ⌝ }
     requires { ⌜ Bounded (sizes z) (now b) ⌝ }
-    ensures { λ ok. ⌜ every (z .records) (recordInRange (sizes z) (reader (sizes z) (now (s .entry)))) ≡ ok ⌝ }
+    ensures { λ ok. ⌜ recordsInRange (sizes z) (reader (sizes z) (now (s .entry))) ≡ ok ⌝ }
 {
     let half = z.records / 2;
     let pairs = z.records - half;
@@ -87,9 +91,10 @@ fn pairs_in_range(s: &[u32], z: Shape, b: &[u32]) -> bool
 // Place, next, prev and use of the record at word `at`, n the number of records.
 fn parts_in_range(s: &[u32], at: usize, n: u32) -> bool
     requires { ⌜ at + 4 ≤ length (now s) ⌝ }
-    ensures { λ ok. ⌜ atMost (from (now (s .entry)) at) 0 (500002 ∷ n ∷ n ∷ 3 ∷ []) ≡ ok ⌝ }
+    ensures { λ ok. ⌜ atMost (from (now (s .entry)) at) 0 (mostPlace ∷ n ∷ n ∷ 3 ∷ []) ≡ ok ⌝ }
 {
-    (s[at] <= 500002) & ((s[at + 1] <= n) & ((s[at + 2] <= n) & (s[at + 3] <= 3)))
+    let rest = (s[at + 2] <= n) & (s[at + 3] <= usage::RETIRED);
+    (s[at] <= size::MOST_PLACE) & ((s[at + 1] <= n) & rest)
 }
 
 // State and call number of so many entries from word `at` on, m the most that a call number may be.
@@ -101,7 +106,7 @@ fn entries_in_range(s: &[u32], at: usize, count: usize, m: u32) -> bool
     let mut i: usize = 0;
     while i < count {
         let e = at + 3 * i;
-        ok = ok & ((s[e] <= 2) & (s[e + 1] <= m));
+        ok = ok & ((s[e] <= state::HANDLED) & (s[e + 1] <= m));
         i += 1;
     }
     ok
@@ -123,7 +128,7 @@ fn record_in_range(s: &[u32], z: Shape, r: u32) -> bool
 // Every record, one by one.
 fn each_in_range(s: &[u32], z: Shape) -> bool
     requires { ⌜ Room (sizes z) (now s) ⌝ }
-    ensures { λ ok. ⌜ every (z .records) (recordInRange (sizes z) (reader (sizes z) (now (s .entry)))) ≡ ok ⌝ }
+    ensures { λ ok. ⌜ recordsInRange (sizes z) (reader (sizes z) (now (s .entry))) ≡ ok ⌝ }
 {
     let mut ok = true;
     let mut r: u32 = 0;
@@ -137,19 +142,19 @@ fn each_in_range(s: &[u32], z: Shape) -> bool
 // Every record: with few entries one by one, since a row of bounds costs more than it saves.
 fn records_in_range(s: &[u32], z: Shape) -> bool
     requires { ⌜ Room (sizes z) (now s) ⌝ }
-    ensures { λ ok. ⌜ every (z .records) (recordInRange (sizes z) (reader (sizes z) (now (s .entry)))) ≡ ok ⌝ }
+    ensures { λ ok. ⌜ recordsInRange (sizes z) (reader (sizes z) (now (s .entry))) ≡ ok ⌝ }
 {
     if z.entries <= 4 {
         return each_in_range(s, z);
     }
-    let mut b = [ANY; 196];
+    let mut b = [ANY; size::MOST_RECORD_WORDS];
     fill_bounds(&mut b, z);
     pairs_in_range(s, z, &b)
 }
 
 // Whether words 1 to 6 from word `at` on are at most a to f, and word 7 is zero.
 fn row_at_most(s: &[u32], at: u32, a: u32, b: u32, c: u32, d: u32, e: u32, f: u32) -> bool
-    requires { ⌜ (at ≤ 12696) × (at + 7 < length (now s)) ⌝ }
+    requires { ⌜ (at ≤ mostWords) × (at + 7 < length (now s)) ⌝ }
     ensures { λ ok. ⌜ atMost (from (now (s .entry)) at) 1 (a ∷ b ∷ c ∷ d ∷ e ∷ f ∷ 0 ∷ []) ≡ ok ⌝ }
 {
     let i = at as usize;
@@ -164,11 +169,11 @@ fn producer_in_range(s: &[u32], z: Shape, t: u32) -> bool
     requires { ⌜ (1 ≤ t) × (t ≤ z .producers) ⌝ }
     ensures { λ ok. ⌜ producerInRange (sizes z) (reader (sizes z) (now (s .entry))) t ≡ ok ⌝ }
 {
-    let at = 16 + 8 * t;
+    let at = size::CONTENT_WORDS + size::THREAD_WORDS * t;
     let m = z.starts;
     let n = z.records;
     let phase = s[at as usize];
-    if 11 < phase {
+    if phase::LAST_PRODUCER < phase {
         return false;
     }
     match phase {
@@ -200,20 +205,21 @@ fn consumer_in_range(s: &[u32], z: Shape) -> bool
     requires { ⌜ Room (sizes z) (now s) ⌝ }
     ensures { λ ok. ⌜ consumerInRange (sizes z) (reader (sizes z) (now (s .entry))) ≡ ok ⌝ }
 {
+    let at = size::CONTENT_WORDS;
     let m = z.starts;
     let n = z.records;
-    let phase = s[16];
-    if 7 < phase {
+    let phase = s[at as usize];
+    if phase::LAST_CONSUMER < phase {
         return false;
     }
-    if phase < 3 {
-        return row_at_most(s, 16, 0, 0, 0, 0, 0, 0);
+    if phase < phase::SCAN {
+        return row_at_most(s, at, 0, 0, 0, 0, 0, 0);
     }
     match phase {
-        5 => row_at_most(s, 16, n, m, n, m, 0, 0),
-        6 => row_at_most(s, 16, 0, 0, n, m, 0, 0),
-        7 => row_at_most(s, 16, 0, 0, n, m, m, ANY),
-        _ => row_at_most(s, 16, n, m, 0, 0, 0, 0),
+        5 => row_at_most(s, at, n, m, n, m, 0, 0),
+        6 => row_at_most(s, at, 0, 0, n, m, 0, 0),
+        7 => row_at_most(s, at, 0, 0, n, m, m, ANY),
+        _ => row_at_most(s, at, n, m, 0, 0, 0, 0),
     }
 }
 
@@ -225,11 +231,20 @@ fn contents_in_range(s: &[u32], z: Shape) -> bool
 {
     let m = z.starts;
     let n = z.records;
-    let first = 16 + 8 * (z.producers + 1);
+    let first = record_at(z, 0);
     let spare = (s[11] == 0) & ((s[12] == 0) & ((s[13] == 0) & ((s[14] == 0) & (s[15] == 0))));
     let counts = (s[9] <= m) & ((s[10] <= m) & spare);
     let records = ((1 <= s[7]) & (s[7] <= n)) & (((1 <= s[8]) & (s[8] <= n)) & counts);
-    (s[4] == 16) & ((s[5] == first) & ((s[6] <= m) & records))
+    (s[4] == size::CONTENT_WORDS) & ((s[5] == first) & ((s[6] <= m) & records))
+}
+
+// Every word of the contents and of the threads.
+fn threads_in_range(s: &[u32], z: Shape) -> bool
+    requires { ⌜ Room (sizes z) (now s) ⌝ }
+    requires { ⌜ sizes z ≡ sizesOf (now s) ⌝ }
+    ensures { λ ok. ⌜ threadsInRange (sizes z) (reader (sizes z) (now (s .entry))) ≡ ok ⌝ }
+{
+    contents_in_range(s, z) & consumer_in_range(s, z) & producers_in_range(s, z)
 }
 
 // Every word is in its range.
@@ -238,10 +253,7 @@ fn in_range(s: &[u32], z: Shape) -> bool
     requires { ⌜ sizes z ≡ sizesOf (now s) ⌝ }
     ensures { λ ok. ⌜ inRange (sizes z) (reader (sizes z) (now (s .entry))) ≡ ok ⌝ }
 {
-    if !contents_in_range(s, z) {
-        return false;
-    }
-    consumer_in_range(s, z) & producers_in_range(s, z) & records_in_range(s, z)
+    threads_in_range(s, z) & records_in_range(s, z)
 }
 
 // The sizes that words 0 to 3 give.
@@ -261,27 +273,26 @@ pub fn shape_of(s: &[u32]) -> Shape
 pub fn sizes_in_range(z: Shape) -> bool
     ensures { λ ok. ⌜ sizesInRange (sizes z) ≡ ok ⌝ }
 {
-    let entries = (2 <= z.entries) & (z.entries <= 64);
-    let records = (2 <= z.records) & (z.records <= 64);
-    let producers = (1 <= z.producers) & (z.producers <= 16);
-    let starts = (1 <= z.starts) & (z.starts <= 1000000);
+    let entries = (2 <= z.entries) & (z.entries <= size::MOST_ENTRIES);
+    let records = (2 <= z.records) & (z.records <= size::MOST_RECORDS);
+    let producers = (1 <= z.producers) & (z.producers <= size::MOST_PRODUCERS);
+    let starts = (1 <= z.starts) & (z.starts <= size::MOST_STARTS);
     entries & records & producers & starts
 }
 
 // The words that a store of these sizes takes.
 pub fn store_words(z: Shape) -> usize
-    requires { ⌜ (z .entries ≤ 64) × (z .records ≤ 64) × (z .producers ≤ 16) ⌝ }
-    ensures { λ n. ⌜ (storeWords (sizes z) ≡ n) × (n ≤ 12696) ⌝ }
+    requires { ⌜ (z .entries ≤ mostEntries) × (z .records ≤ mostRecords) × (z .producers ≤ mostProducers) ⌝ }
+    ensures { λ n. ⌜ (storeWords (sizes z) ≡ n) × (n ≤ mostWords) ⌝ }
 {
-    let words = 16 + 8 * (z.producers + 1) + z.records * (3 * z.entries + 4);
-    words as usize
+    record_at(z, z.records) as usize
 }
 
 // The number of the first test that fails, 0 where the words are admitted.
 pub fn admit(s: &[u32]) -> u32
     ensures { λ n. ⌜ refusal (now (s .entry)) ≡ n ⌝ }
 {
-    if s.len() < 16 {
+    if s.len() < size::CONTENT_WORDS as usize {
         return 2;
     }
     let z = shape_of(s);

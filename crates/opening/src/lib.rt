@@ -14,6 +14,10 @@ use store::Shape;
 use store::clear;
 use store::put_content;
 use store::put_part;
+use store::put_use;
+use store::record_at;
+use store::size;
+use store::usage;
 use store::word;
 
 // The sizes and first words of a store.
@@ -21,12 +25,12 @@ fn write_contents(s: &mut [u32], z: Shape)
     requires { ⌜ Room (sizes z) (now s) ⌝ }
     ensures { λ _. ⌜ now (s .exit) ≡ writes (sizes z) (now (s .entry)) (content 0 := z .entries ∷ content 1 := z .records ∷ content 2 := z .producers ∷ content 3 := z .starts ∷ content 4 := 16 ∷ content 5 := firstRecord (sizes z) ∷ []) ⌝ }
 {
-    put_content(s, z, 0, z.entries);
-    put_content(s, z, 1, z.records);
-    put_content(s, z, 2, z.producers);
-    put_content(s, z, 3, z.starts);
-    put_content(s, z, 4, 16);
-    put_content(s, z, 5, 16 + 8 * (z.producers + 1));
+    put_content(s, z, word::ENTRIES, z.entries);
+    put_content(s, z, word::RECORDS, z.records);
+    put_content(s, z, word::PRODUCERS, z.producers);
+    put_content(s, z, word::STARTS_ALLOWED, z.starts);
+    put_content(s, z, word::FIRST_THREAD, size::CONTENT_WORDS);
+    put_content(s, z, word::FIRST_RECORD, record_at(z, 0));
 }
 
 // Record 0 linked with place 1 as head and tail record.
@@ -37,7 +41,7 @@ fn link_first(s: &mut [u32], z: Shape)
     put_content(s, z, word::TAIL_RECORD, 1);
     put_content(s, z, word::HEAD_RECORD, 1);
     put_part(s, z, 0, word::PLACE, 1);
-    put_part(s, z, 0, word::USE, 2);
+    put_use(s, z, 0, usage::LINKED);
 }
 
 // *Open* zeroes the store, writes the contents, and links record 0.

@@ -6,12 +6,13 @@ ghost use Rattle.store.specs.Outcome.{left, does};
 ghost use Rattle.store.specs.Store.{Admitted};
 use store::Reply;
 use store::Shape;
-use store::consumer;
-use store::content;
-use store::producer;
+use store::phase;
 use store::put_consumer;
 use store::put_content;
 use store::put_producer;
+use store::read_consumer;
+use store::read_contents;
+use store::read_producer;
 use store::word;
 
 // *Start enqueue* on admitted words: call number starts + 1, phase 1.
@@ -25,15 +26,15 @@ pub fn begin_enqueue(s: &mut [u32], z: Shape, t: u32, v: u32) -> Reply
     if z.producers < t {
         return Reply::Refused(4);
     }
-    if producer(s, z, t, word::PHASE) != 0 {
+    if read_producer(s, z, t).phase != phase::IDLE {
         return Reply::Refused(5);
     }
-    let starts = content(s, z, word::STARTS);
+    let starts = read_contents(s, z).starts;
     if starts == z.starts {
         return Reply::Refused(6);
     }
     put_content(s, z, word::STARTS, starts + 1);
-    put_producer(s, z, t, word::PHASE, 1);
+    put_producer(s, z, t, word::PHASE, phase::TAKE);
     put_producer(s, z, t, word::CALL, starts + 1);
     put_producer(s, z, t, word::VALUE, v);
     Reply::Started(starts + 1)
@@ -44,9 +45,9 @@ pub fn begin_dequeue(s: &mut [u32], z: Shape) -> Reply
     requires { ⌜ Admitted (sizes z) (now s) ⌝ }
     ensures { λ r. ⌜ left r (now (s .exit)) ≡ does startingDequeue z (now (s .entry)) ⌝ }
 {
-    if consumer(s, z, word::PHASE) != 0 {
+    if read_consumer(s, z).phase != phase::IDLE {
         return Reply::Refused(5);
     }
-    put_consumer(s, z, word::PHASE, 1);
+    put_consumer(s, z, word::PHASE, phase::FRONT);
     Reply::Ok
 }

@@ -2,13 +2,17 @@
 use mathlib.Core.List.{List, [], _∷_}
 use Prim.Native.Nat.{ℕ}
 use lib.ListN.{getD}
-use Rattle.rules.specs.Sizes.{Sizes, mostPlace}
+use Rattle.rules.specs.Sizes.{Sizes, mostEntries, mostRecords, mostProducers, mostStarts, mostPlace, contentWords, recordWords}
 use Rattle.rules.specs.Cell.{Cell, content, consumer, producer, part, entry}
-use Rattle.rules.specs.Range.{Sort, unused, exactly, number, link, record-number, most, any}
+use Rattle.rules.specs.Range.{Sort, unused, exactly, number, link, record-number, most, any, lastConsumerPhase, lastProducerPhase}
 
 -- the largest 32-bit number
 abbrev pub mostWord : ℕ
 mostWord = 4294967295
+
+-- the most words of a record
+abbrev pub mostRecordWords : ℕ
+mostRecordWords = recordWords (record { B = mostEntries; N = mostRecords; P = mostProducers; M = mostStarts })
 
 -- the most that a word of a sort may hold
 abbrev pub cap : Sizes → Sort → ℕ
@@ -28,11 +32,11 @@ abbrev pub consumerCaps : Sizes → List ℕ
 consumerCaps z = z .N ∷ z .M ∷ z .N ∷ z .M ∷ z .M ∷ mostWord ∷ 0 ∷ []
 
 abbrev pub contentCaps : Sizes → List ℕ
-contentCaps z = z .B ∷ z .N ∷ z .P ∷ z .M ∷ 16 ∷ mostWord ∷ z .M ∷ z .N ∷ z .N ∷ z .M ∷ z .M ∷ 0 ∷ 0 ∷ 0 ∷ 0 ∷ 0 ∷ []
+contentCaps z = z .B ∷ z .N ∷ z .P ∷ z .M ∷ contentWords ∷ mostWord ∷ z .M ∷ z .N ∷ z .N ∷ z .M ∷ z .M ∷ 0 ∷ 0 ∷ 0 ∷ 0 ∷ 0 ∷ []
 
 abbrev pub capOf : Sizes → Cell → ℕ
 capOf z (content k) = getD (contentCaps z) k 0
-capOf z (consumer k) = getD (7 ∷ consumerCaps z) k 0
-capOf z (producer t k) = getD (11 ∷ producerCaps z) k 0
+capOf z (consumer k) = getD (lastConsumerPhase ∷ consumerCaps z) k 0
+capOf z (producer t k) = getD (lastProducerPhase ∷ producerCaps z) k 0
 capOf z (part r k) = getD (mostPlace ∷ z .N ∷ z .N ∷ 3 ∷ []) k 0
 capOf z (entry r i k) = getD (2 ∷ z .M ∷ mostWord ∷ []) k 0

@@ -12,10 +12,10 @@ use borrow.Author.Tests.{leb-true, eqb-true}
 use Rattle.rules.specs.Sizes.{Sizes, recordWords, firstRecord, mostEntries, mostRecords, mostPlace}
 use Rattle.rules.specs.Cell.{Cell, content, consumer, producer, part, entry, address, reader}
 use Rattle.rules.specs.Update.{both}
-use Rattle.rules.specs.Range.{Sort, unused, exactly, number, link, record-number, most, any, ofSort, ofSorts, threadInRange, consumerSorts, producerSorts, contentSorts}
+use Rattle.rules.specs.Range.{Sort, unused, exactly, number, link, record-number, most, any, ofSort, ofSorts, threadInRange, placedSorts, consumerSorts, producerSorts, contentSorts, lastConsumerPhase, lastProducerPhase}
 use Rattle.rules.specs.Address.{There, there-is, address-below}
 use Rattle.rules.specs.InRange.{sorts-at, sortOf}
-use Rattle.store.specs.Caps.{cap, capOf, mostWord, producerCaps, consumerCaps, contentCaps}
+use Rattle.store.specs.Caps.{mostRecordWords, cap, capOf, mostWord, producerCaps, consumerCaps, contentCaps}
 use Rattle.store.specs.Store.{Room, Admitted, Reads}
 
 -- a cell that is there is the word at its address
@@ -47,32 +47,25 @@ under-at z (s ∷ ss) [] u j h = absurd u
 under-at z (s ∷ ss) (b ∷ bs) u zero h = u .0
 under-at z (s ∷ ss) (b ∷ bs) u (suc j) h = under-at z ss bs (u .1) j (omega arith)
 
--- a thread's words 1 to 7 in any phase
-producer-under : (z : Sizes) (p : ℕ) → p ≤ 11 → Under z (getD producerSorts p []) (producerCaps z)
-producer-under z zero h = omega arith
-producer-under z (suc zero) h = omega arith
-producer-under z (suc (suc zero)) h = omega arith
-producer-under z (suc (suc (suc zero))) h = omega arith
-producer-under z (suc (suc (suc (suc zero)))) h = omega arith
-producer-under z (suc (suc (suc (suc (suc zero))))) h = omega arith
-producer-under z (suc (suc (suc (suc (suc (suc zero)))))) h = omega arith
-producer-under z (suc (suc (suc (suc (suc (suc (suc zero))))))) h = omega arith
-producer-under z (suc (suc (suc (suc (suc (suc (suc (suc zero)))))))) h = omega arith
-producer-under z (suc (suc (suc (suc (suc (suc (suc (suc (suc zero))))))))) h = omega arith
-producer-under z (suc (suc (suc (suc (suc (suc (suc (suc (suc (suc zero)))))))))) h = omega arith
-producer-under z (suc (suc (suc (suc (suc (suc (suc (suc (suc (suc (suc zero))))))))))) h = omega arith
-producer-under z (suc (suc (suc (suc (suc (suc (suc (suc (suc (suc (suc (suc p)))))))))))) h = absurd (omega arith)
+-- the rows of a table, each within these
+abbrev Rows : Sizes → List (List Sort) → List ℕ → Type 0
+Rows z [] bs = Unit
+Rows z (ss ∷ rows) bs = Under z ss bs × Rows z rows bs
 
-consumer-under : (z : Sizes) (p : ℕ) → p ≤ 7 → Under z (getD consumerSorts p []) (consumerCaps z)
-consumer-under z zero h = omega arith
-consumer-under z (suc zero) h = omega arith
-consumer-under z (suc (suc zero)) h = omega arith
-consumer-under z (suc (suc (suc zero))) h = omega arith
-consumer-under z (suc (suc (suc (suc zero)))) h = omega arith
-consumer-under z (suc (suc (suc (suc (suc zero))))) h = omega arith
-consumer-under z (suc (suc (suc (suc (suc (suc zero)))))) h = omega arith
-consumer-under z (suc (suc (suc (suc (suc (suc (suc zero))))))) h = omega arith
-consumer-under z (suc (suc (suc (suc (suc (suc (suc (suc p)))))))) h = absurd (omega arith)
+row-under : (z : Sizes) (rows : List (List Sort)) (bs : List ℕ) → Rows z rows bs → (p : ℕ) → p < length rows → Under z (getD rows p []) bs
+row-under z [] bs u p h = absurd (omega arith)
+row-under z (ss ∷ rows) bs u zero h = u .0
+row-under z (ss ∷ rows) bs u (suc p) h = row-under z rows bs (u .1) p (omega arith)
+
+-- a thread's words 1 to 7 in any phase
+producer-rows : (z : Sizes) → Rows z producerSorts (producerCaps z)
+producer-rows z =
+    let placed : Under z placedSorts (producerCaps z) = omega arith in
+    (omega arith, (omega arith, (placed, (placed, (placed, (omega arith, (placed, (placed, (placed, (placed, (omega arith, (omega arith, tt))))))))))))
+
+consumer-rows : (z : Sizes) → Rows z consumerSorts (consumerCaps z)
+consumer-rows z =
+    (omega arith, (omega arith, (omega arith, (omega arith, (omega arith, (omega arith, (omega arith, (omega arith, tt))))))))
 
 -- two rows of the same length
 under-length : (z : Sizes) (ss : List Sort) (bs : List ℕ) → Under z ss bs → length bs ≤ length ss
@@ -118,9 +111,9 @@ in-range-most z m a (content k) h w =
     let y = under-at z (contentSorts z) (contentCaps z) (content-under z (omega arith)) k h in
     omega arith
 in-range-most z m a (consumer k) h w =
-    thread-cap z 7 consumerSorts (consumerCaps z) (λ j. reader z m (consumer j)) (consumer-under z) (a .ranges .consuming) k h w
+    thread-cap z lastConsumerPhase consumerSorts (consumerCaps z) (λ j. reader z m (consumer j)) (λ p l. row-under z consumerSorts (consumerCaps z) (consumer-rows z) p (omega arith)) (a .ranges .consuming) k h w
 in-range-most z m a (producer t k) h w =
-    thread-cap z 11 producerSorts (producerCaps z) (λ j. reader z m (producer t j)) (producer-under z) (a .ranges .producing t (h .0) (h .1)) k (h .2) w
+    thread-cap z lastProducerPhase producerSorts (producerCaps z) (λ j. reader z m (producer t j)) (λ p l. row-under z producerSorts (producerCaps z) (producer-rows z) p (omega arith)) (a .ranges .producing t (h .0) (h .1)) k (h .2) w
 in-range-most z m a (part r k) h w =
     let x = sort-cap z (sortOf z (part r k)) (reader z m (part r k)) w (a .ranges .words (part r k) h) in
     let y = part-cap z k (h .1) in
@@ -146,8 +139,8 @@ clear-more zero l at = ap (λ (i : ℕ). set l i 0) (omega arith)
 clear-more (suc n) l at = ap (λ (i : ℕ). set (sets (set l at 0) (suc at) (replicate n 0)) i 0) (omega arith) ∙ clear-more n (set l at 0) (suc at)
 
 -- the words of so many records
-pub records-below : (B r : ℕ) → B ≤ mostEntries → r ≤ mostRecords → r * (3 * B + 4) ≤ 12544
-records-below B r b h = omega (arith, mul-le-mul-right (3 * B + 4) h)
+pub records-below : (w r : ℕ) → w ≤ mostRecordWords → r ≤ mostRecords → r * w ≤ mostRecords * mostRecordWords
+records-below w r b h = omega (arith, mul-le-mul-right w h, mul-le-mul-left mostRecords b)
 
 -- a record is in the lent words
 pub record-inside : (z : Sizes) (m : List ℕ) (r : ℕ) → Room z m → r < z .N → firstRecord z + r * recordWords z + recordWords z ≤ length m

@@ -8,6 +8,7 @@ ghost use Rattle.rules.specs.Sizes.{firstRecord, recordWords, storeWords, mostE
 ghost use Rattle.rules.specs.Cell.{reader, place, used, write, _:=_, content, consumer, producer, part, entry, headRecord, headPosition, cursorRecord, cursorPosition, foundRecord, foundPosition, clearConsumer, clearProducer, wipe};
 ghost use Rattle.rules.specs.Address.{There};
 ghost use Rattle.store.specs.Shape.{sizes};
+ghost use Rattle.store.specs.Caps.{mostRecordWords};
 ghost use Rattle.store.specs.Store.{Room, Admitted, Reads, Holds};
 ghost use Rattle.store.specs.Rows.{ReadsContents, ReadsConsumer, ReadsProducer};
 ghost use Rattle.store.specs.Slot.{Slotted};
@@ -91,12 +92,20 @@ pub fn select(test: bool, yes: u32, no: u32) -> u32
     }
 }
 
+// The words of a record: place, next, prev and use, and three for each entry.
+pub fn record_words(z: Shape) -> u32
+    requires { ⌜ z .entries ≤ mostEntries ⌝ }
+    ensures { λ n. ⌜ (n ≡ recordWords (sizes z)) × (n ≤ mostRecordWords) ⌝ }
+{
+    3 * z.entries + 4
+}
+
 // The first word of record r, or of what follows the last.
 pub fn record_at(z: Shape, r: u32) -> u32
     requires { ⌜ (z .entries ≤ mostEntries) × (z .producers ≤ mostProducers) × (r ≤ mostRecords) ⌝ }
     ensures { λ at. ⌜ (at ≡ firstRecord (sizes z) + r * recordWords (sizes z)) × (at ≤ mostWords) ⌝ }
 {
-    size::CONTENT_WORDS + size::THREAD_WORDS * (z.producers + 1) + r * (3 * z.entries + 4)
+    size::CONTENT_WORDS + size::THREAD_WORDS * (z.producers + 1) + r * record_words(z)
 }
 
 // The word at an address, which is that of its cell, and a store to it.
@@ -348,7 +357,7 @@ pub fn wipe_record(s: &mut [u32], z: Shape, r: u32)
     requires { ⌜ r < z .records ⌝ }
     ensures { λ _. ⌜ now (s .exit) ≡ write (sizes z) (now (s .entry)) (wipe r) ⌝ }
 {
-    clear(s, record_at(z, r), 3 * z.entries + 4);
+    clear(s, record_at(z, r), record_words(z));
 }
 
 // B × place: the position past record r's last.

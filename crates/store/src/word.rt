@@ -1,5 +1,18 @@
 // The words of a store by their place in the contents, a thread, a record or an entry.
 
+// Contents, words 0 to 5: the sizes, and the first words of the threads and of the records.
+pub const ENTRIES: u32 = 0;
+
+pub const RECORDS: u32 = 1;
+
+pub const PRODUCERS: u32 = 2;
+
+pub const STARTS_ALLOWED: u32 = 3;
+
+pub const FIRST_THREAD: u32 = 4;
+
+pub const FIRST_RECORD: u32 = 5;
+
 // Contents, words 6 to 10.
 pub const TAIL: u32 = 6;
 

@@ -10,6 +10,9 @@ use Rattle.admission.specs.Admit.{room-of, sizes-most, refuse-length, re
 use Rattle.admission.proofs.admit.Statement.{statement}
 use Rattle.admission.proofs.admit.Tie as tie
 
+cast-if1 : tie.Need-cast-if1
+cast-if1 c = search needs
+
 returns : tie.Need-returns
 returns c = refuse-length (now (c .before .before .args .s)) (c .if1 .taken)
 
@@ -41,6 +44,7 @@ pub admit-spec : {M : Type 1} → statement M
 admit-spec =
     tie.close
     (tie.spec
+    cast-if1
     returns
     shape-of-requires
     sizes-in-range-requires

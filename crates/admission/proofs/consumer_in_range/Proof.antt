@@ -1,13 +1,19 @@
 -- `admission::consumer_in_range` meets its contract.
 use mathlib.Core.Path.{refl, _∙_}
 use native.Mathlib.Omega.{arith}
-use borrow.Author.Needs.{needs}
 use denote.Ref.{now}
 use Rattle.rules.specs.Range.{idleSorts, cursorSorts, rescanSorts, foundSorts, itemSorts}
 use Rattle.store.specs.Shape.{sizes}
 use Rattle.admission.specs.Rows.{consumer-row, consumer-past, idle-phase, cursor-phase}
+use borrow.Author.Needs.{needs}
 use Rattle.admission.proofs.consumer_in_range.Statement.{statement}
 use Rattle.admission.proofs.consumer_in_range.Tie as tie
+
+cast-phase : tie.Need-cast-phase
+cast-phase c = search needs
+
+mul-phase : tie.Need-mul-phase
+mul-phase c = search needs
 
 shared-slice-read-phase : tie.Need-shared-slice-read-phase
 shared-slice-read-phase c = search needs
@@ -19,8 +25,7 @@ row-at-most-requires : tie.Need-row-at-most-requires
 row-at-most-requires c κs = search needs
 
 returns-2 : tie.Need-returns-2
-returns-2 c =
-    consumer-row (sizes (c .before .before .before .before .before .args .z)) (now (c .before .before .before .before .before .args .s)) (λ j. omega (arith, c .before .before .before .shared-slice-known2 .given j)) _ idleSorts refl (c .before .before .if1 .left) (idle-phase _ (c .before .if2 .taken)) refl refl ∙ c .row-at-most .ensures
+returns-2 c = consumer-row (sizes (c .before .before .before .before .before .args .z)) (now (c .before .before .before .before .before .args .s)) (λ j. omega (arith, c .before .before .before .shared-slice-known2 .given j)) _ idleSorts refl (c .before .before .if1 .left) (idle-phase _ (c .before .if2 .taken)) refl refl ∙ c .row-at-most .ensures
 
 row-at-most-requires-2 : tie.Need-row-at-most-requires-2
 row-at-most-requires-2 c κs = search needs
@@ -54,6 +59,8 @@ pub consumer-in-range-spec : {M : Type 1} → statement M
 consumer-in-range-spec =
     tie.close
     (tie.spec
+    cast-phase
+    mul-phase
     shared-slice-read-phase
     returns
     row-at-most-requires

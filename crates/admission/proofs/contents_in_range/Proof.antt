@@ -1,24 +1,19 @@
 -- `admission::contents_in_range` meets its contract.
 use mathlib.Core.Bool.{and-true}
-use mathlib.Core.Path.{refl, _∙_}
-use native.Mathlib.Numerals.{add-one}
+use mathlib.Core.Path.{_≡_, refl, _∙_}
+use native.Mathlib.Omega.{arith}
 use lib.Dec.{eqb}
 use lib.ListN.{getD}
-use borrow.Author.Needs.{needs}
 use denote.Ref.{now}
+use Rattle.rules.specs.Sizes.{firstRecord}
 use Rattle.store.specs.Shape.{sizes}
 use Rattle.admission.specs.Rows.{contents-test}
+use borrow.Author.Needs.{needs}
 use Rattle.admission.proofs.contents_in_range.Statement.{statement}
 use Rattle.admission.proofs.contents_in_range.Tie as tie
 
-add-first : tie.Need-add-first
-add-first c = search needs
-
-mul-first : tie.Need-mul-first
-mul-first c = search needs
-
-add-first-2 : tie.Need-add-first-2
-add-first-2 c = search needs
+record-at-requires : tie.Need-record-at-requires
+record-at-requires c κs = search needs
 
 shared-slice-read-spare : tie.Need-shared-slice-read-spare
 shared-slice-read-spare c = search needs
@@ -64,16 +59,15 @@ shared-slice-read-result-3 c = search needs
 
 returns : tie.Need-returns
 returns c =
-    let m = now (c .before .before .before .before .before .before .before .before .before .before .before .before .before .before .before .args .s) in
-    contents-test (sizes (c .before .before .before .before .before .before .before .before .before .before .before .before .before .before .before .args .z)) m (c .before .before .before .before .before .before .before .before .before .before .before .before .before .before .before .pre .1) ∙ rw (and-true (eqb (getD m 15 0) 0), add-one (c .before .before .before .before .before .before .before .before .before .before .before .before .before .before .before .args .z .producers)) refl
+    let b = c .before .before .before .before .before .before .before .before .before .before .before .before .before .before .before .before .args in
+    let first : c .before .before .before .before .before .before .before .before .before .before .before .before .before .before .record-at .result ≡ firstRecord (sizes (b .z)) = omega arith in
+    contents-test (sizes (b .z)) (now (b .s)) (c .before .before .before .before .before .before .before .before .before .before .before .before .before .before .before .before .pre .1) ∙ rw (and-true (eqb (getD (now (b .s)) 15 0) 0), first) refl
 
 pub contents-in-range-spec : {M : Type 1} → statement M
 contents-in-range-spec =
     tie.close
     (tie.spec
-    add-first
-    mul-first
-    add-first-2
+    record-at-requires
     shared-slice-read-spare
     shared-slice-read-spare-2
     shared-slice-read-spare-3

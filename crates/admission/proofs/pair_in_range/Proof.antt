@@ -1,15 +1,16 @@
 -- `admission::pair_in_range` meets its contract.
 use mathlib.Core.Path.{ap₂, sym, _∙_}
 use mathlib.Core.Bool.{_&&_}
-use Prim.Native.Nat.{ℕ, _+_, _*_, _≤_}
+use Prim.Native.Nat.{ℕ, _≤_}
 use native.Mathlib.Omega.{arith}
 use lib.ListN.{getD}
-use borrow.Author.Needs.{needs}
 use denote.Ref.{now}
+use Rattle.rules.specs.Sizes.{recordWords}
 use Rattle.store.specs.Caps.{mostWord}
 use Rattle.store.specs.Shape.{sizes}
 use Rattle.store.specs.Words.{record-inside}
 use Rattle.admission.specs.Bounds.{record-test, every-both}
+use borrow.Author.Needs.{needs}
 use Rattle.admission.proofs.pair_in_range.Statement.{statement}
 use Rattle.admission.proofs.pair_in_range.Tie as tie
 
@@ -25,33 +26,30 @@ record-at-requires-2 c κs = search needs
 cast-other : tie.Need-cast-other
 cast-other c = search needs
 
-mul-n : tie.Need-mul-n
-mul-n c = search needs
-
-add-n : tie.Need-add-n
-add-n c = search needs
+record-words-requires : tie.Need-record-words-requires
+record-words-requires c κs = search needs
 
 cast-rows-at-most : tie.Need-cast-rows-at-most
 cast-rows-at-most c = search needs
 
 rows-at-most-requires : tie.Need-rows-at-most-requires
 rows-at-most-requires c κs =
-    let b = c .before .before .before .before .before in
-    let first = record-inside (sizes (b .args .z)) (now (b .args .s)) (b .args .r) (b .pre .0) (b .pre .1 .0) in
-    let second = record-inside (sizes (b .args .z)) (now (b .args .s)) (b .args .q) (b .pre .0) (b .pre .1 .1) in
-    let enough = b .pre .1 .2 .enough in
+    let a = c .before .before .before .before .before .args in
+    let first = record-inside (sizes (a .z)) (now (a .s)) (a .r) (c .before .before .before .before .before .pre .0) (c .before .before .before .before .before .pre .1 .0) in
+    let second = record-inside (sizes (a .z)) (now (a .s)) (a .q) (c .before .before .before .before .before .pre .0) (c .before .before .before .before .before .pre .1 .1) in
+    let enough = c .before .before .before .before .before .pre .1 .2 .enough in
     (omega arith, omega arith, omega arith)
 
 returns : tie.Need-returns
 returns c =
-    let b = c .before .before .before .before .before .before in
-    let z = sizes (b .args .z) in
-    let fit : (j : ℕ) → getD (now (b .args .s)) j 0 ≤ mostWord = λ j. omega (arith, c .before .before .before .before .before .shared-slice-known .given j) in
+    let a = c .before .before .before .before .before .before .args in
+    let z = sizes (a .z) in
+    let fit : (j : ℕ) → getD (now (a .s)) j 0 ≤ mostWord = λ j. omega (arith, c .before .before .before .before .before .shared-slice-known .given j) in
     ap₂ _&&_
-    (record-test z (now (b .args .s)) (now (b .args .b)) (b .pre .1 .2) (b .args .r) _ (b .pre .1 .0) (c .before .before .before .record-at .ensures .0) fit)
-    (record-test z (now (b .args .s)) (now (b .args .b)) (b .pre .1 .2) (b .args .q) _ (b .pre .1 .1) (c .before .before .record-at2 .ensures .0) fit)
-    ∙ sym (every-both (3 * b .args .z .entries + 4) _ _)
-    ∙ c .rows-at-most .ensures
+    (record-test z (now (a .s)) (now (a .b)) (c .before .before .before .before .before .before .pre .1 .2) (a .r) _ (c .before .before .before .before .before .before .pre .1 .0) (c .before .before .before .record-at .ensures .0) fit)
+    (record-test z (now (a .s)) (now (a .b)) (c .before .before .before .before .before .before .pre .1 .2) (a .q) _ (c .before .before .before .before .before .before .pre .1 .1) (c .before .before .record-at2 .ensures .0) fit)
+    ∙ sym (every-both (recordWords z) _ _)
+    ∙ rw (c .before .record-words .ensures .0) at (c .rows-at-most .ensures)
 
 pub pair-in-range-spec : {M : Type 1} → statement M
 pair-in-range-spec =
@@ -61,8 +59,7 @@ pair-in-range-spec =
     cast-at
     record-at-requires-2
     cast-other
-    mul-n
-    add-n
+    record-words-requires
     cast-rows-at-most
     rows-at-most-requires
     returns)
