@@ -1,7 +1,7 @@
 -- `opening::link_first` meets its contract.
 use mathlib.Core.Path.{refl}
-use borrow.Author.Needs.{needs}
 use Rattle.rules.specs.Cell.{writes}
+use borrow.Author.Needs.{needs}
 use Rattle.opening.proofs.link_first.Statement.{statement}
 use Rattle.opening.proofs.link_first.Tie as tie
 
@@ -14,20 +14,15 @@ put-content-requires-2 c κs = search needs
 put-part-requires : tie.Need-put-part-requires
 put-part-requires c κs = search needs
 
-put-part-requires-2 : tie.Need-put-part-requires-2
-put-part-requires-2 c κs = search needs
+put-use-requires : tie.Need-put-use-requires
+put-use-requires c κs = search needs
 
 same-length : tie.Need-same-length
 same-length c = search needs
 
 returns : tie.Need-returns
 unfolding writes
-returns c =
-    let put-content = c .before .before .before .before .before .before .before .before .before .before .before .before .before .before .put-content in
-    let put-content2 = c .before .before .before .before .before .before .before .before .before .before .put-content2 in
-    let put-part = c .before .before .before .before .before .before .put-part in
-    let put-part2 = c .before .before .put-part2 in
-    rw (put-part2 .ensures, put-part .ensures, put-content2 .ensures, put-content .ensures) refl
+returns c = rw (c .before .before .put-use .ensures, c .before .before .before .before .before .before .put-part .ensures, c .before .before .before .before .before .before .before .before .before .before .put-content2 .ensures, c .before .before .before .before .before .before .before .before .before .before .before .before .before .before .put-content .ensures) refl
 
 pub link-first-spec : {M : Type 1} → statement M
 link-first-spec =
@@ -36,6 +31,6 @@ link-first-spec =
     put-content-requires
     put-content-requires-2
     put-part-requires
-    put-part-requires-2
+    put-use-requires
     same-length
     returns)
