@@ -1,18 +1,27 @@
 -- From the numbers that the code tests to the whole call: refusals first, then the call's own rule.
 use mathlib.Core.Path.{_≡_, refl, ap, sym, _∙_, subst}
 use mathlib.Core.List.{List}
-use Prim.Native.Nat.{ℕ, zero, suc, _<_}
+use Prim.Native.Nat.{ℕ, zero, suc, _≤_, _<_}
 use native.Mathlib.Omega.{arith}
+use lib.ListN.{getD}
+use borrow.Author.Tests.{le-ltb, eq-eqb, ne-eqb}
 use Rattle.rules.specs.Sizes.{Sizes}
 use Rattle.rules.specs.Cell.{reader}
-use Rattle.rules.specs.Free.{Picker}
-use Rattle.rules.specs.Request.{Request, Result, applied, answer, result, sizesOf}
+use Rattle.rules.specs.Free.{Picker, lowestFree}
+use Rattle.rules.specs.Rule.{refuse}
+use Rattle.rules.specs.Producer.{producerRules, producerStep}
+use Rattle.rules.specs.Consumer.{consumerRules, consumerStep}
+use Rattle.rules.specs.Request.{Request, Result, applied, stepping, answer, result, sizesOf}
 use Rattle.store.specs.declared.Shape.{Shape}
+use Rattle.store.specs.declared.Consumer.{Consumer}
+use Rattle.store.specs.declared.Producer.{Producer}
 use Rattle.store.specs.declared.Reply.the-variants.{Refused}
 use Rattle.store.specs.Shape.{sizes}
+use Rattle.store.specs.Rows.{ReadsConsumer, ReadsProducer}
 use Rattle.store.specs.Outcome.{left, does}
 use Rattle.admission.specs.Refusal.{refusal}
-use Rattle.admission.specs.Admit.{refused-by, goes-on}
+use Rattle.store.specs.Store.{Admitted}
+use Rattle.admission.specs.Admit.{admitted-by, refused-by, goes-on}
 
 module _ (pick : Picker) (q : Request) (m : List ℕ) where
   -- the words are refused
@@ -26,6 +35,32 @@ module _ (pick : Picker) (q : Request) (m : List ℕ) where
   call-answered l z s e a =
       a ∙ subst (λ (y : Sizes). applied (sizes z) m (answer pick q (sizes z) (reader (sizes z) m)) ≡ applied y m (answer pick q y (reader y m))) s refl
       ∙ ap (applied (sizesOf m) m) (sym (goes-on m (answer pick q) e))
+
+-- the code's sizes are admitted with the words
+pub admitted-as : (z : Shape) (m : List ℕ) → sizes z ≡ sizesOf m → refusal m ≡ 0 → Admitted (sizes z) m
+admitted-as z m s e = rw s (admitted-by m e)
+
+-- The step of an idle thread, and of one in phase k + 1: the rule of that phase.
+module _ {z : Sizes} {m : List ℕ} {c : Consumer} {t : ℕ} (r : ReadsConsumer z m c) (b : t ≤ z .P) (o : t ≡ 0) where
+  pub consumer-idle : c .phase ≡ 0 → left (Refused 7) m ≡ applied z m (stepping lowestFree t z (reader z m))
+  unfolding stepping applied
+  consumer-idle p = rw (le-ltb (z .P) t b, eq-eqb t 0 o, r .phase, p) refl
+
+  pub consumer-steps : {l : Result} (k : ℕ) → c .phase ≡ suc k → l ≡ applied z m (getD consumerRules (suc k) (λ z σ. refuse 7) z (reader z m))
+      → l ≡ applied z m (stepping lowestFree t z (reader z m))
+  unfolding stepping consumerStep
+  consumer-steps k p a = rw (le-ltb (z .P) t b, eq-eqb t 0 o, r .phase, p, ne-eqb (suc k) 0 (λ e. omega arith)) a
+
+module _ {z : Sizes} {m : List ℕ} {p : Producer} {t : ℕ} (r : ReadsProducer z m t p) (b : t ≤ z .P) (o : t ≡ 0 → ⊥) where
+  pub producer-idle : p .phase ≡ 0 → left (Refused 7) m ≡ applied z m (stepping lowestFree t z (reader z m))
+  unfolding stepping applied
+  producer-idle e = rw (le-ltb (z .P) t b, ne-eqb t 0 o, r .phase, e) refl
+
+  pub producer-steps : {l : Result} (k : ℕ) → p .phase ≡ suc k
+      → l ≡ applied z m (getD (producerRules (lowestFree z (reader z m))) (suc k) (λ z σ t. refuse 7) z (reader z m) t)
+      → l ≡ applied z m (stepping lowestFree t z (reader z m))
+  unfolding stepping producerStep
+  producer-steps k e a = rw (le-ltb (z .P) t b, ne-eqb t 0 o, r .phase, e, ne-eqb (suc k) 0 (λ h. omega arith)) a
 
 -- p is none of 1 to k
 abbrev pub Avoids : (k p : ℕ) → Type 0

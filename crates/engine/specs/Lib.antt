@@ -1,3 +1,4 @@
+pub mod Request
 pub mod Export
 pub mod Calls
 pub mod Delivery

@@ -1,17 +1,11 @@
 // The calls *start enqueue*, *start dequeue* and *step* on the lent words (document 01, "Calls"), and the C interface of all four.
 ghost use mathlib.Core.Path.{_≡_};
-ghost use mathlib.Core.Bool.{cond};
-ghost use Prim.Native.Nat.{_≤_};
-ghost use lib.Dec.{eqb};
-ghost use Rattle.rules.specs.Cell.{phase, consumerPhase};
 ghost use Rattle.rules.specs.Free.{lowestFree};
-ghost use Rattle.rules.specs.Rule.{refuse};
-ghost use Rattle.rules.specs.Producer.{producerStep};
-ghost use Rattle.rules.specs.Consumer.{consumerStep};
 ghost use Rattle.rules.specs.Request.{startEnqueue, startDequeue, step, stepping, result, open-store};
 ghost use Rattle.store.specs.Shape.{sizes};
 ghost use Rattle.store.specs.Outcome.{response, left, does};
 ghost use Rattle.store.specs.Store.{Admitted};
+ghost use Rattle.engine.specs.Request.{request};
 ghost use Rattle.engine.specs.Export.{code, replyWords, returned, replied};
 use admission::admit;
 use admission::shape_of;
@@ -38,17 +32,38 @@ use starting::begin_dequeue;
 use starting::begin_enqueue;
 use store::Reply;
 use store::Shape;
-use store::consumer;
-use store::producer;
-use store::word;
+use store::read_consumer;
+use store::read_producer;
 
-// One phase of producer t.
-fn step_producer(s: &mut [u32], z: Shape, t: u32) -> Reply
+// A start enqueue (producer, value), a start dequeue or a step (thread).
+pub enum Request {
+    Enqueue(u32, u32),
+    Dequeue,
+    Step(u32),
+}
+
+// *Step* (thread) on admitted words does one phase.
+fn step_thread(s: &mut [u32], z: Shape, t: u32) -> Reply
     requires { ⌜ Admitted (sizes z) (now s) ⌝ }
-    requires { ⌜ (1 ≤ t) × (t ≤ z .producers) ⌝ }
-    ensures { λ r. ⌜ left r (now (s .exit)) ≡ does (λ z σ. cond (eqb (σ (phase t)) 0) (refuse 7) (producerStep (lowestFree z σ) z σ t)) z (now (s .entry)) ⌝ }
+    ensures { λ r. ⌜ left r (now (s .exit)) ≡ does (stepping lowestFree t) z (now (s .entry)) ⌝ }
 {
-    let phase = producer(s, z, t, word::PHASE);
+    if z.producers < t {
+        return Reply::Refused(4);
+    }
+    if t == 0 {
+        let phase = read_consumer(s, z).phase;
+        return match phase {
+            1 => read_front(s, z),
+            2 => read_tail(s, z),
+            3 => scan_on(s, z),
+            4 => read_entry(s, z),
+            5 => rescan_on(s, z),
+            6 => read_item(s, z),
+            7 => mark_handled(s, z),
+            0 | 8..=4294967295 => Reply::Refused(7),
+        };
+    }
+    let phase = read_producer(s, z, t).phase;
     match phase {
         1 => take_position(s, z, t),
         2 => load_tail(s, z, t),
@@ -65,69 +80,41 @@ fn step_producer(s: &mut [u32], z: Shape, t: u32) -> Reply
     }
 }
 
-// One phase of the consumer.
-fn step_consumer(s: &mut [u32], z: Shape) -> Reply
-    requires { ⌜ Admitted (sizes z) (now s) ⌝ }
-    ensures { λ r. ⌜ left r (now (s .exit)) ≡ does (λ z σ. cond (eqb (σ consumerPhase) 0) (refuse 7) (consumerStep z σ)) z (now (s .entry)) ⌝ }
+// A call on any words: admission first, then its own rule.
+fn call(s: &mut [u32], q: Request) -> Reply
+    ensures { λ r. ⌜ left r (now (s .exit)) ≡ result lowestFree (request q) (now (s .entry)) ⌝ }
 {
-    let phase = consumer(s, z, word::PHASE);
-    match phase {
-        1 => read_front(s, z),
-        2 => read_tail(s, z),
-        3 => scan_on(s, z),
-        4 => read_entry(s, z),
-        5 => rescan_on(s, z),
-        6 => read_item(s, z),
-        7 => mark_handled(s, z),
-        0 | 8..=4294967295 => Reply::Refused(7),
+    let n = admit(s);
+    if n != 0 {
+        return Reply::Refused(n);
     }
-}
-
-// *Step* (thread) on admitted words does one phase.
-fn step_thread(s: &mut [u32], z: Shape, t: u32) -> Reply
-    requires { ⌜ Admitted (sizes z) (now s) ⌝ }
-    ensures { λ r. ⌜ left r (now (s .exit)) ≡ does (stepping lowestFree t) z (now (s .entry)) ⌝ }
-{
-    if z.producers < t {
-        return Reply::Refused(4);
+    let z = shape_of(s);
+    match q {
+        Request::Enqueue(t, v) => begin_enqueue(s, z, t, v),
+        Request::Dequeue => begin_dequeue(s, z),
+        Request::Step(t) => step_thread(s, z, t),
     }
-    if t == 0 {
-        return step_consumer(s, z);
-    }
-    step_producer(s, z, t)
 }
 
 // *Start enqueue* (producer, value).
 pub fn start_enqueue(s: &mut [u32], t: u32, v: u32) -> Reply
     ensures { λ r. ⌜ left r (now (s .exit)) ≡ result lowestFree (startEnqueue t v) (now (s .entry)) ⌝ }
 {
-    let n = admit(s);
-    if n != 0 {
-        return Reply::Refused(n);
-    }
-    begin_enqueue(s, shape_of(s), t, v)
+    call(s, Request::Enqueue(t, v))
 }
 
 // *Start dequeue*.
 pub fn start_dequeue(s: &mut [u32]) -> Reply
     ensures { λ r. ⌜ left r (now (s .exit)) ≡ result lowestFree startDequeue (now (s .entry)) ⌝ }
 {
-    let n = admit(s);
-    if n != 0 {
-        return Reply::Refused(n);
-    }
-    begin_dequeue(s, shape_of(s))
+    call(s, Request::Dequeue)
 }
 
 // *Step* (thread).
 pub fn step(s: &mut [u32], t: u32) -> Reply
     ensures { λ r. ⌜ left r (now (s .exit)) ≡ result lowestFree (step t) (now (s .entry)) ⌝ }
 {
-    let n = admit(s);
-    if n != 0 {
-        return Reply::Refused(n);
-    }
-    step_thread(s, shape_of(s), t)
+    call(s, Request::Step(t))
 }
 
 // The number that a reply is returned as.
@@ -165,6 +152,15 @@ fn store_reply(r: Reply, reply: &mut [u32; 4])
     }
 }
 
+// A call whose reply goes to the caller's four words.
+fn deliver(store: &mut [u32], q: Request, reply: &mut [u32; 4]) -> u32
+    ensures { λ n. ⌜ record { number = n; store = now (store .exit); reply = now (reply .exit) } ≡ replied (result lowestFree (request q) (now (store .entry))) (now (reply .entry)) ⌝ }
+{
+    let r = call(store, q);
+    store_reply(r, reply);
+    returned_code(r)
+}
+
 // *Open* a store of these sizes.
 #[no_mangle]
 pub extern "C" fn intake_open(
@@ -195,9 +191,7 @@ pub extern "C" fn intake_start_enqueue(
 ) -> u32
     ensures { λ n. ⌜ record { number = n; store = now (store .exit); reply = now (reply .exit) } ≡ replied (result lowestFree (startEnqueue producer value) (now (store .entry))) (now (reply .entry)) ⌝ }
 {
-    let r = start_enqueue(store, producer, value);
-    store_reply(r, reply);
-    returned_code(r)
+    deliver(store, Request::Enqueue(producer, value), reply)
 }
 
 // *Start dequeue*.
@@ -213,7 +207,5 @@ pub extern "C" fn intake_start_dequeue(store: &mut [u32]) -> u32
 pub extern "C" fn intake_step(store: &mut [u32], thread: u32, reply: &mut [u32; 4]) -> u32
     ensures { λ n. ⌜ record { number = n; store = now (store .exit); reply = now (reply .exit) } ≡ replied (result lowestFree (step thread) (now (store .entry))) (now (reply .entry)) ⌝ }
 {
-    let r = step(store, thread);
-    store_reply(r, reply);
-    returned_code(r)
+    deliver(store, Request::Step(thread), reply)
 }

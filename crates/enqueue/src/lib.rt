@@ -78,7 +78,13 @@ pub fn look_next(s: &mut [u32], z: Shape, t: u32) -> Reply
         return Reply::Refused(9);
     }
     let none = part(s, z, held - 1, word::NEXT) == 0;
-    put_producer(s, z, t, word::PHASE, select(none, phase::CLAIM, phase::SHIFT));
+    put_producer(
+        s,
+        z,
+        t,
+        word::PHASE,
+        select(none, phase::CLAIM, phase::SHIFT),
+    );
     Reply::Going
 }
 

@@ -14,13 +14,9 @@ ghost use Rattle.store.specs.Rows.{ReadsContents, ReadsConsumer, ReadsPr
 ghost use Rattle.store.specs.Slot.{Slotted};
 
 pub mod phase;
-
 pub mod size;
-
 pub mod state;
-
 pub mod usage;
-
 pub mod word;
 
 // The sizes of a store: entries in a record (B), records (N), producers (P), enqueue starts allowed (M).
@@ -85,11 +81,7 @@ pub enum Slot {
 pub fn select(test: bool, yes: u32, no: u32) -> u32
     ensures { λ r. ⌜ r ≡ cond test yes no ⌝ }
 {
-    if test {
-        yes
-    } else {
-        no
-    }
+    if test { yes } else { no }
 }
 
 // The words of a record: place, next, prev and use, and three for each entry.
@@ -196,14 +188,26 @@ pub fn put_cursor(s: &mut [u32], z: Shape, link: u32, position: u32)
     requires { ⌜ Room (sizes z) (now s) ⌝ }
     ensures { λ _. ⌜ now (s .exit) ≡ write (sizes z) (write (sizes z) (now (s .entry)) (cursorRecord := link)) (cursorPosition := position) ⌝ }
 {
-    put_pair(s, z, size::CONTENT_WORDS + word::CURSOR_RECORD, link, position);
+    put_pair(
+        s,
+        z,
+        size::CONTENT_WORDS + word::CURSOR_RECORD,
+        link,
+        position,
+    );
 }
 
 pub fn put_found(s: &mut [u32], z: Shape, link: u32, position: u32)
     requires { ⌜ Room (sizes z) (now s) ⌝ }
     ensures { λ _. ⌜ now (s .exit) ≡ write (sizes z) (write (sizes z) (now (s .entry)) (foundRecord := link)) (foundPosition := position) ⌝ }
 {
-    put_pair(s, z, size::CONTENT_WORDS + word::FOUND_RECORD, link, position);
+    put_pair(
+        s,
+        z,
+        size::CONTENT_WORDS + word::FOUND_RECORD,
+        link,
+        position,
+    );
 }
 
 pub fn read_consumer(s: &[u32], z: Shape) -> Consumer
@@ -349,7 +353,11 @@ pub fn clear_producer(s: &mut [u32], z: Shape, t: u32)
     requires { ⌜ t ≤ z .producers ⌝ }
     ensures { λ _. ⌜ now (s .exit) ≡ write (sizes z) (now (s .entry)) (clearProducer t) ⌝ }
 {
-    clear(s, size::CONTENT_WORDS + size::THREAD_WORDS * t, size::THREAD_WORDS);
+    clear(
+        s,
+        size::CONTENT_WORDS + size::THREAD_WORDS * t,
+        size::THREAD_WORDS,
+    );
 }
 
 pub fn wipe_record(s: &mut [u32], z: Shape, r: u32)

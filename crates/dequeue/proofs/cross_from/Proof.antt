@@ -37,15 +37,15 @@ returns-4 : tie.Need-returns-4
 returns-4 c =
     record {
       crosses =
-        record {
-          to = c .before .before .before .before .before .before .part .result - 1;
-          before = c .before .before .before .before .part2 .result - 1;
-          link = some (c .before .before .before .before .before .before .part .ensures .is) (c .before .before .before .before .before .if1 .left);
-          placed = some (c .before .before .before .before .part2 .ensures .is) (c .before .before .before .if2 .left);
-          fits = le-leb _ _ (c .if3 .left);
-          link-is = some refl (c .before .before .before .before .before .if1 .left);
-          position-is = refl;
-        };
+          record {
+            to = c .before .before .before .before .before .before .part .result - 1;
+            before = c .before .before .before .before .part2 .result - 1;
+            link = some (c .before .before .before .before .before .before .part .ensures .is) (c .before .before .before .before .before .if1 .left);
+            placed = some (c .before .before .before .before .part2 .ensures .is) (c .before .before .before .if2 .left);
+            fits = le-leb _ _ (c .if3 .left);
+            link-is = some refl (c .before .before .before .before .before .if1 .left);
+            position-is = refl;
+          };
     }
 
 pub cross-from-spec : {M : Type 1} → statement M
