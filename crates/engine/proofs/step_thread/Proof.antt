@@ -16,25 +16,25 @@ read-consumer-requires : tie.Need-read-consumer-requires
 read-consumer-requires c κs = search needs
 
 read-front-requires : tie.Need-read-front-requires
-read-front-requires c κs = search needs
+read-front-requires c κs = c .before .before .before .before .before .before .before .before .pre
 
 read-tail-requires : tie.Need-read-tail-requires
-read-tail-requires c κs = search needs
+read-tail-requires c κs = c .before .before .before .before .before .before .before .before .pre
 
 scan-on-requires : tie.Need-scan-on-requires
-scan-on-requires c κs = search needs
+scan-on-requires c κs = c .before .before .before .before .before .before .before .before .pre
 
 read-entry-requires : tie.Need-read-entry-requires
-read-entry-requires c κs = search needs
+read-entry-requires c κs = c .before .before .before .before .before .before .before .before .pre
 
 rescan-on-requires : tie.Need-rescan-on-requires
-rescan-on-requires c κs = search needs
+rescan-on-requires c κs = c .before .before .before .before .before .before .before .before .pre
 
 read-item-requires : tie.Need-read-item-requires
-read-item-requires c κs = search needs
+read-item-requires c κs = c .before .before .before .before .before .before .before .before .pre
 
 mark-handled-requires : tie.Need-mark-handled-requires
-mark-handled-requires c κs = search needs
+mark-handled-requires c κs = c .before .before .before .before .before .before .before .before .pre
 
 same-length : tie.Need-same-length
 same-length c = search needs
@@ -94,37 +94,37 @@ read-producer-requires : tie.Need-read-producer-requires
 read-producer-requires c κs = search needs
 
 take-position-requires : tie.Need-take-position-requires
-take-position-requires c κs = search needs
+take-position-requires c κs = (c .before .before .before .before .before .before .before .before .pre, omega arith)
 
 load-tail-requires : tie.Need-load-tail-requires
-load-tail-requires c κs = search needs
+load-tail-requires c κs = (c .before .before .before .before .before .before .before .before .pre, omega arith)
 
 look-next-requires : tie.Need-look-next-requires
-look-next-requires c κs = search needs
+look-next-requires c κs = (c .before .before .before .before .before .before .before .before .pre, omega arith)
 
 claim-record-requires : tie.Need-claim-record-requires
-claim-record-requires c κs = search needs
+claim-record-requires c κs = (c .before .before .before .before .before .before .before .before .pre, omega arith)
 
 link-claimed-requires : tie.Need-link-claimed-requires
-link-claimed-requires c κs = search needs
+link-claimed-requires c κs = (c .before .before .before .before .before .before .before .before .pre, omega arith)
 
 shift-tail-requires : tie.Need-shift-tail-requires
-shift-tail-requires c κs = search needs
+shift-tail-requires c κs = (c .before .before .before .before .before .before .before .before .pre, omega arith)
 
 go-back-requires : tie.Need-go-back-requires
-go-back-requires c κs = search needs
+go-back-requires c κs = (c .before .before .before .before .before .before .before .before .pre, omega arith)
 
 write-entry-requires : tie.Need-write-entry-requires
-write-entry-requires c κs = search needs
+write-entry-requires c κs = (c .before .before .before .before .before .before .before .before .pre, omega arith)
 
 set-entry-requires : tie.Need-set-entry-requires
-set-entry-requires c κs = search needs
+set-entry-requires c κs = (c .before .before .before .before .before .before .before .before .pre, omega arith)
 
 claim-ahead-requires : tie.Need-claim-ahead-requires
-claim-ahead-requires c κs = search needs
+claim-ahead-requires c κs = (c .before .before .before .before .before .before .before .before .pre, omega arith)
 
 link-ahead-requires : tie.Need-link-ahead-requires
-link-ahead-requires c κs = search needs
+link-ahead-requires c κs = (c .before .before .before .before .before .before .before .before .pre, omega arith)
 
 same-length-10 : tie.Need-same-length-10
 same-length-10 c = search needs
