@@ -8,7 +8,8 @@ use native.Mathlib.Omega.{arith}
 use lib.Dec.{leb, ltb}
 use lib.ListN.{length, replicate, length-replicate}
 use borrow.Author.Tests.{leb-true, ltb-false, lt-ltb, le-ltb}
-use Rattle.rules.specs.Sizes.{Sizes, between, sizesInRange, storeWords, contentWords, mostEntries, mostRecords, mostProducers, mostStarts}
+use Rattle.history.specs.Event.{mostProducers}
+use Rattle.rules.specs.Sizes.{Sizes, between, sizesInRange, storeWords, contentWords, mostEntries, mostRecords, mostStarts}
 use Rattle.rules.specs.Cell.{Reader, reader}
 use Rattle.rules.specs.Range.{inRange}
 use Rattle.rules.specs.Rule.{Answer, refuse}

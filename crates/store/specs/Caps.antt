@@ -2,7 +2,8 @@
 use mathlib.Core.List.{List, [], _∷_}
 use Prim.Native.Nat.{ℕ}
 use lib.ListN.{getD}
-use Rattle.rules.specs.Sizes.{Sizes, mostEntries, mostRecords, mostProducers, mostStarts, mostPlace, contentWords, recordWords}
+use Rattle.history.specs.Event.{mostProducers}
+use Rattle.rules.specs.Sizes.{Sizes, mostEntries, mostRecords, mostStarts, mostPlace, contentWords, recordWords}
 use Rattle.rules.specs.Cell.{Cell, content, consumer, producer, part, entry}
 use Rattle.rules.specs.Range.{Sort, unused, exactly, number, link, record-number, most, any, lastConsumerPhase, lastProducerPhase}
 

@@ -3,7 +3,8 @@ use mathlib.Core.Path.{_≡_}
 use mathlib.Core.List.{List}
 use Prim.Native.Nat.{ℕ, _≤_}
 use lib.ListN.{length}
-use Rattle.rules.specs.Sizes.{Sizes, storeWords, mostEntries, mostRecords, mostProducers, mostStarts}
+use Rattle.history.specs.Event.{mostProducers}
+use Rattle.rules.specs.Sizes.{Sizes, storeWords, mostEntries, mostRecords, mostStarts}
 use Rattle.rules.specs.Cell.{Cell, reader, address}
 use Rattle.rules.specs.Address.{There}
 use Rattle.rules.specs.InRange.{InRange}
