@@ -1,9 +1,9 @@
--- What a phase knows of a slot once it has looked at its case, and the refusals.
+-- What a phase knows of a slot once it has looked at its case, and the refusals. The link and the position are words of the store.
 use mathlib.Core.Path.{_≡_, refl, ap, sym}
 use mathlib.Core.Bool.{cond}
 use mathlib.Core.Logic.{inl, inr}
 use mathlib.Core.List.{List, [], _∷_}
-use Prim.Native.Nat.{ℕ}
+use Prim.Native.Nat.{ℕ, _<_}
 use native.Mathlib.Omega.{arith}
 use denote.Enum.Declared.{tagOf}
 use types.Run.{OneOf}
@@ -18,29 +18,36 @@ use Rattle.store.specs.Outcome.{left}
 use Rattle.store.specs.Slot.{StandsEnd, StandsAt, Slotted}
 use Rattle.store.proofs.Slot.{the-type}
 
+-- the record and the index are there
 module _ {z : Sizes} {m : List ℕ} {l p : ℕ} {x : Slot} (s : Slotted z m l p x) where
-  pub stands-end : {r : ℕ} → x ≡ End r → StandsEnd z (reader z m) l p r
-  stands-end e = rw e at (s .stands)
+  pub end-there : {r : ℕ} → x ≡ End r → r < z .N
+  end-there e = (rw e at (s .stands)) .below
 
-  pub stands-at : {r i : ℕ} → x ≡ At r i → StandsAt z (reader z m) l p r i
-  stands-at e = rw e at (s .stands)
+  pub at-there : {r i : ℕ} → x ≡ At r i → (r < z .N) × (i < z .B)
+  at-there e = let at = rw e at (s .stands) in (at .below, at .index-below)
 
-module _ {z : Sizes} {m : List ℕ} {l p : ℕ} where
+module _ {z : Sizes} {m : List ℕ} {l p link position : ℕ} (a : link ≡ l) (b : position ≡ p) where
+  pub stands-end : {x : Slot} {r : ℕ} → Slotted z m l p x → x ≡ End r → StandsEnd z (reader z m) link position r
+  stands-end s e = rw (a, b) (rw e at (s .stands))
+
+  pub stands-at : {x : Slot} {r i : ℕ} → Slotted z m l p x → x ≡ At r i → StandsAt z (reader z m) link position r i
+  stands-at s e = rw (a, b) (rw e at (s .stands))
+
   -- not in the record
-  pub not-inside : (b : ℕ → Answer) (x : Slot) → OneOf (0 ∷ 1 ∷ []) (tagOf the-type x) → Slotted z m l p x
-      → left (Refused 9) m ≡ applied z m (need l (λ r. cond (within z (reader z m) r p) (b r) (refuse 9)))
+  pub not-inside : (f : ℕ → Answer) (x : Slot) → Slotted z m l p x → OneOf (0 ∷ 1 ∷ []) (tagOf the-type x)
+      → left (Refused 9) m ≡ applied z m (need link (λ r. cond (within z (reader z m) r position) (f r) (refuse 9)))
   unfolding applied
-  not-inside b None k s = ap (applied z m) (sym (s .stands .outside b))
-  not-inside b (End r) k s = rw (s .stands .link, s .stands .outside) refl
-  not-inside b (At r i) (inl k) s = absurd (omega arith)
-  not-inside b (At r i) (inr k) s = absurd (omega arith)
+  not-inside f None s k = rw (a, b) (ap (applied z m) (sym (s .stands .outside f)))
+  not-inside f (End r) s k = rw (a, b, s .stands .link, s .stands .outside) refl
+  not-inside f (At r i) s (inl k) = absurd (omega arith)
+  not-inside f (At r i) s (inr k) = absurd (omega arith)
 
   -- neither at the record's end nor in it
-  pub nowhere : (a b : ℕ → Answer) (x : Slot) → OneOf (0 ∷ 2 ∷ []) (tagOf the-type x) → OneOf (0 ∷ 1 ∷ []) (tagOf the-type x) → Slotted z m l p x
-      → left (Refused 9) m ≡ applied z m (need l (λ r. cond (atEnd z (reader z m) r p) (a r) (cond (within z (reader z m) r p) (b r) (refuse 9))))
+  pub nowhere : (f g : ℕ → Answer) (x : Slot) → Slotted z m l p x → OneOf (0 ∷ 2 ∷ []) (tagOf the-type x) → OneOf (0 ∷ 1 ∷ []) (tagOf the-type x)
+      → left (Refused 9) m ≡ applied z m (need link (λ r. cond (atEnd z (reader z m) r position) (f r) (cond (within z (reader z m) r position) (g r) (refuse 9))))
   unfolding applied
-  nowhere a b None j k s = ap (applied z m) (sym (s .stands .refused a b))
-  nowhere a b (End r) (inl j) k s = absurd (omega arith)
-  nowhere a b (End r) (inr j) k s = absurd (omega arith)
-  nowhere a b (At r i) j (inl k) s = absurd (omega arith)
-  nowhere a b (At r i) j (inr k) s = absurd (omega arith)
+  nowhere f g None s j k = rw (a, b) (ap (applied z m) (sym (s .stands .refused f g)))
+  nowhere f g (End r) s (inl j) k = absurd (omega arith)
+  nowhere f g (End r) s (inr j) k = absurd (omega arith)
+  nowhere f g (At r i) s j (inl k) = absurd (omega arith)
+  nowhere f g (At r i) s j (inr k) = absurd (omega arith)

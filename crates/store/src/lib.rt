@@ -156,7 +156,7 @@ pub fn put_head(s: &mut [u32], z: Shape, link: u32, position: u32)
 
 pub fn read_contents(s: &[u32], z: Shape) -> Contents
     requires { ⌜ Admitted (sizes z) (now s) ⌝ }
-    ensures { λ c. ⌜ ReadsContents (sizes z) (now (s .entry)) c ⌝ }
+    ensures { λ q. ⌜ ReadsContents (sizes z) (now (s .entry)) q ⌝ }
 {
     Contents {
         tail: content_word(s, z, word::TAIL),
@@ -189,26 +189,16 @@ pub fn put_cursor(s: &mut [u32], z: Shape, link: u32, position: u32)
     requires { ⌜ Room (sizes z) (now s) ⌝ }
     ensures { λ _. ⌜ now (s .exit) ≡ write (sizes z) (write (sizes z) (now (s .entry)) (cursorRecord := link)) (cursorPosition := position) ⌝ }
 {
-    put_pair(
-        s,
-        z,
-        size::CONTENT_WORDS + word::CURSOR_RECORD,
-        link,
-        position,
-    );
+    let at = size::CONTENT_WORDS + word::CURSOR_RECORD;
+    put_pair(s, z, at, link, position);
 }
 
 pub fn put_found(s: &mut [u32], z: Shape, link: u32, position: u32)
     requires { ⌜ Room (sizes z) (now s) ⌝ }
     ensures { λ _. ⌜ now (s .exit) ≡ write (sizes z) (write (sizes z) (now (s .entry)) (foundRecord := link)) (foundPosition := position) ⌝ }
 {
-    put_pair(
-        s,
-        z,
-        size::CONTENT_WORDS + word::FOUND_RECORD,
-        link,
-        position,
-    );
+    let at = size::CONTENT_WORDS + word::FOUND_RECORD;
+    put_pair(s, z, at, link, position);
 }
 
 pub fn read_consumer(s: &[u32], z: Shape) -> Consumer

@@ -1,4 +1,5 @@
 -- `dequeue::read_entry` meets its contract.
+use Rattle.store.proofs.Slots.{at-there, stands-at, not-inside}
 use mathlib.Core.Path.{refl}
 use Prim.Native.Nat.{suc}
 use native.Mathlib.Numerals.{add-one}
@@ -7,7 +8,6 @@ use borrow.Author.Tests.{eq-eqb, ne-eqb, le-leb, lt-leb}
 use Rattle.rules.specs.Cell.{writes}
 use Rattle.rules.specs.Consumer.{readEntry}
 use Rattle.rules.specs.Request.{applied}
-use Rattle.store.proofs.Slots.{stands-at, not-inside}
 use borrow.Author.Needs.{needs}
 use Rattle.dequeue.proofs.read_entry.Statement.{statement}
 use Rattle.dequeue.proofs.read_entry.Tie as tie
@@ -28,10 +28,10 @@ returns : tie.Need-returns
 unfolding readEntry
 returns c =
     let k = c .before .before .before .read-consumer .ensures in
-    rw (k .cursor-record, k .cursor-position) (not-inside _ _ (c .match .keys2) (c .before .slot-in .ensures))
+    not-inside (k .cursor-record) (k .cursor-position) _ _ (c .before .slot-in .ensures) (c .match .keys2)
 
 entry-requires : tie.Need-entry-requires
-entry-requires c κs = (c .before .before .before .before .before .before .before .before .before .pre, omega (arith, stands-at (c .before .before .before .before .slot-in .ensures) (c .before .before .«record» .given .1)))
+entry-requires c κs = (c .before .before .before .before .before .before .before .before .before .pre, omega (arith, at-there (c .before .before .before .before .slot-in .ensures) (c .before .before .«record» .given .1)))
 
 read-contents-requires : tie.Need-read-contents-requires
 read-contents-requires c κs = search needs
@@ -52,9 +52,9 @@ returns-2 : tie.Need-returns-2
 unfolding readEntry applied writes
 returns-2 c =
     let k = c .before .before .before .before .before .before .before .before .before .before .before .before .before .before .before .before .before .before .before .before .before .before .read-consumer .ensures in
-    let at = stands-at (c .before .before .before .before .before .before .before .before .before .before .before .before .before .before .before .before .before .before .before .before .slot-in .ensures) (c .before .before .before .before .before .before .before .before .before .before .before .before .before .before .before .before .before .before .«record» .given .1) in
+    let at = stands-at (k .cursor-record) (k .cursor-position) (c .before .before .before .before .before .before .before .before .before .before .before .before .before .before .before .before .before .before .before .before .slot-in .ensures) (c .before .before .before .before .before .before .before .before .before .before .before .before .before .before .before .before .before .before .«record» .given .1) in
     let q = c .before .before .before .before .before .before .before .before .before .before .before .before .read-contents .ensures in
-    rw (k .cursor-record, k .cursor-position, at .link, at .inside, at .is, c .before .before .before .before .before .before .before .before .before .before .before .before .before .before .before .entry .ensures .is, eq-eqb _ _ (c .before .before .before .before .before .before .before .before .before .before .before .before .before .before .if1 .taken), q .head-record, q .head-position, c .before .before .put-consumer .ensures, c .before .before .before .before .before .before .put-cursor .ensures, c .before .before .before .before .before .before .before .before .before .before .put-found .ensures, at .link) refl
+    rw (at .link, at .inside, at .is, c .before .before .before .before .before .before .before .before .before .before .before .before .before .before .before .entry .ensures .is, eq-eqb _ _ (c .before .before .before .before .before .before .before .before .before .before .before .before .before .before .if1 .taken), k .cursor-position, q .head-record, q .head-position, c .before .before .put-consumer .ensures, c .before .before .before .before .before .before .put-cursor .ensures, c .before .before .before .before .before .before .before .before .before .before .put-found .ensures, ← k .cursor-record, at .link) refl
 
 same-length-3 : tie.Need-same-length-3
 same-length-3 c = search needs
@@ -63,8 +63,8 @@ returns-3 : tie.Need-returns-3
 unfolding readEntry applied
 returns-3 c =
     let k = c .before .before .before .before .before .before .before .before .before .before .before .read-consumer .ensures in
-    let at = stands-at (c .before .before .before .before .before .before .before .before .before .slot-in .ensures) (c .before .before .before .before .before .before .before .«record» .given .1) in
-    rw (k .cursor-record, k .cursor-position, at .link, at .inside, at .is, c .before .before .before .before .entry .ensures .is, ne-eqb _ _ (c .before .before .before .if1 .left), lt-leb (suc (c .before .before .before .before .before .before .before .before .before .before .before .read-consumer .result .«cursor_position»)) (c .before .before .before .before .before .before .before .before .before .before .before .before .before .before .args .z .starts) (omega arith)) refl
+    let at = stands-at (k .cursor-record) (k .cursor-position) (c .before .before .before .before .before .before .before .before .before .slot-in .ensures) (c .before .before .before .before .before .before .before .«record» .given .1) in
+    rw (at .link, at .inside, at .is, c .before .before .before .before .entry .ensures .is, ne-eqb _ _ (c .before .before .before .if1 .left), k .cursor-position, lt-leb (suc (c .before .before .before .before .before .before .before .before .before .before .before .read-consumer .result .«cursor_position»)) (c .before .before .before .before .before .before .before .before .before .before .before .before .before .before .args .z .starts) (omega arith)) refl
 
 add-put-consumer : tie.Need-add-put-consumer
 add-put-consumer c = search needs
@@ -82,9 +82,9 @@ returns-4 : tie.Need-returns-4
 unfolding readEntry applied writes
 returns-4 c =
     let k = c .before .before .before .before .before .before .before .before .before .before .before .before .before .before .before .before .before .before .before .before .read-consumer .ensures in
-    let at = stands-at (c .before .before .before .before .before .before .before .before .before .before .before .before .before .before .before .before .before .before .slot-in .ensures) (c .before .before .before .before .before .before .before .before .before .before .before .before .before .before .before .before .«record» .given .1) in
+    let at = stands-at (k .cursor-record) (k .cursor-position) (c .before .before .before .before .before .before .before .before .before .before .before .before .before .before .before .before .before .before .slot-in .ensures) (c .before .before .before .before .before .before .before .before .before .before .before .before .before .before .before .before .«record» .given .1) in
     let p = c .before .before .before .before .before .before .before .before .before .before .before .before .before .before .before .before .before .before .before .before .read-consumer .result .«cursor_position» in
-    rw (k .cursor-record, k .cursor-position, at .link, at .inside, at .is, c .before .before .before .before .before .before .before .before .before .before .before .before .before .entry .ensures .is, ne-eqb _ _ (c .before .before .before .before .before .before .before .before .before .before .before .before .if1 .left), le-leb (suc p) (c .before .before .before .before .before .before .before .before .before .before .before .before .before .before .before .before .before .before .before .before .before .before .before .args .z .starts) (omega (arith, c .before .before .before .before .before .before .before .before .before .if2)), c .before .before .put-consumer3 .ensures, c .before .before .before .before .before .before .put-consumer2 .ensures, add-one p) refl
+    rw (at .link, at .inside, at .is, c .before .before .before .before .before .before .before .before .before .before .before .before .before .entry .ensures .is, ne-eqb _ _ (c .before .before .before .before .before .before .before .before .before .before .before .before .if1 .left), k .cursor-position, le-leb (suc p) (c .before .before .before .before .before .before .before .before .before .before .before .before .before .before .before .before .before .before .before .before .before .before .before .args .z .starts) (omega (arith, c .before .before .before .before .before .before .before .before .before .if2)), c .before .before .put-consumer3 .ensures, c .before .before .before .before .before .before .put-consumer2 .ensures, add-one p) refl
 
 pub read-entry-spec : {M : Type 1} → statement M
 read-entry-spec =

@@ -1,4 +1,5 @@
 -- `dequeue::read_front` meets its contract.
+use Rattle.store.proofs.Slots.{end-there, at-there, stands-end, stands-at, nowhere}
 use mathlib.Core.Path.{refl, sym, _∙_}
 use Prim.Native.Nat.{suc}
 use native.Mathlib.Numerals.{add-one}
@@ -8,7 +9,6 @@ use Rattle.rules.specs.Cell.{writes}
 use Rattle.rules.specs.Consumer.{front}
 use Rattle.rules.specs.Request.{applied}
 use Rattle.store.specs.Steps.{handled}
-use Rattle.store.proofs.Slots.{stands-end, stands-at, nowhere}
 use borrow.Author.Needs.{needs}
 use Rattle.dequeue.proofs.read_front.Statement.{statement}
 use Rattle.dequeue.proofs.read_front.Tie as tie
@@ -32,11 +32,11 @@ returns : tie.Need-returns
 unfolding front applied writes
 returns c =
     let q = c .before .before .before .before .before .before .before .before .before .before .before .read-contents .ensures in
-    let end = stands-end (c .before .before .before .before .before .before .before .before .before .slot-in .ensures) (c .before .before .before .before .before .before .before .slot .given .1) in
-    rw (q .head-record, q .head-position, end .link, end .ends, q .tail-record, eq-eqb _ _ (c .before .before .before .before .if1 .taken ∙ end .link), c .before .before .clear-consumer .ensures) refl
+    let end = stands-end (q .head-record) (q .head-position) (c .before .before .before .before .before .before .before .before .before .slot-in .ensures) (c .before .before .before .before .before .before .before .slot .given .1) in
+    rw (end .link, end .ends, q .tail-record, eq-eqb _ _ (c .before .before .before .before .if1 .taken ∙ sym (q .head-record) ∙ end .link), c .before .before .clear-consumer .ensures) refl
 
 move-head-requires : tie.Need-move-head-requires
-move-head-requires c κs = (c .before .before .before .before .before .before .before .before .before .before .before .pre, stands-end (c .before .before .before .before .before .before .slot-in .ensures) (c .before .before .before .before .slot .given .1) .below)
+move-head-requires c κs = (c .before .before .before .before .before .before .before .before .before .before .before .pre, end-there (c .before .before .before .before .before .before .slot-in .ensures) (c .before .before .before .before .slot .given .1))
 
 same-length-2 : tie.Need-same-length-2
 same-length-2 c = search needs
@@ -45,8 +45,8 @@ returns-2 : tie.Need-returns-2
 unfolding front
 returns-2 c =
     let q = c .before .before .before .before .before .before .before .before .before .before .before .read-contents .ensures in
-    let end = stands-end (c .before .before .before .before .before .before .before .before .before .slot-in .ensures) (c .before .before .before .before .before .before .before .slot .given .1) in
-    rw (q .head-record, q .head-position, end .link, end .ends, q .tail-record, ne-eqb _ _ (λ e. c .before .before .before .before .if1 .left (e ∙ sym (end .link)))) (c .before .before .move-head .ensures)
+    let end = stands-end (q .head-record) (q .head-position) (c .before .before .before .before .before .before .before .before .before .slot-in .ensures) (c .before .before .before .before .before .before .before .slot .given .1) in
+    rw (end .link, end .ends, q .tail-record, ne-eqb _ _ (λ e. c .before .before .before .before .if1 .left (e ∙ sym (end .link) ∙ q .head-record))) (c .before .before .move-head .ensures)
 
 enum-known-slot-2 : tie.Need-enum-known-slot-2
 enum-known-slot-2 c = search needs
@@ -58,10 +58,10 @@ returns-3 : tie.Need-returns-3
 unfolding front
 returns-3 c =
     let q = c .before .before .before .before .read-contents .ensures in
-    rw (q .head-record, q .head-position) (nowhere _ _ _ (c .before .match .keys2) (c .match2 .keys2) (c .before .before .slot-in .ensures))
+    nowhere (q .head-record) (q .head-position) _ _ _ (c .before .before .slot-in .ensures) (c .before .match .keys2) (c .match2 .keys2)
 
 entry-requires : tie.Need-entry-requires
-entry-requires c κs = (c .before .before .before .before .before .before .before .before .before .before .pre, omega (arith, stands-at (c .before .before .before .before .before .slot-in .ensures) (c .before .before .slot2 .given .1)))
+entry-requires c κs = (c .before .before .before .before .before .before .before .before .before .before .pre, omega (arith, at-there (c .before .before .before .before .before .slot-in .ensures) (c .before .before .slot2 .given .1)))
 
 put-consumer-requires : tie.Need-put-consumer-requires
 put-consumer-requires c κs = search needs
@@ -73,8 +73,8 @@ returns-4 : tie.Need-returns-4
 unfolding front applied writes
 returns-4 c =
     let q = c .before .before .before .before .before .before .before .before .before .before .before .before .before .read-contents .ensures in
-    let at = stands-at (c .before .before .before .before .before .before .before .before .before .before .before .slot-in .ensures) (c .before .before .before .before .before .before .before .before .slot2 .given .1) in
-    rw (q .head-record, q .head-position, at .link, at .before, at .inside, at .is, c .before .before .before .before .before .entry .ensures .is, c .before .before .before .before .if2 .taken, c .before .before .put-consumer .ensures) refl
+    let at = stands-at (q .head-record) (q .head-position) (c .before .before .before .before .before .before .before .before .before .before .before .slot-in .ensures) (c .before .before .before .before .before .before .before .before .slot2 .given .1) in
+    rw (at .link, at .before, at .inside, at .is, c .before .before .before .before .before .entry .ensures .is, c .before .before .before .before .if2 .taken, c .before .before .put-consumer .ensures) refl
 
 put-found-requires : tie.Need-put-found-requires
 put-found-requires c κs = search needs
@@ -89,8 +89,8 @@ returns-5 : tie.Need-returns-5
 unfolding front applied writes
 returns-5 c =
     let q = c .before .before .before .before .before .before .before .before .before .before .before .before .before .before .before .before .before .before .read-contents .ensures in
-    let at = stands-at (c .before .before .before .before .before .before .before .before .before .before .before .before .before .before .before .before .slot-in .ensures) (c .before .before .before .before .before .before .before .before .before .before .before .before .before .slot2 .given .1) in
-    rw (q .head-record, q .head-position, at .link, at .before, at .inside, at .is, c .before .before .before .before .before .before .before .before .before .before .entry .ensures .is, c .before .before .before .before .before .before .before .before .if3 .taken, c .before .before .put-consumer2 .ensures, c .before .before .before .before .before .before .put-found .ensures, at .link) refl
+    let at = stands-at (q .head-record) (q .head-position) (c .before .before .before .before .before .before .before .before .before .before .before .before .before .before .before .before .slot-in .ensures) (c .before .before .before .before .before .before .before .before .before .before .before .before .before .slot2 .given .1) in
+    rw (at .link, at .before, at .inside, at .is, c .before .before .before .before .before .before .before .before .before .before .entry .ensures .is, c .before .before .before .before .before .before .before .before .if3 .taken, q .head-position, c .before .before .put-consumer2 .ensures, c .before .before .before .before .before .before .put-found .ensures, ← q .head-record, at .link) refl
 
 same-length-6 : tie.Need-same-length-6
 same-length-6 c = search needs
@@ -99,8 +99,8 @@ returns-6 : tie.Need-returns-6
 unfolding front applied
 returns-6 c =
     let q = c .before .before .before .before .before .before .before .before .before .before .before .before .before .read-contents .ensures in
-    let at = stands-at (c .before .before .before .before .before .before .before .before .before .before .before .slot-in .ensures) (c .before .before .before .before .before .before .before .before .slot2 .given .1) in
-    rw (q .head-record, q .head-position, at .link, at .before, at .inside, at .is, handled (c .before .before .before .before .before .entry .ensures .is) (c .before .before .before .before .if2 .left) (c .before .before .before .if3 .left), lt-leb (suc (c .before .before .before .before .before .before .before .before .before .before .before .before .before .read-contents .result .«head_position»)) (c .before .before .before .before .before .before .before .before .before .before .before .before .before .before .before .before .args .z .starts) (omega arith)) refl
+    let at = stands-at (q .head-record) (q .head-position) (c .before .before .before .before .before .before .before .before .before .before .before .slot-in .ensures) (c .before .before .before .before .before .before .before .before .slot2 .given .1) in
+    rw (at .link, at .before, at .inside, at .is, handled (c .before .before .before .before .before .entry .ensures .is) (c .before .before .before .before .if2 .left) (c .before .before .before .if3 .left), q .head-position, lt-leb (suc (c .before .before .before .before .before .before .before .before .before .before .before .before .before .read-contents .result .«head_position»)) (c .before .before .before .before .before .before .before .before .before .before .before .before .before .before .before .before .args .z .starts) (omega arith)) refl
 
 add-put-content : tie.Need-add-put-content
 add-put-content c = search needs
@@ -115,9 +115,9 @@ returns-7 : tie.Need-returns-7
 unfolding front applied writes
 returns-7 c =
     let q = c .before .before .before .before .before .before .before .before .before .before .before .before .before .before .before .before .before .before .read-contents .ensures in
-    let at = stands-at (c .before .before .before .before .before .before .before .before .before .before .before .before .before .before .before .before .slot-in .ensures) (c .before .before .before .before .before .before .before .before .before .before .before .before .before .slot2 .given .1) in
+    let at = stands-at (q .head-record) (q .head-position) (c .before .before .before .before .before .before .before .before .before .before .before .before .before .before .before .before .slot-in .ensures) (c .before .before .before .before .before .before .before .before .before .before .before .before .before .slot2 .given .1) in
     let p = c .before .before .before .before .before .before .before .before .before .before .before .before .before .before .before .before .before .before .read-contents .result .«head_position» in
-    rw (q .head-record, q .head-position, at .link, at .before, at .inside, at .is, handled (c .before .before .before .before .before .before .before .before .before .before .entry .ensures .is) (c .before .before .before .before .before .before .before .before .before .if2 .left) (c .before .before .before .before .before .before .before .before .if3 .left), le-leb (suc p) (c .before .before .before .before .before .before .before .before .before .before .before .before .before .before .before .before .before .before .before .before .before .args .z .starts) (omega (arith, c .before .before .before .before .before .if4)), c .before .before .put-content .ensures, add-one p) refl
+    rw (at .link, at .before, at .inside, at .is, handled (c .before .before .before .before .before .before .before .before .before .before .entry .ensures .is) (c .before .before .before .before .before .before .before .before .before .if2 .left) (c .before .before .before .before .before .before .before .before .if3 .left), q .head-position, le-leb (suc p) (c .before .before .before .before .before .before .before .before .before .before .before .before .before .before .before .before .before .before .before .before .before .args .z .starts) (omega (arith, c .before .before .before .before .before .if4)), c .before .before .put-content .ensures, add-one p) refl
 
 pub read-front-spec : {M : Type 1} → statement M
 read-front-spec =

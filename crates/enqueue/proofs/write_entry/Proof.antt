@@ -1,10 +1,10 @@
 -- `enqueue::write_entry` meets its contract.
+use Rattle.store.proofs.Slots.{at-there, stands-at, not-inside}
 use mathlib.Core.Path.{refl}
 use native.Mathlib.Omega.{arith}
 use Rattle.rules.specs.Cell.{writes}
 use Rattle.rules.specs.Producer.{writeEntry}
 use Rattle.rules.specs.Request.{applied}
-use Rattle.store.proofs.Slots.{stands-at, not-inside}
 use borrow.Author.Needs.{needs}
 use Rattle.enqueue.proofs.write_entry.Statement.{statement}
 use Rattle.enqueue.proofs.write_entry.Tie as tie
@@ -25,13 +25,13 @@ returns : tie.Need-returns
 unfolding writeEntry
 returns c =
     let p = c .before .before .before .read-producer .ensures in
-    rw (p .held, p .position) (not-inside _ _ (c .match .keys2) (c .before .slot-in .ensures))
+    not-inside (p .held) (p .position) _ _ (c .before .slot-in .ensures) (c .match .keys2)
 
 put-entry-requires : tie.Need-put-entry-requires
-put-entry-requires c κs = omega (arith, c .before .before .before .before .before .before .before .before .before .pre, stands-at (c .before .before .before .before .slot-in .ensures) (c .before .before .«record» .given .1))
+put-entry-requires c κs = omega (arith, c .before .before .before .before .before .before .before .before .before .pre, at-there (c .before .before .before .before .slot-in .ensures) (c .before .before .«record» .given .1))
 
 put-entry-requires-2 : tie.Need-put-entry-requires-2
-put-entry-requires-2 c κs = omega (arith, c .before .before .before .before .before .before .before .before .before .before .before .before .before .pre, stands-at (c .before .before .before .before .before .before .before .before .slot-in .ensures) (c .before .before .before .before .before .before .«record» .given .1))
+put-entry-requires-2 c κs = omega (arith, c .before .before .before .before .before .before .before .before .before .before .before .before .before .pre, at-there (c .before .before .before .before .before .before .before .before .slot-in .ensures) (c .before .before .before .before .before .before .«record» .given .1))
 
 put-producer-requires : tie.Need-put-producer-requires
 put-producer-requires c κs = search needs
@@ -43,8 +43,8 @@ returns-2 : tie.Need-returns-2
 unfolding writeEntry applied writes
 returns-2 c =
     let p = c .before .before .before .before .before .before .before .before .before .before .before .before .before .before .before .before .before .read-producer .ensures in
-    let at = stands-at (c .before .before .before .before .before .before .before .before .before .before .before .before .before .before .before .slot-in .ensures) (c .before .before .before .before .before .before .before .before .before .before .before .before .before .«record» .given .1) in
-    rw (p .held, p .position, at .link, at .inside, at .is, p .call, p .value, c .before .before .put-producer .ensures, c .before .before .before .before .before .before .put-entry2 .ensures, c .before .before .before .before .before .before .before .before .before .before .put-entry .ensures) refl
+    let at = stands-at (p .held) (p .position) (c .before .before .before .before .before .before .before .before .before .before .before .before .before .before .before .slot-in .ensures) (c .before .before .before .before .before .before .before .before .before .before .before .before .before .«record» .given .1) in
+    rw (at .link, at .inside, at .is, p .call, p .value, c .before .before .put-producer .ensures, c .before .before .before .before .before .before .put-entry2 .ensures, c .before .before .before .before .before .before .before .before .before .before .put-entry .ensures) refl
 
 pub write-entry-spec : {M : Type 1} → statement M
 write-entry-spec =

@@ -1,4 +1,5 @@
 -- `rescan::mark_handled` meets its contract.
+use Rattle.store.proofs.Slots.{at-there, stands-at, not-inside}
 use mathlib.Core.Path.{refl}
 use Prim.Native.Nat.{suc}
 use native.Mathlib.Numerals.{add-one}
@@ -7,7 +8,6 @@ use borrow.Author.Tests.{eq-eqb, ne-eqb, le-leb, lt-leb}
 use Rattle.rules.specs.Cell.{writes}
 use Rattle.rules.specs.Consumer.{markHandled}
 use Rattle.rules.specs.Request.{applied}
-use Rattle.store.proofs.Slots.{stands-at, not-inside}
 use borrow.Author.Needs.{needs}
 use Rattle.rescan.proofs.mark_handled.Statement.{statement}
 use Rattle.rescan.proofs.mark_handled.Tie as tie
@@ -28,13 +28,13 @@ returns : tie.Need-returns
 unfolding markHandled
 returns c =
     let k = c .before .before .before .read-consumer .ensures in
-    rw (k .found-record, k .found-position) (not-inside _ _ (c .match .keys2) (c .before .slot-in .ensures))
+    not-inside (k .found-record) (k .found-position) _ _ (c .before .slot-in .ensures) (c .match .keys2)
 
 read-contents-requires : tie.Need-read-contents-requires
 read-contents-requires c κs = search needs
 
 put-entry-requires : tie.Need-put-entry-requires
-put-entry-requires c κs = omega (arith, c .before .before .before .before .before .before .before .before .before .before .before .before .before .pre, stands-at (c .before .before .before .before .before .before .before .before .slot-in .ensures) (c .before .before .before .before .before .before .«record» .given .1))
+put-entry-requires c κs = omega (arith, c .before .before .before .before .before .before .before .before .before .before .before .before .before .pre, at-there (c .before .before .before .before .before .before .before .before .slot-in .ensures) (c .before .before .before .before .before .before .«record» .given .1))
 
 clear-consumer-requires : tie.Need-clear-consumer-requires
 clear-consumer-requires c κs = search needs
@@ -46,8 +46,8 @@ returns-2 : tie.Need-returns-2
 unfolding markHandled applied writes
 returns-2 c =
     let k = c .before .before .before .before .before .before .before .before .before .before .before .before .before .before .before .before .before .read-consumer .ensures in
-    let at = stands-at (c .before .before .before .before .before .before .before .before .before .before .before .before .before .before .before .slot-in .ensures) (c .before .before .before .before .before .before .before .before .before .before .before .before .before .«record» .given .1) in
-    rw (k .found-record, k .found-position, at .link, at .inside, at .is, c .before .before .before .before .before .before .before .before .before .before .read-contents .ensures .head-position, ne-eqb _ _ (c .before .before .before .before .before .before .before .before .if1 .taken), k .item-call, k .item-value, c .before .before .clear-consumer .ensures, c .before .before .before .before .before .before .put-entry .ensures) refl
+    let at = stands-at (k .found-record) (k .found-position) (c .before .before .before .before .before .before .before .before .before .before .before .before .before .before .before .slot-in .ensures) (c .before .before .before .before .before .before .before .before .before .before .before .before .before .«record» .given .1) in
+    rw (at .link, at .inside, at .is, k .found-position, c .before .before .before .before .before .before .before .before .before .before .read-contents .ensures .head-position, ne-eqb _ _ (c .before .before .before .before .before .before .before .before .if1 .taken), k .item-call, k .item-value, c .before .before .clear-consumer .ensures, c .before .before .before .before .before .before .put-entry .ensures) refl
 
 same-length-3 : tie.Need-same-length-3
 same-length-3 c = search needs
@@ -56,12 +56,12 @@ returns-3 : tie.Need-returns-3
 unfolding markHandled applied
 returns-3 c =
     let k = c .before .before .before .before .before .before .before .before .before .before .before .read-consumer .ensures in
-    let at = stands-at (c .before .before .before .before .before .before .before .before .before .slot-in .ensures) (c .before .before .before .before .before .before .before .«record» .given .1) in
+    let at = stands-at (k .found-record) (k .found-position) (c .before .before .before .before .before .before .before .before .before .slot-in .ensures) (c .before .before .before .before .before .before .before .«record» .given .1) in
     let head = c .before .before .before .before .read-contents .result .«head_position» in
-    rw (k .found-record, k .found-position, at .link, at .inside, at .is, c .before .before .before .before .read-contents .ensures .head-position, eq-eqb _ _ (c .before .before .if1 .left), lt-leb (suc head) (c .before .before .before .before .before .before .before .before .before .before .before .before .before .before .args .z .starts) (omega (arith, c .if2))) refl
+    rw (at .link, at .inside, at .is, k .found-position, c .before .before .before .before .read-contents .ensures .head-position, eq-eqb _ _ (c .before .before .if1 .left), lt-leb (suc head) (c .before .before .before .before .before .before .before .before .before .before .before .before .before .before .args .z .starts) (omega (arith, c .if2))) refl
 
 put-entry-requires-2 : tie.Need-put-entry-requires-2
-put-entry-requires-2 c κs = omega (arith, c .before .before .before .before .before .before .before .before .before .before .before .before .before .before .before .pre, stands-at (c .before .before .before .before .before .before .before .before .before .before .slot-in .ensures) (c .before .before .before .before .before .before .before .before .«record» .given .1))
+put-entry-requires-2 c κs = omega (arith, c .before .before .before .before .before .before .before .before .before .before .before .before .before .before .before .pre, at-there (c .before .before .before .before .before .before .before .before .before .before .slot-in .ensures) (c .before .before .before .before .before .before .before .before .«record» .given .1))
 
 add-put-content : tie.Need-add-put-content
 add-put-content c = search needs
@@ -79,9 +79,9 @@ returns-4 : tie.Need-returns-4
 unfolding markHandled applied writes
 returns-4 c =
     let k = c .before .before .before .before .before .before .before .before .before .before .before .before .before .before .before .before .before .before .before .before .before .before .before .read-consumer .ensures in
-    let at = stands-at (c .before .before .before .before .before .before .before .before .before .before .before .before .before .before .before .before .before .before .before .before .before .slot-in .ensures) (c .before .before .before .before .before .before .before .before .before .before .before .before .before .before .before .before .before .before .before .«record» .given .1) in
+    let at = stands-at (k .found-record) (k .found-position) (c .before .before .before .before .before .before .before .before .before .before .before .before .before .before .before .before .before .before .before .before .before .slot-in .ensures) (c .before .before .before .before .before .before .before .before .before .before .before .before .before .before .before .before .before .before .before .«record» .given .1) in
     let head = c .before .before .before .before .before .before .before .before .before .before .before .before .before .before .before .before .read-contents .result .«head_position» in
-    rw (k .found-record, k .found-position, at .link, at .inside, at .is, c .before .before .before .before .before .before .before .before .before .before .before .before .before .before .before .before .read-contents .ensures .head-position, eq-eqb _ _ (c .before .before .before .before .before .before .before .before .before .before .before .before .before .before .if1 .left), le-leb (suc head) (c .before .before .before .before .before .before .before .before .before .before .before .before .before .before .before .before .before .before .before .before .before .before .before .before .before .before .args .z .starts) (omega (arith, c .before .before .before .before .before .before .before .before .before .before .before .before .if2)), k .item-call, k .item-value, c .before .before .clear-consumer2 .ensures, c .before .before .before .before .before .before .put-content .ensures, c .before .before .before .before .before .before .before .before .before .before .put-entry2 .ensures, add-one head) refl
+    rw (at .link, at .inside, at .is, k .found-position, c .before .before .before .before .before .before .before .before .before .before .before .before .before .before .before .before .read-contents .ensures .head-position, eq-eqb _ _ (c .before .before .before .before .before .before .before .before .before .before .before .before .before .before .if1 .left), le-leb (suc head) (c .before .before .before .before .before .before .before .before .before .before .before .before .before .before .before .before .before .before .before .before .before .before .before .before .before .before .args .z .starts) (omega (arith, c .before .before .before .before .before .before .before .before .before .before .before .before .if2)), k .item-call, k .item-value, c .before .before .clear-consumer2 .ensures, c .before .before .before .before .before .before .put-content .ensures, c .before .before .before .before .before .before .before .before .before .before .put-entry2 .ensures, add-one head) refl
 
 pub mark-handled-spec : {M : Type 1} → statement M
 mark-handled-spec =

@@ -1,10 +1,10 @@
 -- `rescan::read_item` meets its contract.
+use Rattle.store.proofs.Slots.{at-there, stands-at, not-inside}
 use mathlib.Core.Path.{refl}
 use native.Mathlib.Omega.{arith}
 use Rattle.rules.specs.Cell.{writes}
 use Rattle.rules.specs.Consumer.{readItem}
 use Rattle.rules.specs.Request.{applied}
-use Rattle.store.proofs.Slots.{stands-at, not-inside}
 use borrow.Author.Needs.{needs}
 use Rattle.rescan.proofs.read_item.Statement.{statement}
 use Rattle.rescan.proofs.read_item.Tie as tie
@@ -25,13 +25,13 @@ returns : tie.Need-returns
 unfolding readItem
 returns c =
     let k = c .before .before .before .read-consumer .ensures in
-    rw (k .found-record, k .found-position) (not-inside _ _ (c .match .keys2) (c .before .slot-in .ensures))
+    not-inside (k .found-record) (k .found-position) _ _ (c .before .slot-in .ensures) (c .match .keys2)
 
 entry-requires : tie.Need-entry-requires
-entry-requires c κs = (c .before .before .before .before .before .before .before .before .before .pre, omega (arith, stands-at (c .before .before .before .before .slot-in .ensures) (c .before .before .«record» .given .1)))
+entry-requires c κs = (c .before .before .before .before .before .before .before .before .before .pre, omega (arith, at-there (c .before .before .before .before .slot-in .ensures) (c .before .before .«record» .given .1)))
 
 entry-requires-2 : tie.Need-entry-requires-2
-entry-requires-2 c κs = (c .before .before .before .before .before .before .before .before .before .before .before .pre, omega (arith, stands-at (c .before .before .before .before .before .before .slot-in .ensures) (c .before .before .before .before .«record» .given .1)))
+entry-requires-2 c κs = (c .before .before .before .before .before .before .before .before .before .before .before .pre, omega (arith, at-there (c .before .before .before .before .before .before .slot-in .ensures) (c .before .before .before .before .«record» .given .1)))
 
 put-consumer-requires : tie.Need-put-consumer-requires
 put-consumer-requires c κs = search needs
@@ -49,8 +49,8 @@ returns-2 : tie.Need-returns-2
 unfolding readItem applied writes
 returns-2 c =
     let k = c .before .before .before .before .before .before .before .before .before .before .before .before .before .before .before .before .before .before .before .before .before .read-consumer .ensures in
-    let at = stands-at (c .before .before .before .before .before .before .before .before .before .before .before .before .before .before .before .before .before .before .before .slot-in .ensures) (c .before .before .before .before .before .before .before .before .before .before .before .before .before .before .before .before .before .«record» .given .1) in
-    rw (k .found-record, k .found-position, at .link, at .inside, at .is, c .before .before .before .before .before .before .before .before .before .before .before .before .before .before .entry .ensures .is, c .before .before .before .before .before .before .before .before .before .before .before .before .entry2 .ensures .is, c .before .before .put-consumer3 .ensures, c .before .before .before .before .before .before .put-consumer2 .ensures, c .before .before .before .before .before .before .before .before .before .before .put-consumer .ensures) refl
+    let at = stands-at (k .found-record) (k .found-position) (c .before .before .before .before .before .before .before .before .before .before .before .before .before .before .before .before .before .before .before .slot-in .ensures) (c .before .before .before .before .before .before .before .before .before .before .before .before .before .before .before .before .before .«record» .given .1) in
+    rw (at .link, at .inside, at .is, c .before .before .before .before .before .before .before .before .before .before .before .before .before .before .entry .ensures .is, c .before .before .before .before .before .before .before .before .before .before .before .before .entry2 .ensures .is, c .before .before .put-consumer3 .ensures, c .before .before .before .before .before .before .put-consumer2 .ensures, c .before .before .before .before .before .before .before .before .before .before .put-consumer .ensures) refl
 
 pub read-item-spec : {M : Type 1} → statement M
 read-item-spec =

@@ -1,4 +1,5 @@
 -- `rescan::rescan_on` meets its contract.
+use Rattle.store.proofs.Slots.{end-there, at-there, stands-end, stands-at, nowhere}
 use mathlib.Core.Path.{refl}
 use Prim.Native.Nat.{suc}
 use native.Mathlib.Numerals.{add-one}
@@ -7,7 +8,6 @@ use borrow.Author.Tests.{eq-eqb, ne-eqb, le-leb, lt-leb}
 use Rattle.rules.specs.Cell.{writes}
 use Rattle.rules.specs.Consumer.{rescan}
 use Rattle.rules.specs.Request.{applied}
-use Rattle.store.proofs.Slots.{stands-end, stands-at, nowhere}
 use borrow.Author.Needs.{needs}
 use Rattle.rescan.proofs.rescan_on.Statement.{statement}
 use Rattle.rescan.proofs.rescan_on.Tie as tie
@@ -22,7 +22,7 @@ enum-known-slot : tie.Need-enum-known-slot
 enum-known-slot c = search needs
 
 rescan-end-requires : tie.Need-rescan-end-requires
-rescan-end-requires c κs = (c .before .before .before .before .before .before .before .before .before .pre, stands-end (c .before .before .before .before .slot-in .ensures) (c .before .before .slot .given .1) .below)
+rescan-end-requires c κs = (c .before .before .before .before .before .before .before .before .before .pre, end-there (c .before .before .before .before .slot-in .ensures) (c .before .before .slot .given .1))
 
 same-length : tie.Need-same-length
 same-length c = search needs
@@ -31,8 +31,8 @@ returns : tie.Need-returns
 unfolding rescan
 returns c =
     let k = c .before .before .before .before .before .before .before .before .before .read-consumer .ensures in
-    let end = stands-end (c .before .before .before .before .before .before .before .slot-in .ensures) (c .before .before .before .before .before .slot .given .1) in
-    rw (k .cursor-record, k .cursor-position, end .link, end .ends) (c .before .before .rescan-end .ensures)
+    let end = stands-end (k .cursor-record) (k .cursor-position) (c .before .before .before .before .before .before .before .slot-in .ensures) (c .before .before .before .before .before .slot .given .1) in
+    rw (end .link, end .ends) (c .before .before .rescan-end .ensures)
 
 enum-known-slot-2 : tie.Need-enum-known-slot-2
 enum-known-slot-2 c = search needs
@@ -44,10 +44,10 @@ returns-2 : tie.Need-returns-2
 unfolding rescan
 returns-2 c =
     let k = c .before .before .before .before .read-consumer .ensures in
-    rw (k .cursor-record, k .cursor-position) (nowhere _ _ _ (c .before .match .keys2) (c .match2 .keys2) (c .before .before .slot-in .ensures))
+    nowhere (k .cursor-record) (k .cursor-position) _ _ _ (c .before .before .slot-in .ensures) (c .before .match .keys2) (c .match2 .keys2)
 
 entry-requires : tie.Need-entry-requires
-entry-requires c κs = (c .before .before .before .before .before .before .before .before .before .before .pre, omega (arith, stands-at (c .before .before .before .before .before .slot-in .ensures) (c .before .before .slot2 .given .1)))
+entry-requires c κs = (c .before .before .before .before .before .before .before .before .before .before .pre, omega (arith, at-there (c .before .before .before .before .before .slot-in .ensures) (c .before .before .slot2 .given .1)))
 
 rescan-found-requires : tie.Need-rescan-found-requires
 rescan-found-requires c κs = search needs
@@ -59,8 +59,8 @@ returns-3 : tie.Need-returns-3
 unfolding rescan
 returns-3 c =
     let k = c .before .before .before .before .before .before .before .before .before .before .before .before .before .read-consumer .ensures in
-    let at = stands-at (c .before .before .before .before .before .before .before .before .before .before .before .slot-in .ensures) (c .before .before .before .before .before .before .before .before .slot2 .given .1) in
-    rw (k .cursor-record, k .cursor-position, at .link, at .before, at .inside, at .is, c .before .before .before .before .before .entry .ensures .is, eq-eqb _ _ (c .before .before .before .before .if1 .taken)) (rw (k .cursor-record, k .cursor-position, at .link) at (c .before .before .rescan-found .ensures))
+    let at = stands-at (k .cursor-record) (k .cursor-position) (c .before .before .before .before .before .before .before .before .before .before .before .slot-in .ensures) (c .before .before .before .before .before .before .before .before .slot2 .given .1) in
+    rw (at .link, at .before, at .inside, at .is, c .before .before .before .before .before .entry .ensures .is, eq-eqb _ _ (c .before .before .before .before .if1 .taken)) (rw (at .link) at (c .before .before .rescan-found .ensures))
 
 same-length-4 : tie.Need-same-length-4
 same-length-4 c = search needs
@@ -69,8 +69,8 @@ returns-4 : tie.Need-returns-4
 unfolding rescan applied
 returns-4 c =
     let k = c .before .before .before .before .before .before .before .before .before .before .before .before .read-consumer .ensures in
-    let at = stands-at (c .before .before .before .before .before .before .before .before .before .before .slot-in .ensures) (c .before .before .before .before .before .before .before .slot2 .given .1) in
-    rw (k .cursor-record, k .cursor-position, at .link, at .before, at .inside, at .is, c .before .before .before .before .entry .ensures .is, ne-eqb _ _ (c .before .before .before .if1 .left), lt-leb (suc (c .before .before .before .before .before .before .before .before .before .before .before .before .read-consumer .result .«cursor_position»)) (c .before .before .before .before .before .before .before .before .before .before .before .before .before .before .before .args .z .starts) (omega arith)) refl
+    let at = stands-at (k .cursor-record) (k .cursor-position) (c .before .before .before .before .before .before .before .before .before .before .slot-in .ensures) (c .before .before .before .before .before .before .before .slot2 .given .1) in
+    rw (at .link, at .before, at .inside, at .is, c .before .before .before .before .entry .ensures .is, ne-eqb _ _ (c .before .before .before .if1 .left), k .cursor-position, lt-leb (suc (c .before .before .before .before .before .before .before .before .before .before .before .before .read-consumer .result .«cursor_position»)) (c .before .before .before .before .before .before .before .before .before .before .before .before .before .before .before .args .z .starts) (omega arith)) refl
 
 add-if3 : tie.Need-add-if3
 add-if3 c = search needs
@@ -85,9 +85,9 @@ returns-5 : tie.Need-returns-5
 unfolding rescan applied writes
 returns-5 c =
     let k = c .before .before .before .before .before .before .before .before .before .before .before .before .before .before .before .before .before .before .before .read-consumer .ensures in
-    let at = stands-at (c .before .before .before .before .before .before .before .before .before .before .before .before .before .before .before .before .before .slot-in .ensures) (c .before .before .before .before .before .before .before .before .before .before .before .before .before .before .slot2 .given .1) in
+    let at = stands-at (k .cursor-record) (k .cursor-position) (c .before .before .before .before .before .before .before .before .before .before .before .before .before .before .before .before .before .slot-in .ensures) (c .before .before .before .before .before .before .before .before .before .before .before .before .before .before .slot2 .given .1) in
     let p = c .before .before .before .before .before .before .before .before .before .before .before .before .before .before .before .before .before .before .before .read-consumer .result .«cursor_position» in
-    rw (k .cursor-record, k .cursor-position, at .link, at .before, at .inside, at .is, c .before .before .before .before .before .before .before .before .before .before .before .entry .ensures .is, ne-eqb _ _ (c .before .before .before .before .before .before .before .before .before .before .if1 .left), le-leb (suc p) (c .before .before .before .before .before .before .before .before .before .before .before .before .before .before .before .before .before .before .before .before .before .before .args .z .starts) (omega (arith, c .before .before .before .before .before .before .before .if2)), k .found-position, eq-eqb (suc p) (c .before .before .before .before .before .before .before .before .before .before .before .before .before .before .before .before .before .before .before .read-consumer .result .«found_position») (omega (arith, c .before .before .before .before .if3)), c .before .before .settle .ensures) refl
+    rw (at .link, at .before, at .inside, at .is, c .before .before .before .before .before .before .before .before .before .before .before .entry .ensures .is, ne-eqb _ _ (c .before .before .before .before .before .before .before .before .before .before .if1 .left), k .cursor-position, le-leb (suc p) (c .before .before .before .before .before .before .before .before .before .before .before .before .before .before .before .before .before .before .before .before .before .before .args .z .starts) (omega (arith, c .before .before .before .before .before .before .before .if2)), k .found-position, eq-eqb (suc p) (c .before .before .before .before .before .before .before .before .before .before .before .before .before .before .before .before .before .before .before .read-consumer .result .«found_position») (omega (arith, c .before .before .before .before .if3)), c .before .before .settle .ensures) refl
 
 add-put-consumer : tie.Need-add-put-consumer
 add-put-consumer c = search needs
@@ -102,9 +102,9 @@ returns-6 : tie.Need-returns-6
 unfolding rescan applied writes
 returns-6 c =
     let k = c .before .before .before .before .before .before .before .before .before .before .before .before .before .before .before .before .before .before .before .before .read-consumer .ensures in
-    let at = stands-at (c .before .before .before .before .before .before .before .before .before .before .before .before .before .before .before .before .before .before .slot-in .ensures) (c .before .before .before .before .before .before .before .before .before .before .before .before .before .before .before .slot2 .given .1) in
+    let at = stands-at (k .cursor-record) (k .cursor-position) (c .before .before .before .before .before .before .before .before .before .before .before .before .before .before .before .before .before .before .slot-in .ensures) (c .before .before .before .before .before .before .before .before .before .before .before .before .before .before .before .slot2 .given .1) in
     let p = c .before .before .before .before .before .before .before .before .before .before .before .before .before .before .before .before .before .before .before .before .read-consumer .result .«cursor_position» in
-    rw (k .cursor-record, k .cursor-position, at .link, at .before, at .inside, at .is, c .before .before .before .before .before .before .before .before .before .before .before .before .entry .ensures .is, ne-eqb _ _ (c .before .before .before .before .before .before .before .before .before .before .before .if1 .left), le-leb (suc p) (c .before .before .before .before .before .before .before .before .before .before .before .before .before .before .before .before .before .before .before .before .before .before .before .args .z .starts) (omega (arith, c .before .before .before .before .before .before .before .before .if2)), k .found-position, ne-eqb (suc p) (c .before .before .before .before .before .before .before .before .before .before .before .before .before .before .before .before .before .before .before .before .read-consumer .result .«found_position») (λ e. c .before .before .before .before .before .if3 .left (omega arith)), c .before .before .put-consumer .ensures, add-one p) refl
+    rw (at .link, at .before, at .inside, at .is, c .before .before .before .before .before .before .before .before .before .before .before .before .entry .ensures .is, ne-eqb _ _ (c .before .before .before .before .before .before .before .before .before .before .before .if1 .left), k .cursor-position, le-leb (suc p) (c .before .before .before .before .before .before .before .before .before .before .before .before .before .before .before .before .before .before .before .before .before .before .before .args .z .starts) (omega (arith, c .before .before .before .before .before .before .before .before .if2)), k .found-position, ne-eqb (suc p) (c .before .before .before .before .before .before .before .before .before .before .before .before .before .before .before .before .before .before .before .before .read-consumer .result .«found_position») (λ e. c .before .before .before .before .before .if3 .left (omega arith)), c .before .before .put-consumer .ensures, add-one p) refl
 
 pub rescan-on-spec : {M : Type 1} → statement M
 rescan-on-spec =
