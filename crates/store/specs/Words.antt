@@ -13,7 +13,7 @@ use Rattle.rules.specs.Sizes.{Sizes, recordWords, firstRecord, mostEntries, mos
 use Rattle.rules.specs.Cell.{Cell, content, consumer, producer, part, entry, address, reader}
 use Rattle.rules.specs.Update.{both}
 use Rattle.rules.specs.Range.{Sort, unused, exactly, number, link, record-number, most, any, ofSort, ofSorts, threadInRange, placedSorts, consumerSorts, producerSorts, contentSorts, lastConsumerPhase, lastProducerPhase}
-use Rattle.rules.specs.Address.{There, there-is, address-below}
+use Rattle.rules.specs.Address.{There, there-is}
 use Rattle.rules.specs.InRange.{sorts-at, sortOf}
 use Rattle.store.specs.Caps.{mostRecordWords, cap, capOf, mostWord, producerCaps, consumerCaps, contentCaps}
 use Rattle.store.specs.Store.{Room, Admitted, Reads}
@@ -128,10 +128,6 @@ pub reads-word : (z : Sizes) (m : List ℕ) (c : Cell) → Admitted z m → Ther
 reads-word z m c a h at e w =
     let i : reader z m c ≡ getD m at 0 = word-at z m c h ∙ ap (λ (x : ℕ). getD m x 0) (sym e) in
     record { is = i; most = subst (λ (x : ℕ). x ≤ capOf z c) i (in-range-most z m a c h (rw i w)) }
-
--- a cell's address is in the lent words
-pub inside-words : (z : Sizes) (m : List ℕ) (c : Cell) → Room z m → There z c → address z c < length m
-inside-words z m c r h = omega (arith, address-below z c h)
 
 -- zeros written one by one
 pub clear-more : (n : ℕ) (l : List ℕ) (at : ℕ) → set (sets l at (replicate n 0)) (at + n) 0 ≡ sets l at (replicate (suc n) 0)

@@ -1,11 +1,11 @@
 -- `admission::consumer_in_range` meets its contract.
 use mathlib.Core.Path.{refl, _∙_}
 use native.Mathlib.Omega.{arith}
+use borrow.Author.Needs.{needs}
 use denote.Ref.{now}
 use Rattle.rules.specs.Range.{idleSorts, cursorSorts, rescanSorts, foundSorts, itemSorts}
 use Rattle.store.specs.Shape.{sizes}
 use Rattle.admission.specs.Rows.{consumer-row, consumer-past, idle-phase, cursor-phase}
-use borrow.Author.Needs.{needs}
 use Rattle.admission.proofs.consumer_in_range.Statement.{statement}
 use Rattle.admission.proofs.consumer_in_range.Tie as tie
 

@@ -4,11 +4,11 @@ use mathlib.Core.Path.{_≡_, refl, _∙_}
 use native.Mathlib.Omega.{arith}
 use lib.Dec.{eqb}
 use lib.ListN.{getD}
+use borrow.Author.Needs.{needs}
 use denote.Ref.{now}
 use Rattle.rules.specs.Sizes.{firstRecord}
 use Rattle.store.specs.Shape.{sizes}
 use Rattle.admission.specs.Rows.{contents-test}
-use borrow.Author.Needs.{needs}
 use Rattle.admission.proofs.contents_in_range.Statement.{statement}
 use Rattle.admission.proofs.contents_in_range.Tie as tie
 

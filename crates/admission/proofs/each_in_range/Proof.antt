@@ -1,6 +1,7 @@
 -- `admission::each_in_range` meets its contract.
 use mathlib.Core.Path.{_≡_, refl}
 use Prim.Native.Nat.{_-_, _≤_}
+use native.Mathlib.Nat.{le-antisymm}
 use native.Mathlib.Numerals.{add-one}
 use native.Mathlib.Omega.{arith}
 use Rattle.rules.specs.Cell.{reader}
@@ -33,9 +34,7 @@ loop-again c =
     (omega arith, rw (add-one (l .r), l .inv .1, c .record-in-range .ensures) refl)
 
 returns : tie.Need-returns Inv-loop μ-loop
-returns c =
-    let e : c .before .before .loop .r ≡ c .before .before .before .before .args .z .records = omega arith in
-    rw e at (c .before .before .loop .inv .1)
+returns c = rw (le-antisymm (c .before .before .loop .inv .0) (c .if1 .left)) at (c .before .before .loop .inv .1)
 
 pub each-in-range-spec : {M : Type 1} → statement M
 each-in-range-spec =

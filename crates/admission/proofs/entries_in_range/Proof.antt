@@ -1,8 +1,9 @@
 -- `admission::entries_in_range` meets its contract.
-use mathlib.Core.Path.{_≡_, refl}
 use mathlib.Core.Bool.{and-true}
 use mathlib.Core.List.{[], _∷_}
+use mathlib.Core.Path.{_≡_, refl}
 use Prim.Native.Nat.{_+_, _-_, _*_, _≤_}
+use native.Mathlib.Nat.{le-antisymm}
 use native.Mathlib.Numerals.{add-one, unary-clauses}
 use native.Mathlib.Omega.{arith}
 use Rattle.rules.specs.Range.{every}
@@ -52,9 +53,7 @@ loop-again c =
     (omega arith, rw (add-one (l .i), l .inv .1) (simp (and-true, unary-clauses) refl))
 
 returns : tie.Need-returns Inv-loop μ-loop
-returns c =
-    let e : c .before .loop .i ≡ c .before .before .args .count = omega arith in
-    rw e at (c .before .loop .inv .1)
+returns c = rw (le-antisymm (c .before .loop .inv .0) (c .loop-test .left)) at (c .before .loop .inv .1)
 
 pub entries-in-range-spec : {M : Type 1} → statement M
 entries-in-range-spec =

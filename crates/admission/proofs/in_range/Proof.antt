@@ -1,7 +1,7 @@
 -- `admission::in_range` meets its contract.
 use mathlib.Core.Path.{refl}
-use Rattle.rules.specs.Range.{inRange}
 use borrow.Author.Needs.{needs}
+use Rattle.rules.specs.Range.{inRange}
 use Rattle.admission.proofs.in_range.Statement.{statement}
 use Rattle.admission.proofs.in_range.Tie as tie
 

@@ -1,16 +1,16 @@
 -- `admission::pair_in_range` meets its contract.
-use mathlib.Core.Path.{ap₂, sym, _∙_}
 use mathlib.Core.Bool.{_&&_}
+use mathlib.Core.Path.{ap₂, sym, _∙_}
 use Prim.Native.Nat.{ℕ, _≤_}
 use native.Mathlib.Omega.{arith}
 use lib.ListN.{getD}
+use borrow.Author.Needs.{needs}
 use denote.Ref.{now}
 use Rattle.rules.specs.Sizes.{recordWords}
 use Rattle.store.specs.Caps.{mostWord}
 use Rattle.store.specs.Shape.{sizes}
 use Rattle.store.specs.Words.{record-inside}
 use Rattle.admission.specs.Bounds.{record-test, every-both}
-use borrow.Author.Needs.{needs}
 use Rattle.admission.proofs.pair_in_range.Statement.{statement}
 use Rattle.admission.proofs.pair_in_range.Tie as tie
 

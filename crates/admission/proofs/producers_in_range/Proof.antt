@@ -1,6 +1,7 @@
 -- `admission::producers_in_range` meets its contract.
 use mathlib.Core.Path.{_≡_, refl}
 use Prim.Native.Nat.{suc, _-_, _≤_}
+use native.Mathlib.Nat.{le-antisymm}
 use native.Mathlib.Numerals.{add-one}
 use native.Mathlib.Omega.{arith}
 use Rattle.rules.specs.Cell.{reader}
@@ -35,9 +36,7 @@ loop-again c =
     (omega arith, rw (add-one (c .before .before .before .loop .t), c .before .before .before .loop .inv .1, rw add-one at (c .producer-in-range .ensures)) refl)
 
 returns : tie.Need-returns Inv-loop μ-loop
-returns c =
-    let e : c .before .before .loop .t ≡ c .before .before .before .before .args .z .producers = omega arith in
-    rw e at (c .before .before .loop .inv .1)
+returns c = rw (le-antisymm (c .before .before .loop .inv .0) (c .if1 .left)) at (c .before .before .loop .inv .1)
 
 pub producers-in-range-spec : {M : Type 1} → statement M
 producers-in-range-spec =

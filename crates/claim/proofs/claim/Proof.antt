@@ -1,8 +1,8 @@
 -- `claim::claim` meets its contract.
 use mathlib.Core.Path.{refl}
+use borrow.Author.Needs.{needs}
 use Rattle.rules.specs.Cell.{writes}
 use Rattle.store.specs.Steps.{some, suc-pred}
-use borrow.Author.Needs.{needs}
 use Rattle.claim.proofs.claim.Statement.{statement}
 use Rattle.claim.proofs.claim.Tie as tie
 

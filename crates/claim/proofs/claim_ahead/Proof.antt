@@ -1,10 +1,10 @@
 -- `claim::claim_ahead` meets its contract.
 use mathlib.Core.Path.{refl}
+use borrow.Author.Needs.{needs}
 use Rattle.rules.specs.Cell.{writes}
 use Rattle.rules.specs.Producer.{claimAhead}
 use Rattle.rules.specs.Request.{applied}
 use Rattle.store.specs.Steps.{some}
-use borrow.Author.Needs.{needs}
 use Rattle.claim.proofs.claim_ahead.Statement.{statement}
 use Rattle.claim.proofs.claim_ahead.Tie as tie
 

@@ -1,8 +1,9 @@
 -- `claim::held_by_none` meets its contract.
-use native.Mathlib.Numerals.{add-one}
 use mathlib.Core.Bool.{not}
 use mathlib.Core.Path.{_≡_, refl}
 use Prim.Native.Nat.{suc, _-_, _≤_}
+use native.Mathlib.Nat.{le-antisymm}
+use native.Mathlib.Numerals.{add-one}
 use native.Mathlib.Omega.{arith}
 use denote.Ref.{now}
 use Rattle.rules.specs.Cell.{reader}
@@ -45,9 +46,7 @@ loop-again c =
     (omega arith, rw (add-one (l .t), l .inv .1, not-next (reader (sizes (a .z)) (now (a .s))) (a .r) (l .t) (p .held) (p .claimed)) refl)
 
 returns : tie.Need-returns Inv-loop μ-loop
-returns c =
-    let e : c .before .before .loop .t ≡ c .before .before .before .before .args .z .producers = omega arith in
-    rw e at (c .before .before .loop .inv .1)
+returns c = rw (le-antisymm (c .before .before .loop .inv .0) (c .if1 .left)) at (c .before .before .loop .inv .1)
 
 pub held-by-none-spec : {M : Type 1} → statement M
 held-by-none-spec =

@@ -2,10 +2,10 @@
 use mathlib.Core.Path.{refl}
 use Prim.Native.Nat.{_-_}
 use native.Mathlib.Omega.{arith}
+use borrow.Author.Needs.{needs}
 use borrow.Author.Tests.{le-leb, lt-leb}
 use Rattle.store.specs.Steps.{some}
 use Rattle.store.specs.Words.{end-below}
-use borrow.Author.Needs.{needs}
 use Rattle.dequeue.proofs.cross_from.Statement.{statement}
 use Rattle.dequeue.proofs.cross_from.Tie as tie
 

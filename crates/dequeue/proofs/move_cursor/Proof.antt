@@ -1,9 +1,9 @@
 -- `dequeue::move_cursor` meets its contract.
 use mathlib.Core.Path.{refl}
+use borrow.Author.Needs.{needs}
 use Rattle.rules.specs.Cell.{writes}
 use Rattle.rules.specs.Request.{applied}
 use Rattle.dequeue.proofs.Crossings.{crosses-to, crosses-nowhere}
-use borrow.Author.Needs.{needs}
 use Rattle.dequeue.proofs.move_cursor.Statement.{statement}
 use Rattle.dequeue.proofs.move_cursor.Tie as tie
 

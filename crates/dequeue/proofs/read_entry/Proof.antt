@@ -1,14 +1,14 @@
 -- `dequeue::read_entry` meets its contract.
-use Rattle.store.proofs.Slots.{at-there, stands-at, not-inside}
 use mathlib.Core.Path.{refl}
 use Prim.Native.Nat.{suc}
 use native.Mathlib.Numerals.{add-one}
 use native.Mathlib.Omega.{arith}
+use borrow.Author.Needs.{needs}
 use borrow.Author.Tests.{eq-eqb, ne-eqb, le-leb, lt-leb}
 use Rattle.rules.specs.Cell.{writes}
 use Rattle.rules.specs.Consumer.{readEntry}
 use Rattle.rules.specs.Request.{applied}
-use borrow.Author.Needs.{needs}
+use Rattle.store.proofs.Slots.{at-there, stands-at, not-inside}
 use Rattle.dequeue.proofs.read_entry.Statement.{statement}
 use Rattle.dequeue.proofs.read_entry.Tie as tie
 
@@ -26,9 +26,7 @@ same-length c = search needs
 
 returns : tie.Need-returns
 unfolding readEntry
-returns c =
-    let k = c .before .before .before .read-consumer .ensures in
-    not-inside (k .cursor-record) (k .cursor-position) _ _ (c .before .slot-in .ensures) (c .match .keys2)
+returns c = not-inside (c .before .before .before .read-consumer .ensures .cursor-record) (c .before .before .before .read-consumer .ensures .cursor-position) _ _ (c .before .slot-in .ensures) (c .match .keys2)
 
 entry-requires : tie.Need-entry-requires
 entry-requires c κs = (c .before .before .before .before .before .before .before .before .before .pre, omega (arith, at-there (c .before .before .before .before .slot-in .ensures) (c .before .before .«record» .given .1)))

@@ -1,15 +1,15 @@
 -- `dequeue::read_front` meets its contract.
-use Rattle.store.proofs.Slots.{end-there, at-there, stands-end, stands-at, nowhere}
 use mathlib.Core.Path.{refl, sym, _∙_}
 use Prim.Native.Nat.{suc}
 use native.Mathlib.Numerals.{add-one}
 use native.Mathlib.Omega.{arith}
+use borrow.Author.Needs.{needs}
 use borrow.Author.Tests.{eq-eqb, ne-eqb, le-leb, lt-leb}
 use Rattle.rules.specs.Cell.{writes}
 use Rattle.rules.specs.Consumer.{front}
 use Rattle.rules.specs.Request.{applied}
 use Rattle.store.specs.Steps.{handled}
-use borrow.Author.Needs.{needs}
+use Rattle.store.proofs.Slots.{end-there, at-there, stands-end, stands-at, nowhere}
 use Rattle.dequeue.proofs.read_front.Statement.{statement}
 use Rattle.dequeue.proofs.read_front.Tie as tie
 
@@ -56,9 +56,7 @@ same-length-3 c = search needs
 
 returns-3 : tie.Need-returns-3
 unfolding front
-returns-3 c =
-    let q = c .before .before .before .before .read-contents .ensures in
-    nowhere (q .head-record) (q .head-position) _ _ _ (c .before .before .slot-in .ensures) (c .before .match .keys2) (c .match2 .keys2)
+returns-3 c = nowhere (c .before .before .before .before .read-contents .ensures .head-record) (c .before .before .before .before .read-contents .ensures .head-position) _ _ _ (c .before .before .slot-in .ensures) (c .before .match .keys2) (c .match2 .keys2)
 
 entry-requires : tie.Need-entry-requires
 entry-requires c κs = (c .before .before .before .before .before .before .before .before .before .before .pre, omega (arith, at-there (c .before .before .before .before .before .slot-in .ensures) (c .before .before .slot2 .given .1)))

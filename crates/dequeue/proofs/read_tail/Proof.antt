@@ -3,11 +3,11 @@ use mathlib.Core.Path.{refl}
 use Prim.Native.Nat.{suc}
 use native.Mathlib.Numerals.{add-one}
 use native.Mathlib.Omega.{arith}
+use borrow.Author.Needs.{needs}
 use borrow.Author.Tests.{eq-eqb, ne-eqb, le-leb, lt-leb}
 use Rattle.rules.specs.Cell.{writes}
 use Rattle.rules.specs.Consumer.{readTail}
 use Rattle.rules.specs.Request.{applied}
-use borrow.Author.Needs.{needs}
 use Rattle.dequeue.proofs.read_tail.Statement.{statement}
 use Rattle.dequeue.proofs.read_tail.Tie as tie
 

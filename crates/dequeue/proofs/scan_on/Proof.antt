@@ -1,12 +1,12 @@
 -- `dequeue::scan_on` meets its contract.
 use mathlib.Core.Path.{refl}
 use native.Mathlib.Omega.{arith}
+use borrow.Author.Needs.{needs}
 use borrow.Author.Tests.{eq-eqb, ne-eqb}
 use Rattle.rules.specs.Cell.{writes}
 use Rattle.rules.specs.Consumer.{scan}
 use Rattle.rules.specs.Request.{applied}
 use Rattle.store.specs.Steps.{some, suc-pred}
-use borrow.Author.Needs.{needs}
 use Rattle.dequeue.proofs.scan_on.Statement.{statement}
 use Rattle.dequeue.proofs.scan_on.Tie as tie
 

@@ -1,13 +1,13 @@
 -- `engine::call` meets its contract.
 use mathlib.Core.Path.{_∙_}
 use native.Mathlib.Omega.{arith}
+use borrow.Author.Needs.{needs}
 use denote.Ref.{now}
 use Rattle.rules.specs.Free.{lowestFree}
 use Rattle.rules.specs.Request.{answer}
 use Rattle.admission.specs.Admit.{admitted-by}
-use Rattle.engine.specs.Request.{request}
 use Rattle.engine.specs.Calls.{call-refused, call-answered, admitted-as}
-use borrow.Author.Needs.{needs}
+use Rattle.engine.specs.Request.{request}
 use Rattle.engine.proofs.call.Statement.{statement}
 use Rattle.engine.proofs.call.Tie as tie
 

@@ -1,7 +1,7 @@
 -- `engine::deliver` meets its contract.
+use borrow.Author.Needs.{needs}
 use denote.Ref.{now}
 use Rattle.engine.specs.Delivery.{replied-of}
-use borrow.Author.Needs.{needs}
 use Rattle.engine.proofs.deliver.Statement.{statement}
 use Rattle.engine.proofs.deliver.Tie as tie
 

@@ -1,10 +1,10 @@
 -- `engine::step_thread` meets its contract.
 use mathlib.Core.Path.{refl}
 use native.Mathlib.Omega.{arith}
+use borrow.Author.Needs.{needs}
 use borrow.Author.Tests.{lt-ltb}
 use Rattle.rules.specs.Request.{applied, stepping}
 use Rattle.engine.specs.Calls.{consumer-idle, consumer-steps, producer-idle, producer-steps, past}
-use borrow.Author.Needs.{needs}
 use Rattle.engine.proofs.step_thread.Statement.{statement}
 use Rattle.engine.proofs.step_thread.Tie as tie
 

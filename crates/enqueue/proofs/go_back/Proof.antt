@@ -1,10 +1,10 @@
 -- `enqueue::go_back` meets its contract.
 use mathlib.Core.Path.{refl}
+use borrow.Author.Needs.{needs}
 use Rattle.rules.specs.Cell.{writes}
 use Rattle.rules.specs.Producer.{goBack}
 use Rattle.rules.specs.Request.{applied}
 use Rattle.store.specs.Steps.{some, suc-pred}
-use borrow.Author.Needs.{needs}
 use Rattle.enqueue.proofs.go_back.Statement.{statement}
 use Rattle.enqueue.proofs.go_back.Tie as tie
 

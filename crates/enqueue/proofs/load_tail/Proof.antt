@@ -1,10 +1,10 @@
 -- `enqueue::load_tail` meets its contract.
 use mathlib.Core.Path.{refl}
+use borrow.Author.Needs.{needs}
 use Rattle.rules.specs.Cell.{writes}
 use Rattle.rules.specs.Producer.{loadTail}
 use Rattle.rules.specs.Request.{applied}
 use Rattle.store.specs.Steps.{some, suc-pred}
-use borrow.Author.Needs.{needs}
 use Rattle.enqueue.proofs.load_tail.Statement.{statement}
 use Rattle.enqueue.proofs.load_tail.Tie as tie
 

@@ -1,10 +1,10 @@
 -- `enqueue::look_next` meets its contract.
 use mathlib.Core.Path.{refl}
+use borrow.Author.Needs.{needs}
 use Rattle.rules.specs.Cell.{writes}
 use Rattle.rules.specs.Producer.{lookNext}
 use Rattle.rules.specs.Request.{applied}
 use Rattle.store.specs.Steps.{some}
-use borrow.Author.Needs.{needs}
 use Rattle.enqueue.proofs.look_next.Statement.{statement}
 use Rattle.enqueue.proofs.look_next.Tie as tie
 

@@ -1,12 +1,12 @@
 -- `enqueue::shift_tail` meets its contract.
 use mathlib.Core.Path.{refl}
+use native.Mathlib.Omega.{arith}
+use borrow.Author.Needs.{needs}
 use borrow.Author.Tests.{eq-eqb, ne-eqb}
 use Rattle.rules.specs.Cell.{writes}
 use Rattle.rules.specs.Producer.{shiftTail}
 use Rattle.rules.specs.Request.{applied}
 use Rattle.store.specs.Steps.{some, suc-pred}
-use native.Mathlib.Omega.{arith}
-use borrow.Author.Needs.{needs}
 use Rattle.enqueue.proofs.shift_tail.Statement.{statement}
 use Rattle.enqueue.proofs.shift_tail.Tie as tie
 

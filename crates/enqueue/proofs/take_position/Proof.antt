@@ -3,11 +3,11 @@ use mathlib.Core.Path.{refl}
 use Prim.Native.Nat.{suc}
 use native.Mathlib.Numerals.{add-one}
 use native.Mathlib.Omega.{arith}
+use borrow.Author.Needs.{needs}
 use borrow.Author.Tests.{le-leb, lt-leb}
 use Rattle.rules.specs.Cell.{writes}
 use Rattle.rules.specs.Producer.{takePosition}
 use Rattle.rules.specs.Request.{applied}
-use borrow.Author.Needs.{needs}
 use Rattle.enqueue.proofs.take_position.Statement.{statement}
 use Rattle.enqueue.proofs.take_position.Tie as tie
 

@@ -1,11 +1,11 @@
 -- `enqueue::write_entry` meets its contract.
-use Rattle.store.proofs.Slots.{at-there, stands-at, not-inside}
 use mathlib.Core.Path.{refl}
 use native.Mathlib.Omega.{arith}
+use borrow.Author.Needs.{needs}
 use Rattle.rules.specs.Cell.{writes}
 use Rattle.rules.specs.Producer.{writeEntry}
 use Rattle.rules.specs.Request.{applied}
-use borrow.Author.Needs.{needs}
+use Rattle.store.proofs.Slots.{at-there, stands-at, not-inside}
 use Rattle.enqueue.proofs.write_entry.Statement.{statement}
 use Rattle.enqueue.proofs.write_entry.Tie as tie
 
@@ -23,9 +23,7 @@ same-length c = search needs
 
 returns : tie.Need-returns
 unfolding writeEntry
-returns c =
-    let p = c .before .before .before .read-producer .ensures in
-    not-inside (p .held) (p .position) _ _ (c .before .slot-in .ensures) (c .match .keys2)
+returns c = not-inside (c .before .before .before .read-producer .ensures .held) (c .before .before .before .read-producer .ensures .position) _ _ (c .before .slot-in .ensures) (c .match .keys2)
 
 put-entry-requires : tie.Need-put-entry-requires
 put-entry-requires c κs = omega (arith, c .before .before .before .before .before .before .before .before .before .pre, at-there (c .before .before .before .before .slot-in .ensures) (c .before .before .«record» .given .1))

@@ -1,10 +1,10 @@
 -- `linking::link_ahead` meets its contract.
 use mathlib.Core.List.{[], _∷_}
+use borrow.Author.Needs.{needs}
 use borrow.Author.Tests.{not-true, not-false}
 use Rattle.rules.specs.Cell.{clearProducer, writes}
 use Rattle.rules.specs.Producer.{linkAhead}
 use Rattle.rules.specs.Rule.{ended}
-use borrow.Author.Needs.{needs}
 use Rattle.linking.proofs.link_ahead.Statement.{statement}
 use Rattle.linking.proofs.link_ahead.Tie as tie
 

@@ -1,10 +1,10 @@
 -- `linking::link_claimed` meets its contract.
 use mathlib.Core.List.{[], _∷_}
+use borrow.Author.Needs.{needs}
 use borrow.Author.Tests.{not-true, not-false}
 use Rattle.rules.specs.Cell.{_:=_, claimed, phase, writes}
 use Rattle.rules.specs.Producer.{linkClaimed}
 use Rattle.rules.specs.Rule.{going}
-use borrow.Author.Needs.{needs}
 use Rattle.linking.proofs.link_claimed.Statement.{statement}
 use Rattle.linking.proofs.link_claimed.Tie as tie
 

@@ -1,7 +1,7 @@
 -- `opening::link_first` meets its contract.
 use mathlib.Core.Path.{refl}
-use Rattle.rules.specs.Cell.{writes}
 use borrow.Author.Needs.{needs}
+use Rattle.rules.specs.Cell.{writes}
 use Rattle.opening.proofs.link_first.Statement.{statement}
 use Rattle.opening.proofs.link_first.Tie as tie
 

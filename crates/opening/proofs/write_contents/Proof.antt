@@ -1,10 +1,10 @@
 -- `opening::write_contents` meets its contract.
 use mathlib.Core.Path.{_≡_, refl}
 use native.Mathlib.Omega.{arith}
+use borrow.Author.Needs.{needs}
 use Rattle.rules.specs.Cell.{writes}
 use Rattle.rules.specs.Sizes.{firstRecord}
 use Rattle.store.specs.Shape.{sizes}
-use borrow.Author.Needs.{needs}
 use Rattle.opening.proofs.write_contents.Statement.{statement}
 use Rattle.opening.proofs.write_contents.Tie as tie
 

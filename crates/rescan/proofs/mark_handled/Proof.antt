@@ -1,14 +1,14 @@
 -- `rescan::mark_handled` meets its contract.
-use Rattle.store.proofs.Slots.{at-there, stands-at, not-inside}
 use mathlib.Core.Path.{refl}
 use Prim.Native.Nat.{suc}
 use native.Mathlib.Numerals.{add-one}
 use native.Mathlib.Omega.{arith}
+use borrow.Author.Needs.{needs}
 use borrow.Author.Tests.{eq-eqb, ne-eqb, le-leb, lt-leb}
 use Rattle.rules.specs.Cell.{writes}
 use Rattle.rules.specs.Consumer.{markHandled}
 use Rattle.rules.specs.Request.{applied}
-use borrow.Author.Needs.{needs}
+use Rattle.store.proofs.Slots.{at-there, stands-at, not-inside}
 use Rattle.rescan.proofs.mark_handled.Statement.{statement}
 use Rattle.rescan.proofs.mark_handled.Tie as tie
 
@@ -26,9 +26,7 @@ same-length c = search needs
 
 returns : tie.Need-returns
 unfolding markHandled
-returns c =
-    let k = c .before .before .before .read-consumer .ensures in
-    not-inside (k .found-record) (k .found-position) _ _ (c .before .slot-in .ensures) (c .match .keys2)
+returns c = not-inside (c .before .before .before .read-consumer .ensures .found-record) (c .before .before .before .read-consumer .ensures .found-position) _ _ (c .before .slot-in .ensures) (c .match .keys2)
 
 read-contents-requires : tie.Need-read-contents-requires
 read-contents-requires c κs = search needs

@@ -1,8 +1,8 @@
 -- `rescan::move_cursor` meets its contract.
 use mathlib.Core.Path.{refl}
+use borrow.Author.Needs.{needs}
 use borrow.Author.Tests.{eq-eqb, ne-eqb}
 use Rattle.rules.specs.Cell.{writes}
-use borrow.Author.Needs.{needs}
 use Rattle.rescan.proofs.move_cursor.Statement.{statement}
 use Rattle.rescan.proofs.move_cursor.Tie as tie
 

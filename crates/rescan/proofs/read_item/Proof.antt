@@ -1,11 +1,11 @@
 -- `rescan::read_item` meets its contract.
-use Rattle.store.proofs.Slots.{at-there, stands-at, not-inside}
 use mathlib.Core.Path.{refl}
 use native.Mathlib.Omega.{arith}
+use borrow.Author.Needs.{needs}
 use Rattle.rules.specs.Cell.{writes}
 use Rattle.rules.specs.Consumer.{readItem}
 use Rattle.rules.specs.Request.{applied}
-use borrow.Author.Needs.{needs}
+use Rattle.store.proofs.Slots.{at-there, stands-at, not-inside}
 use Rattle.rescan.proofs.read_item.Statement.{statement}
 use Rattle.rescan.proofs.read_item.Tie as tie
 
@@ -23,9 +23,7 @@ same-length c = search needs
 
 returns : tie.Need-returns
 unfolding readItem
-returns c =
-    let k = c .before .before .before .read-consumer .ensures in
-    not-inside (k .found-record) (k .found-position) _ _ (c .before .slot-in .ensures) (c .match .keys2)
+returns c = not-inside (c .before .before .before .read-consumer .ensures .found-record) (c .before .before .before .read-consumer .ensures .found-position) _ _ (c .before .slot-in .ensures) (c .match .keys2)
 
 entry-requires : tie.Need-entry-requires
 entry-requires c κs = (c .before .before .before .before .before .before .before .before .before .pre, omega (arith, at-there (c .before .before .before .before .slot-in .ensures) (c .before .before .«record» .given .1)))

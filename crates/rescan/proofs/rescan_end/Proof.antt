@@ -1,9 +1,9 @@
 -- `rescan::rescan_end` meets its contract.
 use mathlib.Core.List.{[]}
+use borrow.Author.Needs.{needs}
+use Rattle.rules.specs.Cell.{writes}
 use Rattle.dequeue.proofs.Crossings.{crosses-to, crosses-nowhere}
 use Rattle.rescan.specs.Rescan.{moved}
-use Rattle.rules.specs.Cell.{writes}
-use borrow.Author.Needs.{needs}
 use Rattle.rescan.proofs.rescan_end.Statement.{statement}
 use Rattle.rescan.proofs.rescan_end.Tie as tie
 

@@ -1,8 +1,8 @@
 -- `rescan::rescan_found` meets its contract.
 use mathlib.Core.List.{[], _∷_}
+use borrow.Author.Needs.{needs}
 use Rattle.rules.specs.Cell.{writes, _:=_, foundRecord, foundPosition}
 use Rattle.rescan.specs.Rescan.{moved}
-use borrow.Author.Needs.{needs}
 use Rattle.rescan.proofs.rescan_found.Statement.{statement}
 use Rattle.rescan.proofs.rescan_found.Tie as tie
 

@@ -1,14 +1,14 @@
 -- `rescan::rescan_on` meets its contract.
-use Rattle.store.proofs.Slots.{end-there, at-there, stands-end, stands-at, nowhere}
 use mathlib.Core.Path.{refl}
 use Prim.Native.Nat.{suc}
 use native.Mathlib.Numerals.{add-one}
 use native.Mathlib.Omega.{arith}
+use borrow.Author.Needs.{needs}
 use borrow.Author.Tests.{eq-eqb, ne-eqb, le-leb, lt-leb}
 use Rattle.rules.specs.Cell.{writes}
 use Rattle.rules.specs.Consumer.{rescan}
 use Rattle.rules.specs.Request.{applied}
-use borrow.Author.Needs.{needs}
+use Rattle.store.proofs.Slots.{end-there, at-there, stands-end, stands-at, nowhere}
 use Rattle.rescan.proofs.rescan_on.Statement.{statement}
 use Rattle.rescan.proofs.rescan_on.Tie as tie
 
@@ -42,9 +42,7 @@ same-length-2 c = search needs
 
 returns-2 : tie.Need-returns-2
 unfolding rescan
-returns-2 c =
-    let k = c .before .before .before .before .read-consumer .ensures in
-    nowhere (k .cursor-record) (k .cursor-position) _ _ _ (c .before .before .slot-in .ensures) (c .before .match .keys2) (c .match2 .keys2)
+returns-2 c = nowhere (c .before .before .before .before .read-consumer .ensures .cursor-record) (c .before .before .before .before .read-consumer .ensures .cursor-position) _ _ _ (c .before .before .slot-in .ensures) (c .before .match .keys2) (c .match2 .keys2)
 
 entry-requires : tie.Need-entry-requires
 entry-requires c κs = (c .before .before .before .before .before .before .before .before .before .before .pre, omega (arith, at-there (c .before .before .before .before .before .slot-in .ensures) (c .before .before .slot2 .given .1)))

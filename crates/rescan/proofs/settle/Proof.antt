@@ -1,7 +1,7 @@
 -- `rescan::settle` meets its contract.
 use mathlib.Core.Path.{refl}
-use Rattle.rules.specs.Cell.{writes}
 use borrow.Author.Needs.{needs}
+use Rattle.rules.specs.Cell.{writes}
 use Rattle.rescan.proofs.settle.Statement.{statement}
 use Rattle.rescan.proofs.settle.Tie as tie
 

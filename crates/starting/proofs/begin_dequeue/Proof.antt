@@ -1,9 +1,9 @@
 -- `starting::begin_dequeue` meets its contract.
 use mathlib.Core.Path.{refl}
+use borrow.Author.Needs.{needs}
 use borrow.Author.Tests.{ne-eqb}
 use Rattle.rules.specs.Cell.{writes}
 use Rattle.rules.specs.Request.{applied, startingDequeue}
-use borrow.Author.Needs.{needs}
 use Rattle.starting.proofs.begin_dequeue.Statement.{statement}
 use Rattle.starting.proofs.begin_dequeue.Tie as tie
 

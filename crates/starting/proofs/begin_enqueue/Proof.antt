@@ -2,10 +2,10 @@
 use mathlib.Core.Path.{refl}
 use native.Mathlib.Numerals.{add-one}
 use native.Mathlib.Omega.{arith}
+use borrow.Author.Needs.{needs}
 use borrow.Author.Tests.{lt-ltb, le-ltb, eq-eqb, ne-eqb}
 use Rattle.rules.specs.Cell.{writes}
 use Rattle.rules.specs.Request.{applied, startingEnqueue}
-use borrow.Author.Needs.{needs}
 use Rattle.starting.proofs.begin_enqueue.Statement.{statement}
 use Rattle.starting.proofs.begin_enqueue.Tie as tie
 

@@ -1,7 +1,7 @@
 -- `store::consumer_word` meets its contract.
 use mathlib.Core.Path.{refl}
-use Rattle.rules.specs.Cell.{consumer}
 use borrow.Author.Needs.{needs}
+use Rattle.rules.specs.Cell.{consumer}
 use Rattle.store.proofs.consumer_word.Statement.{statement}
 use Rattle.store.proofs.consumer_word.Tie as tie
 

@@ -1,7 +1,7 @@
 -- `store::content_word` meets its contract.
 use mathlib.Core.Path.{refl}
-use Rattle.rules.specs.Cell.{content}
 use borrow.Author.Needs.{needs}
+use Rattle.rules.specs.Cell.{content}
 use Rattle.store.proofs.content_word.Statement.{statement}
 use Rattle.store.proofs.content_word.Tie as tie
 

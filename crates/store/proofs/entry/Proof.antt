@@ -1,7 +1,7 @@
 -- `store::entry` meets its contract.
 use mathlib.Core.Path.{refl}
-use Rattle.rules.specs.Cell.{entry}
 use borrow.Author.Needs.{needs}
+use Rattle.rules.specs.Cell.{entry}
 use Rattle.store.proofs.entry.Statement.{statement}
 use Rattle.store.proofs.entry.Tie as tie
 

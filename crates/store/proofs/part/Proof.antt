@@ -1,7 +1,7 @@
 -- `store::part` meets its contract.
 use mathlib.Core.Path.{refl}
-use Rattle.rules.specs.Cell.{part}
 use borrow.Author.Needs.{needs}
+use Rattle.rules.specs.Cell.{part}
 use Rattle.store.proofs.part.Statement.{statement}
 use Rattle.store.proofs.part.Tie as tie
 

@@ -1,7 +1,7 @@
 -- `store::producer_word` meets its contract.
 use mathlib.Core.Path.{refl}
-use Rattle.rules.specs.Cell.{producer}
 use borrow.Author.Needs.{needs}
+use Rattle.rules.specs.Cell.{producer}
 use Rattle.store.proofs.producer_word.Statement.{statement}
 use Rattle.store.proofs.producer_word.Tie as tie
 

@@ -1,9 +1,9 @@
 -- `store::record_at` meets its contract.
 use native.Mathlib.Omega.{arith}
-use Rattle.store.specs.Words.{records-below}
+use borrow.Author.Needs.{needs}
 use Rattle.rules.specs.Sizes.{recordWords}
 use Rattle.store.specs.Shape.{sizes}
-use borrow.Author.Needs.{needs}
+use Rattle.store.specs.Words.{records-below}
 use Rattle.store.proofs.record_at.Statement.{statement}
 use Rattle.store.proofs.record_at.Tie as tie
 

@@ -1,9 +1,9 @@
 -- `store::record_word` meets its contract.
 use native.Mathlib.Nat.{mul-le-mul-right}
 use native.Mathlib.Omega.{arith}
+use borrow.Author.Needs.{needs}
 use Rattle.rules.specs.Sizes.{recordWords}
 use Rattle.store.specs.Shape.{sizes}
-use borrow.Author.Needs.{needs}
 use Rattle.store.proofs.record_word.Statement.{statement}
 use Rattle.store.proofs.record_word.Tie as tie
 

@@ -1,7 +1,7 @@
 -- `store::slot_in` meets its contract.
-use Rattle.store.specs.Slot.{no-link, past-end, before-first, at-end, at-index}
 use native.Mathlib.Omega.{arith}
 use borrow.Author.Needs.{needs}
+use Rattle.store.specs.Slot.{no-link, past-end, before-first, at-end, at-index}
 use Rattle.store.proofs.slot_in.Statement.{statement}
 use Rattle.store.proofs.slot_in.Tie as tie
 

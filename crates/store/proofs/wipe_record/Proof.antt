@@ -1,9 +1,9 @@
 -- `store::wipe_record` meets its contract.
 use native.Mathlib.Omega.{arith}
+use borrow.Author.Needs.{needs}
 use denote.Ref.{now}
 use Rattle.store.specs.Shape.{sizes}
 use Rattle.store.specs.Words.{record-inside}
-use borrow.Author.Needs.{needs}
 use Rattle.store.proofs.wipe_record.Statement.{statement}
 use Rattle.store.proofs.wipe_record.Tie as tie
 

@@ -1,9 +1,9 @@
 -- `store::word_at` meets its contract.
 use native.Mathlib.Omega.{arith}
+use borrow.Author.Needs.{needs}
 use denote.Ref.{now}
 use Rattle.store.specs.Shape.{sizes}
 use Rattle.store.specs.Words.{reads-word}
-use borrow.Author.Needs.{needs}
 use Rattle.store.proofs.word_at.Statement.{statement}
 use Rattle.store.proofs.word_at.Tie as tie
 
