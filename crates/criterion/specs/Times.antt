@@ -59,6 +59,26 @@ on r = record { time = r .time; which = r .which; there = inr (r .there) }
 abbrev last : {I : Type 0} (E : I → Event) (i : I) (h : History) (f : Event) → E i ≡ f → Happened E (f ∷ h)
 last E i h f e = record { time = suc (length h); which = i; there = inl (refl, e) }
 
+-- What an event leaves true: the facts of the criterion as the history grows.
+record Grows (f : Event) (h : History) : Type 0 where
+  started : (n v : ℕ) → Started n v h → Started n v (f ∷ h)
+  ended : (n : ℕ) → Ended n h → Ended n (f ∷ h)
+  taken : (n : ℕ) → Taken n h → Taken n (f ∷ h)
+  before : (a b : ℕ) → EndedBefore a b h → EndedBefore a b (f ∷ h)
+  before-dequeue : (a : ℕ) → Ended a h → EndedBeforeDequeue a h → EndedBeforeDequeue a (f ∷ h)
+
+grows : (f : Event) (h : History) → Grows f h
+grows (enqueueStarted t m w) h =
+    record { started = λ n v s. inr s; ended = λ n s. s; taken = λ n s. s; before = λ a b s. inr s; before-dequeue = λ a e s. s }
+grows (enqueueEnded t m w) h =
+    record { started = λ n v s. s; ended = λ n s. inr s; taken = λ n s. s; before = λ a b s. s; before-dequeue = λ a e s. s }
+grows dequeueStarted h =
+    record { started = λ n v s. s; ended = λ n s. s; taken = λ n s. s; before = λ a b s. s; before-dequeue = λ a e s. e }
+grows (gaveItem m w) h =
+    record { started = λ n v s. s; ended = λ n s. s; taken = λ n s. inr s; before = λ a b s. s; before-dequeue = λ a e s. s }
+grows gaveEmpty h =
+    record { started = λ n v s. s; ended = λ n s. s; taken = λ n s. s; before = λ a b s. s; before-dequeue = λ a e s. s }
+
 -- Each fact and the events that it speaks of. First the starts of an item.
 abbrev pub startOfItem : (n v : ℕ) → ℕ → Event
 startOfItem n v t = enqueueStarted t n v
@@ -71,16 +91,9 @@ started-when n v (dequeueStarted ∷ h) s = on (started-when n v h s)
 started-when n v (gaveItem m w ∷ h) s = on (started-when n v h s)
 started-when n v (gaveEmpty ∷ h) s = on (started-when n v h s)
 
-started-on : (n v : ℕ) (f : Event) (h : History) → Started n v h → Started n v (f ∷ h)
-started-on n v (enqueueStarted t m w) h s = inr s
-started-on n v (enqueueEnded t m w) h s = s
-started-on n v dequeueStarted h s = s
-started-on n v (gaveItem m w) h s = s
-started-on n v gaveEmpty h s = s
-
 pub when-started : (k t n v : ℕ) (h : History) → At k (enqueueStarted t n v) h → Started n v h
 when-started k t n v (f ∷ h) (inl p) = subst (λ e. Started n v (e ∷ h)) (p .1) (inl (refl, refl))
-when-started k t n v (f ∷ h) (inr a) = started-on n v f h (when-started k t n v h a)
+when-started k t n v (f ∷ h) (inr a) = grows f h .started n v (when-started k t n v h a)
 
 -- the ends of an enqueue
 abbrev pub endOfItem : ℕ → ℕ × ℕ → Event
@@ -94,16 +107,9 @@ ended-when n (dequeueStarted ∷ h) s = on (ended-when n h s)
 ended-when n (gaveItem m w ∷ h) s = on (ended-when n h s)
 ended-when n (gaveEmpty ∷ h) s = on (ended-when n h s)
 
-ended-on : (n : ℕ) (f : Event) (h : History) → Ended n h → Ended n (f ∷ h)
-ended-on n (enqueueStarted t m w) h s = s
-ended-on n (enqueueEnded t m w) h s = inr s
-ended-on n dequeueStarted h s = s
-ended-on n (gaveItem m w) h s = s
-ended-on n gaveEmpty h s = s
-
 pub when-ended : (k t n v : ℕ) (h : History) → At k (enqueueEnded t n v) h → Ended n h
 when-ended k t n v (f ∷ h) (inl p) = subst (λ e. Ended n (e ∷ h)) (p .1) (inl refl)
-when-ended k t n v (f ∷ h) (inr a) = ended-on n f h (when-ended k t n v h a)
+when-ended k t n v (f ∷ h) (inr a) = grows f h .ended n (when-ended k t n v h a)
 
 -- the taking of an item
 pub taken-when : (n : ℕ) (h : History) → Taken n h → Happened (gaveItem n) h
@@ -114,16 +120,9 @@ taken-when n (gaveItem m w ∷ h) (inl p) = last (gaveItem n) w h (gaveItem m w)
 taken-when n (gaveItem m w ∷ h) (inr s) = on (taken-when n h s)
 taken-when n (gaveEmpty ∷ h) s = on (taken-when n h s)
 
-taken-on : (n : ℕ) (f : Event) (h : History) → Taken n h → Taken n (f ∷ h)
-taken-on n (enqueueStarted t m w) h s = s
-taken-on n (enqueueEnded t m w) h s = s
-taken-on n dequeueStarted h s = s
-taken-on n (gaveItem m w) h s = inr s
-taken-on n gaveEmpty h s = s
-
 pub when-taken : (k n v : ℕ) (h : History) → At k (gaveItem n v) h → Taken n h
 when-taken k n v (f ∷ h) (inl p) = subst (λ e. Taken n (e ∷ h)) (p .1) (inl refl)
-when-taken k n v (f ∷ h) (inr a) = taken-on n f h (when-taken k n v h a)
+when-taken k n v (f ∷ h) (inr a) = grows f h .taken n (when-taken k n v h a)
 
 -- the end of an enqueue before an event of a family
 pub record EndBefore {I : Type 0} (a : ℕ) (E : I → Event) (h : History) : Type 0 where
@@ -152,13 +151,6 @@ before-when a b (dequeueStarted ∷ h) s = on-both (before-when a b h s)
 before-when a b (gaveItem m w ∷ h) s = on-both (before-when a b h s)
 before-when a b (gaveEmpty ∷ h) s = on-both (before-when a b h s)
 
-before-on : (a b : ℕ) (f : Event) (h : History) → EndedBefore a b h → EndedBefore a b (f ∷ h)
-before-on a b (enqueueStarted t m w) h s = inr s
-before-on a b (enqueueEnded t m w) h s = s
-before-on a b dequeueStarted h s = s
-before-on a b (gaveItem m w) h s = s
-before-on a b gaveEmpty h s = s
-
 -- an event before the last one is in the shorter history
 at-shorter : (k : ℕ) (e f : Event) (h : History) → At k e (f ∷ h) → k < suc (length h) → At k e h
 at-shorter k e f h a l = at-earlier {h = f ∷ h} (later now) k e a (omega arith)
@@ -169,7 +161,7 @@ pub when-before :
 when-before i t a v j u b w (f ∷ h) p (inl q) l =
     subst (λ e. EndedBefore a b (e ∷ h)) (q .1) (inl (refl, when-ended i t a v h (at-shorter i _ f h p (omega arith))))
 when-before i t a v j u b w (f ∷ h) p (inr q) l =
-    before-on a b f h (when-before i t a v j u b w h (at-shorter i _ f h p (let c = at-most j _ h q in omega arith)) q l)
+    grows f h .before a b (when-before i t a v j u b w h (at-shorter i _ f h p (let c = at-most j _ h q in omega arith)) q l)
 
 -- the end of an enqueue before the last dequeue's start
 abbrev pub askedAt : Unit {0} → Event
@@ -182,17 +174,10 @@ before-dequeue-when a (dequeueStarted ∷ h) s = ends-before a askedAt tt h dequ
 before-dequeue-when a (gaveItem m w ∷ h) s = on-both (before-dequeue-when a h s)
 before-dequeue-when a (gaveEmpty ∷ h) s = on-both (before-dequeue-when a h s)
 
-before-dequeue-on : (a : ℕ) (f : Event) (h : History) → Ended a h → EndedBeforeDequeue a h → EndedBeforeDequeue a (f ∷ h)
-before-dequeue-on a (enqueueStarted t m w) h e s = s
-before-dequeue-on a (enqueueEnded t m w) h e s = s
-before-dequeue-on a dequeueStarted h e s = e
-before-dequeue-on a (gaveItem m w) h e s = s
-before-dequeue-on a gaveEmpty h e s = s
-
 pub when-before-dequeue :
     (i t a v j : ℕ) (h : History) → At i (enqueueEnded t a v) h → At j dequeueStarted h → i < j → EndedBeforeDequeue a h
 when-before-dequeue i t a v j (f ∷ h) p (inl q) l =
     subst (λ e. EndedBeforeDequeue a (e ∷ h)) (q .1) (when-ended i t a v h (at-shorter i _ f h p (omega arith)))
 when-before-dequeue i t a v j (f ∷ h) p (inr q) l =
     let r = at-shorter i _ f h p (let c = at-most j _ h q in omega arith) in
-    before-dequeue-on a f h (when-ended i t a v h r) (when-before-dequeue i t a v j h r q l)
+    grows f h .before-dequeue a (when-ended i t a v h r) (when-before-dequeue i t a v j h r q l)
