@@ -13,7 +13,7 @@ use Rattle.model.specs.State.{blank, put, gone, Consumer, resting, front
 use Rattle.model.specs.Invariant.{Has, Places, Owners, Contents, Past, Calls, ConsumerOk, Invariant, isBusy}
 use Rattle.model.specs.Moves.{withConsumer, withEvent, withPlaces, beginDequeue, answerEmpty, takeItem, takeFront}
 use Rattle.model.specs.Facts.{ended-before-ended, ended-before-dequeue-ended, put-not-blank, put-not-gone, at-same, at-other, at-all}
-use Rattle.model.specs.Frame.{Kept, KeptCall, same-call, same-owner, same-entry, producer-kept}
+use Rattle.model.specs.Frame.{Kept, KeptCall, same-call, same-owner, kept-call, producer-kept}
 use Rattle.model.specs.Known.{put-below-tail, put-in-records, put-past-head, put-untaken}
 
 module _ (B : ℕ) (s : State) (i : Invariant B s) where
@@ -41,13 +41,7 @@ module _ (B : ℕ) (s : State) (i : Invariant B s) where
       }
     where
       kept : (n : ℕ) → Kept s (withEvent (withConsumer s c) d) n
-      kept n =
-          record {
-            numbers = omega arith;
-            call = same n;
-            position = same-owner n tail owner;
-            state = same-entry n owner entry content (d ∷ history);
-          }
+      kept n = kept-call s (withEvent (withConsumer s c) d) n refl refl (omega arith) refl refl (same n)
 
   pub begin-dequeue : Invariant B (beginDequeue s)
   begin-dequeue =

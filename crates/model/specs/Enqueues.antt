@@ -11,7 +11,7 @@ use Rattle.model.specs.State.{blank, put, idle, started, done, State, in
 use Rattle.model.specs.Invariant.{Has, ProducerOk, Invariant}
 use Rattle.model.specs.Moves.{beginEnqueue, finish}
 use Rattle.model.specs.Facts.{started-begun, put-not-blank, at-all}
-use Rattle.model.specs.Frame.{Kept, same-owner, same-entry, producer-kept, Watched, consumer-kept}
+use Rattle.model.specs.Frame.{Kept, kept-call, producer-kept, Watched, consumer-kept}
 use Rattle.model.specs.Threads.{call-is-open, calls-begin, calls-end, producers-after}
 use Rattle.model.specs.Known.{open-numbered, ended-begun, owner-numbered}
 use Rattle.model.specs.Walking.{producer-clause}
@@ -40,7 +40,7 @@ initial-keeps B =
     blank-not-put e = put-not-blank blank e refl
 
 module _ (B : ℕ) (s : State) (i : Invariant B s) (t v : ℕ) where
-  open State s using (tail, starts, entry, owner, content, history)
+  open State s using (tail, starts, owner, history)
 
   -- no position has the new number yet
   new-owner : (p : ℕ) → p < tail → owner p ≢ suc starts
@@ -69,12 +69,8 @@ module _ (B : ℕ) (s : State) (i : Invariant B s) (t v : ℕ) where
 
   kept-begin : (n : ℕ) → Kept s (beginEnqueue s t v) n
   kept-begin n =
-      record {
-        numbers = omega arith;
-        call = record { stays-started = λ w e. inr e; stays-open = λ e. e; stays-taken = λ e. e };
-        position = same-owner n tail owner;
-        state = same-entry n owner entry content _;
-      }
+      kept-call s (beginEnqueue s t v) n refl refl (omega arith) refl refl
+      (record { stays-started = λ w e. inr e; stays-open = λ e. e; stays-taken = λ e. e })
 
   watched-begin : Watched s (beginEnqueue s t v)
   watched-begin =
@@ -123,7 +119,7 @@ module _ (B : ℕ) (s : State) (i : Invariant B s) (t v : ℕ) where
       }
 
 module _ (B : ℕ) (s : State) (i : Invariant B s) (t n v L k : ℕ) (e : s .producer t ≡ done n v L k) where
-  open State s using (tail, entry, owner, content, history)
+  open State s using (tail, entry, owner, history)
 
   -- the ended call is taken, or its entry is set
   ended-finish : (m : ℕ) → Ended m (enqueueEnded t n v ∷ history) → Taken m history ⊎ Has tail entry owner put m
@@ -135,12 +131,8 @@ module _ (B : ℕ) (s : State) (i : Invariant B s) (t n v L k : ℕ) (e : s .pro
 
   kept-finish : (m : ℕ) → m ≢ n → Kept s (finish s t n v) m
   kept-finish m ne =
-      record {
-        numbers = omega arith;
-        call = record { stays-started = λ w d. d; stays-open = ⊎-elim (λ d. absurd (ne d)) (λ d. d); stays-taken = λ d. d };
-        position = same-owner m tail owner;
-        state = same-entry m owner entry content _;
-      }
+      kept-call s (finish s t n v) m refl refl (omega arith) refl refl
+      (record { stays-started = λ w d. d; stays-open = ⊎-elim (λ d. absurd (ne d)) (λ d. d); stays-taken = λ d. d })
 
   watched-finish : Watched s (finish s t n v)
   watched-finish =

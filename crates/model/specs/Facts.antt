@@ -28,14 +28,6 @@ ended-before-ended a b (dequeueStarted ∷ h) e = ended-before-ended a b h e
 ended-before-ended a b (gaveItem m w ∷ h) e = ended-before-ended a b h e
 ended-before-ended a b (gaveEmpty ∷ h) e = ended-before-ended a b h e
 
-pub ended-before-begun : (a b : ℕ) (h : History) → EndedBefore a b h → Begun b h
-ended-before-begun a b (enqueueStarted t m w ∷ h) (inl e) = inl (e .0)
-ended-before-begun a b (enqueueStarted t m w ∷ h) (inr e) = inr (ended-before-begun a b h e)
-ended-before-begun a b (enqueueEnded t m w ∷ h) e = ended-before-begun a b h e
-ended-before-begun a b (dequeueStarted ∷ h) e = ended-before-begun a b h e
-ended-before-begun a b (gaveItem m w ∷ h) e = ended-before-begun a b h e
-ended-before-begun a b (gaveEmpty ∷ h) e = ended-before-begun a b h e
-
 pub ended-before-dequeue-ended : (a : ℕ) (h : History) → EndedBeforeDequeue a h → Ended a h
 ended-before-dequeue-ended a (enqueueStarted t m w ∷ h) e = ended-before-dequeue-ended a h e
 ended-before-dequeue-ended a (enqueueEnded t m w ∷ h) e = inr (ended-before-dequeue-ended a h e)

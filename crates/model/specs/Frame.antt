@@ -1,7 +1,7 @@
 -- What a move must leave alone for the clause of a producer, or of the consumer, to hold after it. From the invariant's clauses;
 -- a move shows these few facts and need not look at the phases.
-use mathlib.Core.Path.{_≡_, refl, _∙_}
-use mathlib.Core.Logic.{_⊎_, inl, inr}
+use mathlib.Core.Path.{_≡_, refl, sym, ap, _∙_}
+use mathlib.Core.Logic.{_⊎_, inl, inr, _≢_}
 use mathlib.Core.Option.{some}
 use Prim.Native.Nat.{ℕ, suc, _*_, _≤_, _<_}
 use native.Mathlib.Omega.{arith}
@@ -46,6 +46,40 @@ pub same-entry : (n : ℕ) (owner : ℕ → ℕ) (entry : ℕ → Entry) (conten
     → KeptEntry n owner entry entry content content h′
 same-entry n owner entry content h′ =
     record { stays-blank = λ p o e. e; stays-put = λ p o e. inr e; stays-content = λ p o. refl }
+
+-- a move that leaves tail and owners alone
+module _ (s s′ : State) (n : ℕ) (tail-same : s′ .tail ≡ s .tail) (owner-same : s′ .owner ≡ s .owner) (up : (s .tp ≤ s′ .tp) × (s .hi ≤ s′ .hi)) where
+  placed : KeptOwner n (s .tail) (s′ .tail) (s .owner) (s′ .owner)
+  placed = rw (tail-same, owner-same) (same-owner n (s .tail) (s .owner))
+
+  -- where it leaves entries and contents alone, a call is kept that stays as it is
+  pub kept-call : s′ .entry ≡ s .entry → s′ .content ≡ s .content → KeptCall n (s .history) (s′ .history) → Kept s s′ n
+  kept-call entry-same content-same k =
+      record {
+        numbers = omega arith;
+        call = k;
+        position = placed;
+        state = rw (entry-same, content-same) (same-entry n (s .owner) (s .entry) (s .content) (s′ .history));
+      }
+
+  -- where it leaves the history alone, and entries and contents but at L, a call is kept that does not own L
+  pub kept-elsewhere : s′ .history ≡ s .history → (L : ℕ) → s .owner L ≢ n
+      → ((p : ℕ) → p ≢ L → (s′ .entry p ≡ s .entry p) × (s′ .content p ≡ s .content p)) → Kept s s′ n
+  kept-elsewhere history-same L other same =
+      record {
+        numbers = omega arith;
+        call = rw history-same (same-call n (s .history));
+        position = placed;
+        state =
+            record {
+              stays-blank = λ p o b. same p (elsewhere p o) .0 ∙ b;
+              stays-put = λ p o b. inr (same p (elsewhere p o) .0 ∙ b);
+              stays-content = λ p o. same p (elsewhere p o) .1;
+            };
+      }
+    where
+      elsewhere : (p : ℕ) → s .owner p ≡ n → p ≢ L
+      elsewhere p o q = other (ap (s .owner) (sym q) ∙ o)
 
 module _ (B : ℕ) (s s′ : State) where
   open-kept : (n v : ℕ) → Kept s s′ n → Open n v (s .history) → Open n v (s′ .history)

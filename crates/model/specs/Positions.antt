@@ -11,7 +11,7 @@ use Rattle.model.specs.State.{Entry, put, gone, started, seeking, writin
 use Rattle.model.specs.Invariant.{Has, Owners, ProducerOk, Invariant}
 use Rattle.model.specs.Moves.{takePosition, writeEntry, setEntry}
 use Rattle.model.specs.Facts.{started-begun, ended-before-ended, ended-before-dequeue-ended, put-not-blank, gone-not-blank, at-same, at-other, at-all, AtCases, at-cases}
-use Rattle.model.specs.Frame.{Kept, same-call, same-owner, same-entry, Watched, consumer-kept}
+use Rattle.model.specs.Frame.{Kept, same-call, same-entry, kept-elsewhere, Watched, consumer-kept}
 use Rattle.model.specs.Threads.{calls-same, producers-after}
 use Rattle.model.specs.Known.{put-below-tail, has-kept}
 use Rattle.model.specs.Walking.{producer-clause}
@@ -158,17 +158,7 @@ module _ (B : ℕ) (s : State) (i : Invariant B s) (t n v L k : ℕ) where
 
       kept : (m : ℕ) → m ≢ n → Kept s (writeEntry s t n v L k) m
       kept m ne =
-          record {
-            numbers = omega arith;
-            call = same-call m history;
-            position = same-owner m tail owner;
-            state =
-                record {
-                  stays-blank = λ p d b. b;
-                  stays-put = λ p d b. inr b;
-                  stays-content = λ p d. same p (λ q. ne (sym d ∙ ap owner q ∙ o .0 .owns));
-                };
-          }
+          kept-elsewhere s (writeEntry s t n v L k) m refl refl (omega arith) refl L (λ d. ne (sym d ∙ o .0 .owns)) (λ p q. (refl, same p q))
 
       watched : Watched s (writeEntry s t n v L k)
       watched =
@@ -233,17 +223,7 @@ module _ (B : ℕ) (s : State) (i : Invariant B s) (t n v L k : ℕ) where
 
       kept : (m : ℕ) → m ≢ n → Kept s (setEntry s t n v L k) m
       kept m ne =
-          record {
-            numbers = omega arith;
-            call = same-call m history;
-            position = same-owner m tail owner;
-            state =
-                record {
-                  stays-blank = λ p d b. same p (λ q. ne (sym d ∙ ap owner q ∙ o .0 .owns)) ∙ b;
-                  stays-put = λ p d b. inr (still-put p b);
-                  stays-content = λ p d. refl;
-                };
-          }
+          kept-elsewhere s (setEntry s t n v L k) m refl refl (omega arith) refl L (λ d. ne (sym d ∙ o .0 .owns)) (λ p q. (same p q, refl))
 
       -- an entry set after the move was set before, or its call has not ended
       was-put : (p : ℕ) → at entry L put p ≡ put → Ended (owner p) history → entry p ≡ put

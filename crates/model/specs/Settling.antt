@@ -22,7 +22,7 @@ use Rattle.criterion.specs.LateFacts.{late-same}
 use Rattle.criterion.specs.Settle.{settled-explained}
 use Rattle.model.specs.State.{resting, State}
 use Rattle.model.specs.Invariant.{Invariant}
-use Rattle.model.specs.Frame.{Kept, same-owner, same-entry, producer-kept}
+use Rattle.model.specs.Frame.{Kept, producer-kept, kept-call}
 
 -- the item's end is told: the consumer rests
 abbrev pub settled : State → (n v : ℕ) → History → State
@@ -43,24 +43,17 @@ settled s n v h =
     }
 
 module _ (B : ℕ) (s : State) (i : Invariant B s) (formed : wellFormed (s .history) ≡ true) {n v : ℕ} {h : History} (late : Late n v (s .history) h) where
-  open State s using (tail, entry, owner, content)
-
   same : SameEnqueues (s .history) (gaveItem n v ∷ h)
   same = late-same late
 
   kept : (m : ℕ) → Kept s (settled s n v h) m
   kept m =
-      record {
-        numbers = omega arith;
-        call =
-            record {
-              stays-started = λ w. transport (same .same-started m w);
-              stays-open = transport⁻¹ (same .same-ended m);
-              stays-taken = transport (same .same-taken m);
-            };
-        position = same-owner m tail owner;
-        state = same-entry m owner entry content _;
-      }
+      kept-call s (settled s n v h) m refl refl (omega arith) refl refl
+      (record {
+        stays-started = λ w. transport (same .same-started m w);
+        stays-open = transport⁻¹ (same .same-ended m);
+        stays-taken = transport (same .same-taken m);
+      })
 
   pub settle-keeps : Invariant B (settled s n v h)
   settle-keeps =

@@ -16,7 +16,7 @@ use Rattle.model.specs.State.{gone, Producer, idle, started, seeking, ah
 use Rattle.model.specs.Invariant.{Open, Calls, ProducerOk, ConsumerOk, Invariant, isBusy}
 use Rattle.model.specs.Moves.{withProducer, withConsumer}
 use Rattle.model.specs.Facts.{at-all}
-use Rattle.model.specs.Frame.{Kept, same-call, same-owner, same-entry, producer-kept, Watched, consumer-kept}
+use Rattle.model.specs.Frame.{Kept, same-call, producer-kept, Watched, consumer-kept, kept-call}
 
 -- no two producers have calls of one number
 abbrev pub Apart : (ℕ → Producer) → Type 0
@@ -123,12 +123,7 @@ moved s hp lo tp hi producer consumer =
 module _ (s : State) (hp lo tp hi : ℕ) (f : ℕ → Producer) (c : Consumer) where
   pub kept-moved : s .tp ≤ tp → s .hi ≤ hi → (n : ℕ) → Kept s (moved s hp lo tp hi f c) n
   kept-moved tp-up hi-up n =
-      record {
-        numbers = omega arith;
-        call = same-call n (s .history);
-        position = same-owner n (s .tail) (s .owner);
-        state = same-entry n (s .owner) (s .entry) (s .content) (s .history);
-      }
+      kept-call s (moved s hp lo tp hi f c) n refl refl (tp-up, hi-up) refl refl (same-call n (s .history))
 
   pub watched-moved : s .tp ≤ tp → hp ≡ s .hp → lo ≡ s .lo → Watched s (moved s hp lo tp hi f c)
   watched-moved tp-up hp-same lo-same =
