@@ -14,7 +14,7 @@ use Rattle.rules.specs.Sizes.{Sizes}
 use Rattle.rules.specs.Cell.{Reader, _:=_, clearConsumer, headPosition, consumer, consumerPhase, foundRecord, foundPosition, itemNumber, itemValue, place, used, state, entryNumber, entryValue, entry}
 use Rattle.rules.specs.Update.{after, update}
 use Rattle.rules.specs.Range.{number, foundSorts}
-use Rattle.rules.specs.Rule.{goes, item, reply, upTo, index}
+use Rattle.rules.specs.Rule.{Answer, goes, item, reply, need, upTo, index, inside}
 use Rattle.rules.specs.Consumer.{readItem, markHandled}
 use Rattle.rules.specs.Request.{step}
 use Rattle.model.specs.State
@@ -43,16 +43,23 @@ module _ (z : Sizes) (σ : Reader) (γ : Ghost) (good : Good z σ γ) where
       let j : Inside (z .B) (σ foundPosition) (σ (place r)) = subst (Inside (z .B) (σ foundPosition)) (ap (placeOf (placesOf σ)) q) i in
       (j, slot z σ (γ .shape) (m .chain) r (σ foundPosition) (rw q at (m .found)) j)
 
+  -- the steps that look at found's entry: their rule holds of it
+  at-found : Found (z .B) (view σ γ) (σ foundPosition) (placeOf (placesOf σ) (σ foundRecord)) → (f : ℕ → ℕ → Answer)
+      → ((r : ℕ) → σ foundRecord ≡ suc r → Slot z σ (γ .shape) r (σ foundPosition) → Fine z σ γ (step 0) (f r (index z σ r (σ foundPosition))))
+      → Fine z σ γ (step 0) (need (σ foundRecord) (λ r. inside z σ r (σ foundPosition) (f r)))
+  at-found found f each =
+      by-need (Fine z σ γ (step 0)) (σ foundRecord) _ (some-record z σ γ good (σ foundRecord) (found .3))
+      (λ r q.
+      let s = found-slot r q (found .5) in
+      by-inside z σ r (σ foundPosition) (s .0) (Fine z σ γ (step 0)) (f r) (each r q (s .1)))
+
   -- 6. Read call number and value; to 7.
   pub read-item-fine : σ consumerPhase ≡ 6 → Fine z σ γ (step 0) (readItem z σ)
   unfolding readItem
   read-item-fine e =
-      by-need (Fine z σ γ (step 0)) (σ foundRecord) _ (some-record z σ γ good (σ foundRecord) (found .3))
-      (λ r q.
-      let s = found-slot r q (found .5) in
-      by-inside z σ r (σ foundPosition) (s .0) (Fine z σ γ (step 0))
-      (λ i. goes (itemNumber := σ (entryNumber r i) ∷ itemValue := σ (entryValue r i) ∷ consumerPhase := 7 ∷ []))
-      (consumer-goes z σ γ good
+      at-found found (λ r i. goes (itemNumber := σ (entryNumber r i) ∷ itemValue := σ (entryValue r i) ∷ consumerPhase := 7 ∷ []))
+      (λ r q s.
+      consumer-goes z σ γ good
       (itemNumber := σ (entryNumber r (index z σ r (σ foundPosition))) ∷ itemValue := σ (entryValue r (index z σ r (σ foundPosition))) ∷ consumerPhase := 7 ∷ [])
       7
       _
@@ -66,14 +73,14 @@ module _ (z : Sizes) (σ : Reader) (γ : Ghost) (good : Good z σ γ) where
         found-position = words .found-position;
         item-number =
             has-sort z number (σ (entryNumber r (index z σ r (σ foundPosition))))
-            (good .range .words (entryNumber r (index z σ r (σ foundPosition))) (s .1 .fits, s .1 .here .below, omega arith));
+            (good .range .words (entryNumber r (index z σ r (σ foundPosition))) (s .fits, s .here .below, omega arith));
         item-value = tt;
         spare = words .spare;
       })
       (m .cursor, m .found)
       (ap₂ (λ (n v : ℕ). State.holding (σ foundPosition) (placeOf (placesOf σ) (σ foundRecord)) (record { number = n; value = v }))
-      (slot-number z σ γ r (σ foundPosition) (s .1) (good .agrees)) (slot-value z σ γ r (σ foundPosition) (s .1) (good .agrees)))
-      (read-item (z .B) (view σ γ) (good .model) _ _ seen)))
+      (slot-number z σ γ r (σ foundPosition) s (good .agrees)) (slot-value z σ γ r (σ foundPosition) s (good .agrees)))
+      (read-item (z .B) (view σ γ) (good .model) _ _ seen))
     where
       seen : view σ γ .consumer ≡ State.found (σ foundPosition) (placeOf (placesOf σ) (σ foundRecord))
       seen = consumer-at z σ γ good 6 e
@@ -151,20 +158,18 @@ module _ (z : Sizes) (σ : Reader) (γ : Ghost) (good : Good z σ γ) where
   pub mark-handled-fine : σ consumerPhase ≡ 7 → Fine z σ γ (step 0) (markHandled z σ)
   unfolding markHandled
   mark-handled-fine e =
-      by-need (Fine z σ γ (step 0)) (σ foundRecord) _ (some-record z σ γ good (σ foundRecord) (found .3))
-      (λ r q.
-      let s = found-slot r q (found .5) in
-      by-inside z σ r (σ foundPosition) (s .0) (Fine z σ γ (step 0))
-      (λ i. cond (eqb (σ foundPosition) (σ headPosition))
+      at-found found
+      (λ r i. cond (eqb (σ foundPosition) (σ headPosition))
       (upTo (z .M) (suc (σ headPosition))
       (reply (item (σ itemNumber) (σ itemValue)) (state r i := 2 ∷ headPosition := suc (σ headPosition) ∷ clearConsumer ∷ [])))
       (reply (item (σ itemNumber) (σ itemValue)) (state r i := 2 ∷ clearConsumer ∷ [])))
-      (by-cond (Fine z σ γ (step 0)) (eqb (σ foundPosition) (σ headPosition)) _ _
+      (λ r q s.
+      by-cond (Fine z σ γ (step 0)) (eqb (σ foundPosition) (σ headPosition)) _ _
       (λ b.
       let f : σ foundPosition ≡ σ headPosition = eqb-true (σ foundPosition) (σ headPosition) b in
       let room : suc (σ headPosition) ≤ z .M = omega (arith, found .1, tail-fits z σ γ good) in
-      by-up-to (Fine z σ γ (step 0)) (z .M) (suc (σ headPosition)) _ room (takes-front e r q (s .1) f room))
-      (λ b. takes-item e r q (s .1))))
+      by-up-to (Fine z σ γ (step 0)) (z .M) (suc (σ headPosition)) _ room (takes-front e r q s f room))
+      (λ b. takes-item e r q s))
     where
       found : Found (z .B) (view σ γ) (σ foundPosition) (placeOf (placesOf σ) (σ foundRecord))
       found = holding-found (z .B) (view σ γ) (good .model) _ _ _ (consumer-at z σ γ good 7 e)
