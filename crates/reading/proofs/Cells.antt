@@ -1,11 +1,11 @@
 -- What the columns hold after a call has started or ended.
 use mathlib.Core.Path.{_≡_, refl, _∙_}
 use mathlib.Core.Logic.{_≢_}
-use mathlib.Core.List.{List, [], _∷_, _++_}
-use Prim.Native.Nat.{ℕ, suc, _+_, _*_, _≤_, _<_, max}
+use mathlib.Core.List.{List, [], _∷_}
+use Prim.Native.Nat.{ℕ, zero, suc, _+_, _*_, _≤_, _<_, max}
 use native.Mathlib.Omega.{arith}
 use native.Mathlib.Numerals.{add-one}
-use lib.ListN.{length, getD, set, length-set}
+use lib.ListN.{length, getD, set, drop, length-set}
 use lib.Seq.{getD-set-same, getD-set-other}
 use Rattle.history.specs.Lists.{All}
 use Rattle.reading.specs.Table.{cell, startAt, endAt, answerAt, threadAt, numberAt, valueAt, busyAt, topOf}
@@ -27,9 +27,12 @@ kept : (m : List ℕ) (ws : List Write) (a : ℕ) → Off a ws → getD (written
 kept m [] a h = refl
 kept m (w ∷ ws) a h = kept (set m (w .0) (w .1)) ws a (h .1) ∙ getD-set-other m (w .0) a (w .1) 0 (h .0)
 
-wrote : (m : List ℕ) (vs : List Write) (a x : ℕ) (ws : List Write) → a < length m → Off a ws → getD (written m (vs ++ ((a, x) ∷ ws))) a 0 ≡ x
-wrote m [] a x ws l h = kept (set m a x) ws a h ∙ getD-set-same m a x 0 l
-wrote m (v ∷ vs) a x ws l h = wrote (set m (v .0) (v .1)) vs a x ws (simp length-set l) h
+-- write i is there, if no later one is to the same word
+wrote : (m : List ℕ) (ws : List Write) (i : ℕ) → i < length ws → getD ws i (0, 0) .0 < length m → Off (getD ws i (0, 0) .0) (drop (suc i) ws)
+    → getD (written m ws) (getD ws i (0, 0) .0) 0 ≡ getD ws i (0, 0) .1
+wrote m [] i b l h = absurd (omega arith)
+wrote m (w ∷ ws) zero b l h = kept (set m (w .0) (w .1)) ws (w .0) h ∙ getD-set-same m (w .0) (w .1) 0 l
+wrote m (w ∷ ws) (suc i) b l h = wrote (set m (w .0) (w .1)) ws i (omega arith) (simp length-set l) h
 
 length-written : (m : List ℕ) (ws : List Write) → length (written m ws) ≡ length m
 length-written m [] = refl
@@ -50,47 +53,24 @@ pub record Begun (m m′ : List ℕ) (c k t n v : ℕ) : Type 0 where
   pub top-is : topOf m′ ≡ max (topOf m) n
 
 module _ (m : List ℕ) (c k t n v : ℕ) (size : length m ≡ 28672) (room : c < 4096) (thread : t ≤ 16) where
-  abbrev w₁ : Write
-  w₁ = (4096 + c, k)
-
-  abbrev w₂ : Write
-  w₂ = (8192 + c, 0)
-
-  abbrev w₃ : Write
-  w₃ = (12288 + c, 0)
-
-  abbrev w₄ : Write
-  w₄ = (16384 + c, t)
-
-  abbrev w₅ : Write
-  w₅ = (20480 + c, n)
-
-  abbrev w₆ : Write
-  w₆ = (24576 + c, v)
-
-  abbrev w₇ : Write
-  w₇ = (t, c + 1)
-
-  abbrev w₈ : Write
-  w₈ = (17, max (topOf m) n)
-
   abbrev beginning : List Write
-  beginning = w₁ ∷ w₂ ∷ w₃ ∷ w₄ ∷ w₅ ∷ w₆ ∷ w₇ ∷ w₈ ∷ []
+  beginning =
+      (4096 + c, k) ∷ (8192 + c, 0) ∷ (12288 + c, 0) ∷ (16384 + c, t) ∷ (20480 + c, n) ∷ (24576 + c, v) ∷ (t, c + 1) ∷ (17, max (topOf m) n) ∷ []
 
   pub begun-is : Begun m (begun m c k t n v) c k t n v
   unfolding begun
   begun-is = record {
     size = length-written m beginning;
     old = λ q j a b l. kept m beginning (4096 * q + j) (omega arith);
-    start-is = wrote m [] (4096 + c) k (w₂ ∷ w₃ ∷ w₄ ∷ w₅ ∷ w₆ ∷ w₇ ∷ w₈ ∷ []) (omega arith) (omega arith);
-    end-is = wrote m (w₁ ∷ []) (8192 + c) 0 (w₃ ∷ w₄ ∷ w₅ ∷ w₆ ∷ w₇ ∷ w₈ ∷ []) (omega arith) (omega arith);
-    answer-is = wrote m (w₁ ∷ w₂ ∷ []) (12288 + c) 0 (w₄ ∷ w₅ ∷ w₆ ∷ w₇ ∷ w₈ ∷ []) (omega arith) (omega arith);
-    thread-is = wrote m (w₁ ∷ w₂ ∷ w₃ ∷ []) (16384 + c) t (w₅ ∷ w₆ ∷ w₇ ∷ w₈ ∷ []) (omega arith) (omega arith);
-    number-is = wrote m (w₁ ∷ w₂ ∷ w₃ ∷ w₄ ∷ []) (20480 + c) n (w₆ ∷ w₇ ∷ w₈ ∷ []) (omega arith) (omega arith);
-    value-is = wrote m (w₁ ∷ w₂ ∷ w₃ ∷ w₄ ∷ w₅ ∷ []) (24576 + c) v (w₇ ∷ w₈ ∷ []) (omega arith) (omega arith);
-    busy-is = wrote m (w₁ ∷ w₂ ∷ w₃ ∷ w₄ ∷ w₅ ∷ w₆ ∷ []) t (c + 1) (w₈ ∷ []) (omega arith) (omega arith) ∙ add-one c;
+    start-is = wrote m beginning 0 (omega arith) (omega arith) (omega arith);
+    end-is = wrote m beginning 1 (omega arith) (omega arith) (omega arith);
+    answer-is = wrote m beginning 2 (omega arith) (omega arith) (omega arith);
+    thread-is = wrote m beginning 3 (omega arith) (omega arith) (omega arith);
+    number-is = wrote m beginning 4 (omega arith) (omega arith) (omega arith);
+    value-is = wrote m beginning 5 (omega arith) (omega arith) (omega arith);
+    busy-is = wrote m beginning 6 (omega arith) (omega arith) (omega arith) ∙ add-one c;
     others = λ u a d. kept m beginning u (omega arith);
-    top-is = wrote m (w₁ ∷ w₂ ∷ w₃ ∷ w₄ ∷ w₅ ∷ w₆ ∷ w₇ ∷ []) 17 (max (topOf m) n) [] (omega arith) tt;
+    top-is = wrote m beginning 7 (omega arith) (omega arith) tt;
   }
 
 -- The columns with call i ended: only its end, answer and value have changed.
@@ -108,20 +88,8 @@ pub record Ended (m m′ : List ℕ) (i k t n v : ℕ) : Type 0 where
   pub top-is : topOf m′ ≡ topOf m
 
 module _ (m : List ℕ) (i k t n v : ℕ) (size : length m ≡ 28672) (room : i < 4096) (thread : t ≤ 16) where
-  abbrev u₁ : Write
-  u₁ = (8192 + i, k)
-
-  abbrev u₂ : Write
-  u₂ = (12288 + i, n)
-
-  abbrev u₃ : Write
-  u₃ = (24576 + i, v)
-
-  abbrev u₄ : Write
-  u₄ = (t, 0)
-
   abbrev ending : List Write
-  ending = u₁ ∷ u₂ ∷ u₃ ∷ u₄ ∷ []
+  ending = (8192 + i, k) ∷ (12288 + i, n) ∷ (24576 + i, v) ∷ (t, 0) ∷ []
 
   pub ended-is : Ended m (ended m i k t n v) i k t n v
   unfolding ended
@@ -131,10 +99,10 @@ module _ (m : List ℕ) (i k t n v : ℕ) (size : length m ≡ 28672) (room : i 
     start-is = λ j l. kept m ending (4096 + j) (omega arith);
     thread-is = λ j l. kept m ending (16384 + j) (omega arith);
     number-is = λ j l. kept m ending (20480 + j) (omega arith);
-    end-is = wrote m [] (8192 + i) k (u₂ ∷ u₃ ∷ u₄ ∷ []) (omega arith) (omega arith);
-    answer-is = wrote m (u₁ ∷ []) (12288 + i) n (u₃ ∷ u₄ ∷ []) (omega arith) (omega arith);
-    value-is = wrote m (u₁ ∷ u₂ ∷ []) (24576 + i) v (u₄ ∷ []) (omega arith) (omega arith);
-    busy-is = wrote m (u₁ ∷ u₂ ∷ u₃ ∷ []) t 0 [] (omega arith) tt;
+    end-is = wrote m ending 0 (omega arith) (omega arith) (omega arith);
+    answer-is = wrote m ending 1 (omega arith) (omega arith) (omega arith);
+    value-is = wrote m ending 2 (omega arith) (omega arith) (omega arith);
+    busy-is = wrote m ending 3 (omega arith) (omega arith) tt;
     others = λ u a d. kept m ending u (omega arith);
     top-is = kept m ending 17 (omega arith);
   }
