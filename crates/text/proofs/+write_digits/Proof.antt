@@ -6,7 +6,7 @@ use lib.ListN.{length-set}
 use Rattle.text.specs.Decimal.{digit}
 use Rattle.text.specs.Laws.{digits-none, digits-short, digits-long, length-digits, wrote-append, wrote-byte}
 use Prim.Native.Nat.{ℕ, _<_}
-use borrow.Fn.Kinds.{In}
+use borrow.Fn.Kinds.{In, Out}
 use borrow.Fn.PlainCycle.{Measures, is, falls, and}
 use Rattle.text.proofs.write_digits.Reads as write-digits
 use Rattle.text.proofs.write_digits.Kinds as write-digits-kinds
@@ -29,105 +29,64 @@ write-digits-below t =
     (falls 1 write-digits-kinds.ps _<_ μ-write-digits t)
     write-digits.Pre
 
-write-digits-returns : (t : ℕ) → write-digits-lts.Need-returns (
-  write-digits-below t,
-  write-digits.Post,
-) (write-digits-at t) write-digits.Post
+-- a need of the body, where the call inside it is one with a smaller measure
+abbrev Need : (write-digits-lts.Claims → In 1 write-digits-kinds.ps → Out 1 write-digits-kinds.ps write-digits-kinds.r → Type 0) → ℕ → Type 0
+Need N t = N (write-digits-below t, write-digits.Post) (write-digits-at t) write-digits.Post
+
+write-digits-returns : (t : ℕ) → Need write-digits-lts.Need-returns t
 write-digits-returns t c =
     let a = c .before .before .args in
     let e = digits-none (a .k) (a .n) (c .if1 .taken) in
     record { next-is = rw e (omega arith); after-is = rw e refl }
 
-write-digits-add-out : (t : ℕ) → write-digits-lts.Need-add-out (
-  write-digits-below t,
-  write-digits.Post,
-) (write-digits-at t) write-digits.Post
+write-digits-add-out : (t : ℕ) → Need write-digits-lts.Need-add-out t
 write-digits-add-out t c = omega arith
 
-write-digits-cast-out : (t : ℕ) → write-digits-lts.Need-cast-out (
-  write-digits-below t,
-  write-digits.Post,
-) (write-digits-at t) write-digits.Post
+write-digits-cast-out : (t : ℕ) → Need write-digits-lts.Need-cast-out t
 write-digits-cast-out t c = omega arith
 
-write-digits-slice-write-out : (t : ℕ) → write-digits-lts.Need-slice-write-out (
-  write-digits-below t,
-  write-digits.Post,
-) (write-digits-at t) write-digits.Post
+write-digits-slice-write-out : (t : ℕ) → Need write-digits-lts.Need-slice-write-out t
 write-digits-slice-write-out t c = omega arith
 
-write-digits-add-result : (t : ℕ) → write-digits-lts.Need-add-result (
-  write-digits-below t,
-  write-digits.Post,
-) (write-digits-at t) write-digits.Post
+write-digits-add-result : (t : ℕ) → Need write-digits-lts.Need-add-result t
 write-digits-add-result t c = omega arith
 
-write-digits-same-length : (t : ℕ) → write-digits-lts.Need-same-length (
-  write-digits-below t,
-  write-digits.Post,
-) (write-digits-at t) write-digits.Post
+write-digits-same-length : (t : ℕ) → Need write-digits-lts.Need-same-length t
 write-digits-same-length t c = simp length-set
 
-write-digits-returns-2 : (t : ℕ) → write-digits-lts.Need-returns-2 (
-  write-digits-below t,
-  write-digits.Post,
-) (write-digits-at t) write-digits.Post
+write-digits-returns-2 : (t : ℕ) → Need write-digits-lts.Need-returns-2 t
 write-digits-returns-2 t c =
     let a = c .before .before .before .args in
     let e = digits-short (a .k) (a .n) (omega arith) (omega arith) in
     record { next-is = rw e (omega arith); after-is = rw e refl }
 
-write-digits-sub-write-digits : (t : ℕ) → write-digits-lts.Need-sub-write-digits (
-  write-digits-below t,
-  write-digits.Post,
-) (write-digits-at t) write-digits.Post
+write-digits-sub-write-digits : (t : ℕ) → Need write-digits-lts.Need-sub-write-digits t
 write-digits-sub-write-digits t c = omega arith
 
-write-digits-write-digits-requires : (t : ℕ) → write-digits-lts.Need-write-digits-requires (
-  write-digits-below t,
-  write-digits.Post,
-) (write-digits-at t) write-digits.Post
+write-digits-write-digits-requires : (t : ℕ) → Need write-digits-lts.Need-write-digits-requires t
 write-digits-write-digits-requires t c κs = (omega arith, omega arith)
 
-write-digits-add-out-2 : (t : ℕ) → write-digits-lts.Need-add-out-2 (
-  write-digits-below t,
-  write-digits.Post,
-) (write-digits-at t) write-digits.Post
+write-digits-add-out-2 : (t : ℕ) → Need write-digits-lts.Need-add-out-2 t
 write-digits-add-out-2 t c = omega arith
 
-write-digits-cast-out-2 : (t : ℕ) → write-digits-lts.Need-cast-out-2 (
-  write-digits-below t,
-  write-digits.Post,
-) (write-digits-at t) write-digits.Post
+write-digits-cast-out-2 : (t : ℕ) → Need write-digits-lts.Need-cast-out-2 t
 write-digits-cast-out-2 t c = omega arith
 
-write-digits-slice-write-out-2 : (t : ℕ) → write-digits-lts.Need-slice-write-out-2 (
-  write-digits-below t,
-  write-digits.Post,
-) (write-digits-at t) write-digits.Post
+write-digits-slice-write-out-2 : (t : ℕ) → Need write-digits-lts.Need-slice-write-out-2 t
 write-digits-slice-write-out-2 t c =
     let a = c .before .before .before .before .before .before .before .args in
     omega (arith, length-digits (a .k - 1) (a .n / 10), c .before .before .write-digits .kept .0)
 
-write-digits-add-result-2 : (t : ℕ) → write-digits-lts.Need-add-result-2 (
-  write-digits-below t,
-  write-digits.Post,
-) (write-digits-at t) write-digits.Post
+write-digits-add-result-2 : (t : ℕ) → Need write-digits-lts.Need-add-result-2 t
 write-digits-add-result-2 t c =
     let a = c .before .before .before .before .before .before .before .args in
     omega (arith, length-digits (a .k - 1) (a .n / 10))
 
-write-digits-same-length-2 : (t : ℕ) → write-digits-lts.Need-same-length-2 (
-  write-digits-below t,
-  write-digits.Post,
-) (write-digits-at t) write-digits.Post
+write-digits-same-length-2 : (t : ℕ) → Need write-digits-lts.Need-same-length-2 t
 write-digits-same-length-2 t c =
     length-set (c .before .before .write-digits .last .0) _ _ ∙ c .before .before .write-digits .kept .0
 
-write-digits-returns-3 : (t : ℕ) → write-digits-lts.Need-returns-3 (
-  write-digits-below t,
-  write-digits.Post,
-) (write-digits-at t) write-digits.Post
+write-digits-returns-3 : (t : ℕ) → Need write-digits-lts.Need-returns-3 t
 write-digits-returns-3 t c =
     let a = c .before .before .before .before .before .before .before .args in
     let x = c .before .before .write-digits in
