@@ -56,36 +56,26 @@ fn starts_with(s: &[u8], word: &[u8]) -> bool
 fn read_field(s: &[u8], at: usize) -> Number
     ensures { λ r. ⌜ r ≡ fieldAt (now (s .entry)) at ⌝ }
 {
-    let found = text::read_number(s, at);
-    match found {
-        Number::Bad => {
-            return Number::Bad;
-        }
-        Number::Read(n, next) => {
-            if text::byte_at(s, next) == 32 {
-                return Number::Read(n, next + 1);
-            }
-            return Number::Bad;
-        }
+    let Number::Read(n, next) = text::read_number(s, at) else {
+        return Number::Bad;
+    };
+    if text::byte_at(s, next) == 32 {
+        return Number::Read(n, next + 1);
     }
+    Number::Bad
 }
 
 // A number that ends the line.
 fn read_last(s: &[u8], at: usize) -> Number
     ensures { λ r. ⌜ r ≡ lastAt (now (s .entry)) at ⌝ }
 {
-    let found = text::read_number(s, at);
-    match found {
-        Number::Bad => {
-            return Number::Bad;
-        }
-        Number::Read(n, next) => {
-            if next == s.len() {
-                return Number::Read(n, next);
-            }
-            return Number::Bad;
-        }
+    let Number::Read(n, next) = text::read_number(s, at) else {
+        return Number::Bad;
+    };
+    if next == s.len() {
+        return Number::Read(n, next);
     }
+    Number::Bad
 }
 
 // `open B N P M`
