@@ -6,6 +6,11 @@ use mathlib.Core.Option.{Option, none, some}
 use Prim.Native.Nat.{ℕ, _+_, _*_, _≤_}
 use lib.ListN.{length}
 use Rattle.history.specs.Form.{mostEvents}
+use Rattle.rules.specs.Free.{lowestFree}
+use Rattle.rules.specs.Request.{Request, result}
+use Rattle.rules.specs.Play.{threadOf, valueOf}
+use Rattle.store.specs.declared.Reply.{Reply}
+use Rattle.store.specs.Outcome.{left}
 use Rattle.text.specs.Wrote.{Wrote}
 use Rattle.protocol.specs.declared.Line.{Line}
 use Rattle.protocol.specs.Words.{badLine}
@@ -14,7 +19,7 @@ use Rattle.protocol.specs.Printed.{printed, mostPrinted}
 use Rattle.session.specs.declared.Place.{Place}
 use Rattle.session.specs.declared.Next.{Next}
 use Rattle.session.specs.declared.Next.the-variants.{Stop, On}
-use Rattle.session.specs.Session.{Session, begun, Turn, callOf, Run, runLines}
+use Rattle.session.specs.Session.{Session, begun, Turn, calling, callOf, Run, runLines}
 use Rattle.session.specs.Events.{Recorded}
 
 -- The buffers hold what stands, the history's first k events.
@@ -28,6 +33,12 @@ pub record Turned (call : Session → Turn) (store history out : List ℕ) (at :
   pub prints : (x : Session) → Stands x store history (at .events) → Wrote out (at .bytes) (printed (call x .reply)) out′ (next .bytes)
   pub most : next .events ≤ at .events + 1
   pub short : next .bytes ≤ at .bytes + mostPrinted
+
+-- A call of thread t with value v was recorded and its reply printed: a turn, where the store changed as the call says.
+pub record Finished (t v : ℕ) (reply : Reply) (history out : List ℕ) (at : Place) (history′ out′ : List ℕ) (next : Place) : Type 0 where
+  pub turned :
+      (q : Request) → threadOf q ≡ t → valueOf q ≡ v → (store store′ : List ℕ) → left reply store′ ≡ result lowestFree q store
+      → Turned (calling q) store history out at store′ history′ out′ next
 
 -- What a line does, by the call that it asks for: a bad one prints `bad line` and stops the run, any other turns as its call does.
 abbrev pub Answered : Option (Session → Turn) → (store history out : List ℕ) → Place → (store′ history′ out′ : List ℕ) → Next → Type 0

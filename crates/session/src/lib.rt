@@ -10,15 +10,15 @@ ghost use lib.ListN.{length};
 ghost use lib.Seq.{sets};
 ghost use Rattle.history.specs.Event.{History};
 ghost use Rattle.history.specs.Form.{mostEvents};
-ghost use Rattle.rules.specs.Request.{Request, startEnqueue, startDequeue, step};
+ghost use Rattle.rules.specs.Request.{Request};
 ghost use Rattle.rules.specs.Play.{events, endOfEnqueue, threadOf, valueOf};
 ghost use Rattle.store.specs.Outcome.{response};
 ghost use Rattle.store.specs.Shape.{sizes};
 ghost use Rattle.text.specs.Wrote.{Wrote};
 ghost use Rattle.protocol.specs.Printed.{printed, mostPrinted};
-ghost use Rattle.session.specs.Session.{mostInput, reopened, opening, calling, output};
+ghost use Rattle.session.specs.Session.{mostInput, reopened, opening, output};
 ghost use Rattle.session.specs.Events.{Recorded, startFound, notedEvents, Records};
-ghost use Rattle.session.specs.Turns.{Turned, Answers, Ran, mostOutput};
+ghost use Rattle.session.specs.Turns.{Turned, Finished, Answers, Ran, mostOutput};
 
 // What a call adds to the history: nothing, an enqueue's start or its end, a dequeue's start, its item or that it is empty.
 pub enum Noted {
@@ -143,12 +143,13 @@ fn add_noted(history: &mut [u32], k: usize, noted: Noted) -> usize
     }
 }
 
-// Records what a call adds, and prints its reply.
-fn finish(history: &mut [u32], out: &mut [u8], at: Place, noted: Noted, reply: Reply) -> Place
+// Records what a call of thread t with value v adds, and prints its reply.
+fn finish(history: &mut [u32], out: &mut [u8], at: Place, t: u32, v: u32, reply: Reply) -> Place
     requires { ⌜ at .events * 4 + 4 ≤ length (now history) ⌝ }
     requires { ⌜ at .bytes + mostPrinted ≤ length (now out) ⌝ }
-    ensures { λ r. ⌜ Records (notedEvents noted) (now (history .entry)) (at .events) (now (history .exit)) (r .events) × Wrote (now (out .entry)) (at .bytes) (printed (response reply)) (now (out .exit)) (r .bytes) ⌝ }
+    ensures { λ r. ⌜ Finished t v reply (now (history .entry)) (now (out .entry)) at (now (history .exit)) (now (out .exit)) r ⌝ }
 {
+    let noted = note(t, v, reply);
     let events = add_noted(history, at.events, noted);
     let bytes = protocol::print_reply(out, at.bytes, reply);
     Place { events, bytes }
@@ -179,43 +180,6 @@ fn open_turn(store: &mut [u32], out: &mut [u8], at: Place, z: Shape) -> Place
     Place { events, bytes }
 }
 
-fn enqueue_turn(
-    store: &mut [u32],
-    history: &mut [u32],
-    out: &mut [u8],
-    at: Place,
-    t: u32,
-    v: u32,
-) -> Place
-    requires { ⌜ at .events * 4 + 4 ≤ length (now history) ⌝ }
-    requires { ⌜ at .bytes + mostPrinted ≤ length (now out) ⌝ }
-    ensures { λ r. ⌜ Turned (calling (startEnqueue t v)) (now (store .entry)) (now (history .entry)) (now (out .entry)) at (now (store .exit)) (now (history .exit)) (now (out .exit)) r ⌝ }
-{
-    let reply = engine::start_enqueue(store, t, v);
-    let noted = note(t, v, reply);
-    finish(history, out, at, noted, reply)
-}
-
-fn dequeue_turn(store: &mut [u32], history: &mut [u32], out: &mut [u8], at: Place) -> Place
-    requires { ⌜ at .events * 4 + 4 ≤ length (now history) ⌝ }
-    requires { ⌜ at .bytes + mostPrinted ≤ length (now out) ⌝ }
-    ensures { λ r. ⌜ Turned (calling startDequeue) (now (store .entry)) (now (history .entry)) (now (out .entry)) at (now (store .exit)) (now (history .exit)) (now (out .exit)) r ⌝ }
-{
-    let reply = engine::start_dequeue(store);
-    let noted = note(0, 0, reply);
-    finish(history, out, at, noted, reply)
-}
-
-fn step_turn(store: &mut [u32], history: &mut [u32], out: &mut [u8], at: Place, t: u32) -> Place
-    requires { ⌜ at .events * 4 + 4 ≤ length (now history) ⌝ }
-    requires { ⌜ at .bytes + mostPrinted ≤ length (now out) ⌝ }
-    ensures { λ r. ⌜ Turned (calling (step t)) (now (store .entry)) (now (history .entry)) (now (out .entry)) at (now (store .exit)) (now (history .exit)) (now (out .exit)) r ⌝ }
-{
-    let reply = engine::step(store, t);
-    let noted = note(t, 0, reply);
-    finish(history, out, at, noted, reply)
-}
-
 // Does what a line asks.
 fn take_turn(store: &mut [u32], history: &mut [u32], out: &mut [u8], at: Place, line: Line) -> Next
     requires { ⌜ at .events * 4 + 4 ≤ length (now history) ⌝ }
@@ -233,13 +197,16 @@ fn take_turn(store: &mut [u32], history: &mut [u32], out: &mut [u8], at: Place, 
             return Next::On(open_turn(store, out, at, z));
         }
         Line::Enqueue(t, v) => {
-            return Next::On(enqueue_turn(store, history, out, at, t, v));
+            let reply = engine::start_enqueue(store, t, v);
+            return Next::On(finish(history, out, at, t, v, reply));
         }
         Line::Dequeue => {
-            return Next::On(dequeue_turn(store, history, out, at));
+            let reply = engine::start_dequeue(store);
+            return Next::On(finish(history, out, at, 0, 0, reply));
         }
         Line::Step(t) => {
-            return Next::On(step_turn(store, history, out, at, t));
+            let reply = engine::step(store, t);
+            return Next::On(finish(history, out, at, t, 0, reply));
         }
         Line::Bad => {
             return Next::Stop(text::write_bytes(out, at.bytes, b"bad line\n"));

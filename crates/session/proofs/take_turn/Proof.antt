@@ -22,8 +22,11 @@ returns c = record { answered = rw (c .before .before .before .before .before .b
 enum-known-line-2 : tie.Need-enum-known-line-2
 enum-known-line-2 c = search needs
 
-enqueue-turn-requires : tie.Need-enqueue-turn-requires
-enqueue-turn-requires c κs = search needs
+start-enqueue-requires : tie.Need-start-enqueue-requires
+start-enqueue-requires c κs = search needs
+
+finish-requires : tie.Need-finish-requires
+finish-requires c κs = search needs
 
 same-length-3 : tie.Need-same-length-3
 same-length-3 c = search needs
@@ -35,13 +38,16 @@ same-length-5 : tie.Need-same-length-5
 same-length-5 c = search needs
 
 returns-2 : tie.Need-returns-2
-returns-2 c = record { answered = rw (c .before .before .before .before .before .before .before .before .before .before .before .line2 .given .1) (c .before .before .before .before .before .before .enqueue-turn .ensures) }
+returns-2 c = record { answered = rw (c .before .before .before .before .before .before .before .before .before .before .before .before .line2 .given .1) (c .before .before .before .before .finish .ensures .turned _ refl refl _ _ (c .before .before .before .before .before .before .before .before .before .start-enqueue .ensures)) }
 
 enum-told : tie.Need-enum-told
 enum-told c = search needs
 
-dequeue-turn-requires : tie.Need-dequeue-turn-requires
-dequeue-turn-requires c κs = search needs
+start-dequeue-requires : tie.Need-start-dequeue-requires
+start-dequeue-requires c κs = search needs
+
+finish-requires-2 : tie.Need-finish-requires-2
+finish-requires-2 c κs = search needs
 
 same-length-6 : tie.Need-same-length-6
 same-length-6 c = search needs
@@ -53,13 +59,16 @@ same-length-8 : tie.Need-same-length-8
 same-length-8 c = search needs
 
 returns-3 : tie.Need-returns-3
-returns-3 c = record { answered = rw (c .before .before .before .before .before .before .before .before .before .before .enum-told .given .1) (c .before .before .before .before .before .before .dequeue-turn .ensures) }
+returns-3 c = record { answered = rw (c .before .before .before .before .before .before .before .before .before .before .before .enum-told .given .1) (c .before .before .before .before .finish2 .ensures .turned _ refl refl _ _ (c .before .before .before .before .before .before .before .before .before .start-dequeue .ensures)) }
 
 enum-known-line-3 : tie.Need-enum-known-line-3
 enum-known-line-3 c = search needs
 
-step-turn-requires : tie.Need-step-turn-requires
-step-turn-requires c κs = search needs
+step-requires : tie.Need-step-requires
+step-requires c κs = search needs
+
+finish-requires-3 : tie.Need-finish-requires-3
+finish-requires-3 c κs = search needs
 
 same-length-9 : tie.Need-same-length-9
 same-length-9 c = search needs
@@ -71,7 +80,7 @@ same-length-11 : tie.Need-same-length-11
 same-length-11 c = search needs
 
 returns-4 : tie.Need-returns-4
-returns-4 c = record { answered = rw (c .before .before .before .before .before .before .before .before .before .before .before .line3 .given .1) (c .before .before .before .before .before .before .step-turn .ensures) }
+returns-4 c = record { answered = rw (c .before .before .before .before .before .before .before .before .before .before .before .before .line3 .given .1) (c .before .before .before .before .finish3 .ensures .turned _ refl refl _ _ (c .before .before .before .before .before .before .before .before .before .step .ensures)) }
 
 enum-told-2 : tie.Need-enum-told-2
 enum-told-2 c = search needs
@@ -98,19 +107,22 @@ take-turn-spec =
     same-length-2
     returns
     enum-known-line-2
-    enqueue-turn-requires
+    start-enqueue-requires
+    finish-requires
     same-length-3
     same-length-4
     same-length-5
     returns-2
     enum-told
-    dequeue-turn-requires
+    start-dequeue-requires
+    finish-requires-2
     same-length-6
     same-length-7
     same-length-8
     returns-3
     enum-known-line-3
-    step-turn-requires
+    step-requires
+    finish-requires-3
     same-length-9
     same-length-10
     same-length-11
