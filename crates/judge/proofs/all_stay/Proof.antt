@@ -24,7 +24,7 @@ use contract.Running.{givenOf, tables, tablesOf}
 use types.Kit.{Given, Item, ‵, _⊛_, ⋆, anyQ, atRet, _$_, _∵_, !, qed, by, move, drop, use1, split, split3, join, rewrite, fsplit, fjoin, suffices, frame, done}
 use types.Run.{look, look-raw, init, store, forget, stop, hop, fld, from, load, lit, true-lit, of-opd, bin, and-then, no-more, assigns, assigns-last, land, stays, leaves-loop, returns, enter, params1, pass1, pass0, exec}
 use types.Part.{whole, sub, look-in}
-use sound.WpLaws.{fmOf, WpFn-mono}
+use sound.WpLaws.{fmOf}
 use denote.RattleType.{owns}
 use denote.Laws.{Is, shows}
 use denote.Plain.{Boolean, uint-makes, uint-vals, uint-tells, bool-makes, bool-lawful}
@@ -37,14 +37,13 @@ use denote.Steps.{only, owned, facts, heard, nothing}
 use denote.Struct.Laws as LL
 use denote.Triple.Statement.{Contract, Triple}
 use denote.Triple.Entry.{onEntry}
-use denote.Triple.Spec.{Meets, tripleOf}
-use denote.Triple.Table.{entered, cited}
-use denote.Triple.Walked.{says, needs, Stays, stay-none-slice, stay-none-ref, stay-none, walkOf, goes-none-slice, goes-none-ref, goes-none, Walks, ends-at, walked, walk-meets}
+use denote.Triple.Table.{cited}
+use denote.Triple.Walked.{says, needs, Stays, stay-none-slice, stay-none-ref, stay-none, walkOf, goes-none-slice, goes-none-ref, goes-none, Walks, ends-at, walked}
 use denote.Exit.{yes}
 use Rattle.judge.specs.declared.Call.{Call}
 use Rattle.judge.specs.Working.{noCall, staysAt, allStay}
 use Rattle.judge.proofs.Lending.{slice}
-use Rattle.judge.proofs.Walking.{Entry, Flags, holds, fails, offset-fits, next-fits, typeOf, span, envOf, deaths, allocates, frees-all, By, calls-by, counts}
+use Rattle.judge.proofs.Walking.{Entry, Flags, holds, fails, offset-fits, next-fits, typeOf, span, envOf, deaths, allocates, frees-all, By, calls-by, counts, proves}
 use Rattle.judge.proofs.Call as call
 use Rattle.judge.proofs.Call.Laws as call-laws
 use Rattle.judge.proofs.stays as one
@@ -193,15 +192,11 @@ module _ {M : Type 1} (𝓤 : URA M) (H : Heap 𝓤) (A : Atoms 𝓤) (W : Given
       walk 𝓤 H A W mem run (κs .0) (κs .1 .0) (qs .0) (qs .1 .0) (a .0 .ptr .0) (a .0 .ptr .1) (a .0 .name) (a .0 .now) (a .1 .0 .ptr .0) (a .1 .0 .ptr .1) (a .1 .0 .name) (a .1 .0 .now) (a .1 .1 .0) (are .1 .1 .0 .1) (a .1 .1 .1 .0) (are .1 .1 .1 .0 .1)
       𝓣 known (are .0 .0 .1) enough))
 
-  all-meets : Meets 𝓤 H A all.signature (WpFn 𝓤 H (𝓣 .C) (𝓣 .Λ) code.function) (all.spec 𝓤 H A mem run)
-  all-meets =
-      walk-meets 𝓤 H A all.ended stayed W (goes-none-slice 𝓤 H A W 2 (0 ∷ []) tt (plain (λ _. Entry)) yes, (goes-none-ref 𝓤 H A W 2 (1 ∷ []) tt (plain (λ _. Flags)) yes, (goes-none 𝓤 H A W 2 (λ _. usize) yes (λ κs x f. refl), (goes-none 𝓤 H A W 2 (λ _. u32) yes (λ κs x f. refl), tt))))
-      (all.clauses 𝓤 H A mem run) (WpFn 𝓤 H (𝓣 .C) (𝓣 .Λ) code.function) (WpFn-mono 𝓤 H (W .laws) 𝓣 code.function) all-walks
-
 pub all-stay-spec : {M : Type 1} → stated.statement M
 unfolding code.routine tablesOf
 all-stay-spec 𝓤 H 𝓜 𝓖 𝓡 =
-    entered 𝓤 H (tripleOf 𝓤 H (𝓖 .A) all.signature (all.spec 𝓤 H (𝓖 .A) (𝓜 .mem) (𝓡 .run)))
-    (tables 𝓤 H 𝓜 𝓡 code.env .C) (tables 𝓤 H 𝓜 𝓡 code.env .Λ) #judge·all-stay code.function (code.unfolded 𝓤 H 𝓜 𝓡)
-    (all-meets 𝓤 H (𝓖 .A) (givenOf 𝓤 H 𝓜 𝓖) (𝓜 .mem) (𝓡 .run) (tablesOf 𝓤 H 𝓜 (tables 𝓤 H 𝓜 𝓡 code.env))
-    (cited 𝓤 H (One 𝓤 H (𝓖 .A) (𝓜 .mem) (𝓡 .run)) 𝓜 𝓡 code.env one-def.name one-def.routine code.calls-judge·stays (one-thm.met 𝓤 H 𝓜 𝓖 𝓡)))
+    let A : Atoms 𝓤 = 𝓖 .A in let W : Given 𝓤 H A = givenOf 𝓤 H 𝓜 𝓖 in let mem : Memory → SProp 𝓤 = 𝓜 .mem in let run : Routine → Fun 𝓤 = 𝓡 .run in
+    proves 𝓤 H 𝓜 𝓖 𝓡 all.ended (all.clauses 𝓤 H A mem run) code.env #judge·all-stay code.function (code.unfolded 𝓤 H 𝓜 𝓡)
+    stayed (goes-none-slice 𝓤 H A W 2 (0 ∷ []) tt (plain (λ _. Entry)) yes, (goes-none-ref 𝓤 H A W 2 (1 ∷ []) tt (plain (λ _. Flags)) yes, (goes-none 𝓤 H A W 2 (λ _. usize) yes (λ κs x f. refl), (goes-none 𝓤 H A W 2 (λ _. u32) yes (λ κs x f. refl), tt))))
+    (all-walks 𝓤 H A W mem run (tablesOf 𝓤 H 𝓜 (tables 𝓤 H 𝓜 𝓡 code.env))
+    (cited 𝓤 H (One 𝓤 H A mem run) 𝓜 𝓡 code.env one-def.name one-def.routine code.calls-judge·stays (one-thm.met 𝓤 H 𝓜 𝓖 𝓡)))

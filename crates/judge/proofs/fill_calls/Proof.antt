@@ -24,7 +24,7 @@ use contract.Running.{givenOf, tables, tablesOf}
 use types.Kit.{Given, Item, ‵, _⊛_, ⋆, anyQ, atRet, _$_, _∵_, !, qed, by, move, drop, use1, split, split3, join, rewrite, fsplit, fjoin, feqI, suffices, frame, done}
 use types.Run.{look, init, store, store-raw, forget, stop, hop, fld, from, load, lit, unit-lit, of-opd, bin, and-then, no-more, assigns, assigns-last, land, stays, leaves-loop, returns, enter, params1, pass1, pass0, exec}
 use types.Part.{whole, sub, look-in}
-use sound.WpLaws.{fmOf, WpFn-mono}
+use sound.WpLaws.{fmOf}
 use denote.RattleType.{owns}
 use denote.Shadow.{pureI}
 use denote.Laws.{Is, shows}
@@ -39,15 +39,14 @@ use denote.Steps.{owned, peeks, heard, nothing}
 use denote.Struct.Laws as LL
 use denote.Triple.Statement.{Contract, Triple}
 use denote.Triple.Entry.{onEntry}
-use denote.Triple.Spec.{Meets, tripleOf}
-use denote.Triple.Table.{entered, cited}
-use denote.Triple.Walked.{says, needs, Stays, stay-slice, stay-none-ref, stay-none, walkOf, goes-slice, goes-none-ref, goes-none, Walks, ends-at, walked, walk-meets}
+use denote.Triple.Table.{cited}
+use denote.Triple.Walked.{says, needs, Stays, stay-slice, stay-none-ref, stay-none, walkOf, goes-slice, goes-none-ref, goes-none, Walks, ends-at, walked}
 use denote.Exit.{yes}
 use Rattle.judge.specs.declared.Call.{Call}
 use Rattle.judge.specs.Working.{noCall, entryIn, filled}
 use Rattle.judge.proofs.Filling.{length-filled, one-more}
 use Rattle.judge.proofs.Lending.{slice}
-use Rattle.judge.proofs.Walking.{Entry, Working, holds, fails, offset-fits, next-fits, typeOf, span, envOf, deaths, allocates, frees-all, By, calls-by, counts}
+use Rattle.judge.proofs.Walking.{Entry, Working, holds, fails, offset-fits, next-fits, typeOf, span, envOf, deaths, allocates, frees-all, By, calls-by, counts, proves}
 use Rattle.judge.proofs.Call as call
 use Rattle.judge.proofs.Call.Laws as call-laws
 use Rattle.judge.proofs.entry_of as entry
@@ -188,15 +187,11 @@ module _ {M : Type 1} (𝓤 : URA M) (H : Heap 𝓤) (A : Atoms 𝓤) (W : Given
       walk 𝓤 H A W mem run (κs .0) (κs .1 .0) (qs .0) (qs .1 .0) (a .0 .ptr .0) (a .0 .ptr .1) (a .0 .name) (a .0 .now) (a .1 .0 .ptr .0) (a .1 .0 .ptr .1) (a .1 .0 .name) (a .1 .0 .now) (a .1 .1 .0) (are .1 .1 .0 .1)
       𝓣 known (are .0 .0 .1) enough))
 
-  fill-meets : Meets 𝓤 H A fill.signature (WpFn 𝓤 H (𝓣 .C) (𝓣 .Λ) code.function) (fill.spec 𝓤 H A mem run)
-  fill-meets =
-      walk-meets 𝓤 H A fill.ended stayed W (goes-slice 𝓤 H A W 2 0 tt (plain (λ _. Entry)), (goes-none-ref 𝓤 H A W 2 (1 ∷ []) tt (plain (λ _. Working)) yes, (goes-none 𝓤 H A W 2 (λ _. usize) yes (λ κs x f. refl), tt))) (fill.clauses 𝓤 H A mem run)
-      (WpFn 𝓤 H (𝓣 .C) (𝓣 .Λ) code.function) (WpFn-mono 𝓤 H (W .laws) 𝓣 code.function) fill-walks
-
 pub fill-calls-spec : {M : Type 1} → stated.statement M
 unfolding code.routine tablesOf
 fill-calls-spec 𝓤 H 𝓜 𝓖 𝓡 =
-    entered 𝓤 H (tripleOf 𝓤 H (𝓖 .A) fill.signature (fill.spec 𝓤 H (𝓖 .A) (𝓜 .mem) (𝓡 .run)))
-    (tables 𝓤 H 𝓜 𝓡 code.env .C) (tables 𝓤 H 𝓜 𝓡 code.env .Λ) #judge·fill-calls code.function (code.unfolded 𝓤 H 𝓜 𝓡)
-    (fill-meets 𝓤 H (𝓖 .A) (givenOf 𝓤 H 𝓜 𝓖) (𝓜 .mem) (𝓡 .run) (tablesOf 𝓤 H 𝓜 (tables 𝓤 H 𝓜 𝓡 code.env))
-    (cited 𝓤 H (EntryOf 𝓤 H (𝓖 .A) (𝓜 .mem) (𝓡 .run)) 𝓜 𝓡 code.env entry-def.name entry-def.routine code.calls-judge·entry-of (entry-thm.met 𝓤 H 𝓜 𝓖 𝓡)))
+    let A : Atoms 𝓤 = 𝓖 .A in let W : Given 𝓤 H A = givenOf 𝓤 H 𝓜 𝓖 in let mem : Memory → SProp 𝓤 = 𝓜 .mem in let run : Routine → Fun 𝓤 = 𝓡 .run in
+    proves 𝓤 H 𝓜 𝓖 𝓡 fill.ended (fill.clauses 𝓤 H A mem run) code.env #judge·fill-calls code.function (code.unfolded 𝓤 H 𝓜 𝓡)
+    stayed (goes-slice 𝓤 H A W 2 0 tt (plain (λ _. Entry)), (goes-none-ref 𝓤 H A W 2 (1 ∷ []) tt (plain (λ _. Working)) yes, (goes-none 𝓤 H A W 2 (λ _. usize) yes (λ κs x f. refl), tt)))
+    (fill-walks 𝓤 H A W mem run (tablesOf 𝓤 H 𝓜 (tables 𝓤 H 𝓜 𝓡 code.env))
+    (cited 𝓤 H (EntryOf 𝓤 H A mem run) 𝓜 𝓡 code.env entry-def.name entry-def.routine code.calls-judge·entry-of (entry-thm.met 𝓤 H 𝓜 𝓖 𝓡)))

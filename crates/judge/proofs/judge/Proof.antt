@@ -22,7 +22,7 @@ use contract.Running.{givenOf, tables, tablesOf}
 use types.Kit.{Given, ‵, _⊛_, ⋆, _$_, _∵_, !, qed, by, move, keep, drop, use1, split, split3, rewrite, fsplit}
 use types.Run.{look, init, store, forget, stop, hop, fld, from, load, lit, of-opd, addr, and-then, no-more, assigns, land, returns, enter, params1, pass1, pass0}
 use types.Part.{whole, sub, agg, rep, look-in}
-use sound.WpLaws.{FmC, fmOf, WpFn-mono}
+use sound.WpLaws.{FmC, fmOf}
 use denote.Laws.{Is, shows}
 use denote.Plain.{Boolean, Nothing, uint-makes, uint-lawful, uint-copy, bool-makes, bool-lawful, nothing-lawful}
 use denote.Builtin.{u32, usize}
@@ -32,8 +32,7 @@ use denote.Slice.{sliceVal, Room, finally, slice-vals}
 use denote.Steps.{only, owned, peeks, facts, heard}
 use denote.Enum.Laws as EL
 use denote.Triple.Statement.{Triple}
-use denote.Triple.Spec.{Meets, tripleOf}
-use denote.Triple.Table.{entered as enters, cited}
+use denote.Triple.Table.{cited}
 use Rattle.history.specs.Form.{read as reading}
 use Rattle.reading.specs.Steps.{Read}
 use Rattle.marking.specs.Marks.{Marks}
@@ -199,15 +198,11 @@ module _ {M : Type 1} (𝓤 : URA M) (H : Heap 𝓤) (A : Atoms 𝓤) (W : Given
         move ! (6 ∷ 7 ∷ 8 ∷ 4 ∷ 9 ∷ 10 ∷ 1 ∷ span 11 35) $ frees-all ! (code.function .locals) l {Γ = ‵ (verdict.the-row .own y (v₇ ∷ [])) ∷ ‵ (flft κ′ q′) ∷ ‵ (finally Entry (name x) zs) ∷ ‵ (flft κ q) ∷ []} $ keep ! (0 ∷ 2 ∷ 3 ∷ 1 ∷ []) $
         by ! (exits 𝓤 H A W verdict.the-row (judge.clauses 𝓤 H A mem run) κ κ′ q q′ h x tt y v₇ zs long (factI 𝓤 _ _ (concludes hs ys m e n is-read count f r is-marked zs is-filled i k t y tested-is mark-is test-is verdict-is)))))))))))))))))))))))))))))))))))))
 
-  judge-meets : Meets 𝓤 H A judge.signature (WpFn 𝓤 H (𝓣 .C) (𝓣 .Λ) code.function) (judge.spec 𝓤 H A mem run)
-  judge-meets = meets 𝓤 H A W verdict.the-row (judge.clauses 𝓤 H A mem run) (WpFn 𝓤 H (𝓣 .C) (𝓣 .Λ) code.function) (WpFn-mono 𝓤 H (W .laws) 𝓣 code.function) (λ κ κ′ q q′ h x g. walk κ κ′ q q′ h x)
-
 pub judge-spec : {M : Type 1} → stated.statement M
 unfolding code.routine tablesOf
 judge-spec 𝓤 H 𝓜 𝓖 𝓡 =
     let A : Atoms 𝓤 = 𝓖 .A in let mem : Memory → SProp 𝓤 = 𝓜 .mem in let run : Routine → Fun 𝓤 = 𝓡 .run in
-    enters 𝓤 H (tripleOf 𝓤 H A judge.signature (judge.spec 𝓤 H A mem run)) (tables 𝓤 H 𝓜 𝓡 code.env .C) (tables 𝓤 H 𝓜 𝓡 code.env .Λ) #judge·judge code.function (code.unfolded 𝓤 H 𝓜 𝓡)
-    (judge-meets 𝓤 H A (givenOf 𝓤 H 𝓜 𝓖) mem run (tablesOf 𝓤 H 𝓜 (tables 𝓤 H 𝓜 𝓡 code.env)) (record {
+    let known : Known 𝓤 H A mem run (tablesOf 𝓤 H 𝓜 (tables 𝓤 H 𝓜 𝓡 code.env)) = record {
       reads = cited 𝓤 H (By 𝓤 H A read.ended (read.clauses 𝓤 H A mem run)) 𝓜 𝓡 code.env read-def.name read-def.routine code.calls-reading·read (read-thm.met 𝓤 H 𝓜 𝓖 𝓡);
       counts = cited 𝓤 H (By 𝓤 H A calls.ended (calls.clauses 𝓤 H A mem run)) 𝓜 𝓡 code.env calls-def.name calls-def.routine code.calls-judge·calls-of (calls-thm.met 𝓤 H 𝓜 𝓖 𝓡);
       fills = cited 𝓤 H (By 𝓤 H A fill.ended (fill.clauses 𝓤 H A mem run)) 𝓜 𝓡 code.env fill-def.name fill-def.routine code.calls-judge·fill-calls (fill-thm.met 𝓤 H 𝓜 𝓖 𝓡);
@@ -216,4 +211,5 @@ judge-spec 𝓤 H 𝓜 𝓖 𝓡 =
       takes-mark = cited 𝓤 H (By 𝓤 H A mark.ended (mark.clauses 𝓤 H A mem run)) 𝓜 𝓡 code.env mark-def.name mark-def.routine code.calls-judge·mark-of (mark-thm.met 𝓤 H 𝓜 𝓖 𝓡);
       tests = cited 𝓤 H (By 𝓤 H A test.ended (test.clauses 𝓤 H A mem run)) 𝓜 𝓡 code.env test-def.name test-def.routine code.calls-judge·all-stay (test-thm.met 𝓤 H 𝓜 𝓖 𝓡);
       decides = cited 𝓤 H (By 𝓤 H A decide.ended (decide.clauses 𝓤 H A mem run)) 𝓜 𝓡 code.env decide-def.name decide-def.routine code.calls-judge·verdict-of (decide-thm.met 𝓤 H 𝓜 𝓖 𝓡);
-    }))
+    } in
+    meets 𝓤 H 𝓜 𝓖 𝓡 verdict.the-row (judge.clauses 𝓤 H A mem run) code.env #judge·judge code.function (code.unfolded 𝓤 H 𝓜 𝓡) (λ κ κ′ q q′ h x g. walk 𝓤 H A (givenOf 𝓤 H 𝓜 𝓖) mem run (tablesOf 𝓤 H 𝓜 (tables 𝓤 H 𝓜 𝓡 code.env)) known κ κ′ q q′ h x)

@@ -24,7 +24,7 @@ use types.Part.{agg, rep}
 use types.Tokens.{lft-new, lft-end}
 use types.SemTy.{Arr, cells}
 use types.Share.{arr-parts}
-use sound.WpLaws.{fmOf, WpFn-mono}
+use sound.WpLaws.{fmOf}
 use denote.RattleType.{RattleType, owns}
 use denote.Laws.{Is, shows}
 use denote.Memory.{partAt, mem, shares}
@@ -41,9 +41,8 @@ use denote.Struct.Laws as LL
 use denote.Enum.Laws as EL
 use denote.Triple.Statement.{Triple}
 use denote.Triple.Entry.{onEntry}
-use denote.Triple.Spec.{Meets, tripleOf}
-use denote.Triple.Table.{entered, cited}
-use denote.Triple.Walked.{says, Stays, stay-dropped, walkOf, goes-dropped, Walks, ends-at, walked, walk-meets}
+use denote.Triple.Table.{cited}
+use denote.Triple.Walked.{says, Stays, stay-dropped, walkOf, goes-dropped, Walks, ends-at, walked}
 use denote.Exit.{yes}
 use borrow.Table.OneValue.{part-in, part-out}
 use Rattle.history.specs.Form.{read}
@@ -55,7 +54,7 @@ use Rattle.judge.proofs.Call as call
 use Rattle.judge.proofs.Call.Laws as call-laws
 use Rattle.judge.proofs.Verdict as verdict
 use Rattle.judge.proofs.Verdict.Laws as verdict-laws
-use Rattle.judge.proofs.Walking.{Entry, typeOf, span, big-lit, allocates, frees-all, By, calls-by}
+use Rattle.judge.proofs.Walking.{Entry, typeOf, span, big-lit, allocates, frees-all, By, calls-by, proves}
 use Rattle.judge.proofs.judge as judge
 use Rattle.judge.proofs.judge.Symbol as judge-def
 use Rattle.judge.proofs.judge.Met as judge-thm
@@ -141,15 +140,11 @@ module _ {M : Type 1} (𝓤 : URA M) (H : Heap 𝓤) (A : Atoms 𝓤) (W : Given
       (λ κs qs bounds a g are. via 𝓤 _ (fst∗ 𝓤 _ (emp 𝓤))
       (walk (κs .0) (qs .0) (a .0) (are .0 .0 .1)))
 
-  alone-meets : Meets 𝓤 H A alone.signature (WpFn 𝓤 H (𝓣 .C) (𝓣 .Λ) code.function) (alone.spec 𝓤 H A mem′ run)
-  alone-meets =
-      walk-meets 𝓤 H A alone.ended stayed W (goes-dropped 𝓤 H A W 1 (shrSliceOf (0 ∷ []) tt (plain (λ _. u32))) yes (λ κs x f. refl), tt) (alone.clauses 𝓤 H A mem′ run)
-      (WpFn 𝓤 H (𝓣 .C) (𝓣 .Λ) code.function) (WpFn-mono 𝓤 H (W .laws) 𝓣 code.function) alone-walks
-
 pub judge-alone-spec : {M : Type 1} → stated.statement M
 unfolding code.routine tablesOf
 judge-alone-spec 𝓤 H 𝓜 𝓖 𝓡 =
-    entered 𝓤 H (tripleOf 𝓤 H (𝓖 .A) alone.signature (alone.spec 𝓤 H (𝓖 .A) (𝓜 .mem) (𝓡 .run)))
-    (tables 𝓤 H 𝓜 𝓡 code.env .C) (tables 𝓤 H 𝓜 𝓡 code.env .Λ) #judge·judge-alone code.function (code.unfolded 𝓤 H 𝓜 𝓡)
-    (alone-meets 𝓤 H (𝓖 .A) (givenOf 𝓤 H 𝓜 𝓖) (𝓜 .mem) (𝓡 .run) (tablesOf 𝓤 H 𝓜 (tables 𝓤 H 𝓜 𝓡 code.env))
-    (cited 𝓤 H (By 𝓤 H (𝓖 .A) judge.ended (judge.clauses 𝓤 H (𝓖 .A) (𝓜 .mem) (𝓡 .run))) 𝓜 𝓡 code.env judge-def.name judge-def.routine code.calls-judge·judge (judge-thm.met 𝓤 H 𝓜 𝓖 𝓡)))
+    let A : Atoms 𝓤 = 𝓖 .A in let W : Given 𝓤 H A = givenOf 𝓤 H 𝓜 𝓖 in let mem′ : Memory → SProp 𝓤 = 𝓜 .mem in let run : Routine → Fun 𝓤 = 𝓡 .run in
+    proves 𝓤 H 𝓜 𝓖 𝓡 alone.ended (alone.clauses 𝓤 H A mem′ run) code.env #judge·judge-alone code.function (code.unfolded 𝓤 H 𝓜 𝓡)
+    stayed (goes-dropped 𝓤 H A W 1 (shrSliceOf (0 ∷ []) tt (plain (λ _. u32))) yes (λ κs x f. refl), tt)
+    (alone-walks 𝓤 H A W mem′ run (tablesOf 𝓤 H 𝓜 (tables 𝓤 H 𝓜 𝓡 code.env))
+    (cited 𝓤 H (By 𝓤 H A judge.ended (judge.clauses 𝓤 H A mem′ run)) 𝓜 𝓡 code.env judge-def.name judge-def.routine code.calls-judge·judge (judge-thm.met 𝓤 H 𝓜 𝓖 𝓡)))

@@ -18,7 +18,7 @@ use contract.Running.{givenOf, tables, tablesOf}
 use types.Kit.{Given, ⋆, _$_, _∵_, !, qed, by, move, keep, drop, split3, fsplit, feqL}
 use types.Run.{look, init, forget, stop, hop, fld, from, load, addr, and-then, no-more, assigns, land, returns, enter, params1, pass1, pass0}
 use types.Part.{whole, sub, agg, look-in}
-use sound.WpLaws.{FmC, fmOf, WpFn-mono}
+use sound.WpLaws.{FmC, fmOf}
 use denote.Laws.{Is, shows}
 use denote.Plain.{uint-lawful}
 use denote.Builtin.{u32}
@@ -27,8 +27,7 @@ use denote.Slice.{sliceVal, Room, slice-vals}
 use denote.Steps.{peeks, heard}
 use denote.Enum.Laws as EL
 use denote.Triple.Statement.{Triple}
-use denote.Triple.Spec.{Meets, tripleOf}
-use denote.Triple.Table.{entered, cited}
+use denote.Triple.Table.{cited}
 use Rattle.judge.specs.declared.Call.{Call}
 use Rattle.judge.specs.Answer.{Judges}
 use Rattle.judge.proofs.Verdict as verdict
@@ -81,15 +80,12 @@ module _ {M : Type 1} (𝓤 : URA M) (H : Heap 𝓤) (A : Atoms 𝓤) (W : Given
         move ! (span 8 12) $ frees-all ! (code.function .locals) l $ keep ! (2 ∷ 0 ∷ 4 ∷ 5 ∷ []) $
         by ! (exits 𝓤 H A W u32 (reply.clauses 𝓤 H A mem run) κ κ′ q q′ h x tt n v zs long (factI 𝓤 _ _ (record { replies = e ∙ ap numberOf (judged .replies); fills = judged .fills })))))))))))
 
-  reply-meets : Meets 𝓤 H A reply.signature (WpFn 𝓤 H (𝓣 .C) (𝓣 .Λ) code.function) (reply.spec 𝓤 H A mem run)
-  reply-meets = meets 𝓤 H A W u32 (reply.clauses 𝓤 H A mem run) (WpFn 𝓤 H (𝓣 .C) (𝓣 .Λ) code.function) (WpFn-mono 𝓤 H (W .laws) 𝓣 code.function) (λ κ κ′ q q′ h x g. walk κ κ′ q q′ h x)
-
 pub judge-history-spec : {M : Type 1} → stated.statement M
 unfolding code.routine tablesOf
 judge-history-spec 𝓤 H 𝓜 𝓖 𝓡 =
     let A : Atoms 𝓤 = 𝓖 .A in let mem : Memory → SProp 𝓤 = 𝓜 .mem in let run : Routine → Fun 𝓤 = 𝓡 .run in
-    entered 𝓤 H (tripleOf 𝓤 H A reply.signature (reply.spec 𝓤 H A mem run)) (tables 𝓤 H 𝓜 𝓡 code.env .C) (tables 𝓤 H 𝓜 𝓡 code.env .Λ) #judge-c·judge-history code.function (code.unfolded 𝓤 H 𝓜 𝓡)
-    (reply-meets 𝓤 H A (givenOf 𝓤 H 𝓜 𝓖) mem run (tablesOf 𝓤 H 𝓜 (tables 𝓤 H 𝓜 𝓡 code.env)) (record {
+    let known : Known 𝓤 H A mem run (tablesOf 𝓤 H 𝓜 (tables 𝓤 H 𝓜 𝓡 code.env)) = record {
       judges = cited 𝓤 H (By 𝓤 H A judge.ended (judge.clauses 𝓤 H A mem run)) 𝓜 𝓡 code.env judge-def.name judge-def.routine code.calls-judge·judge (judge-thm.met 𝓤 H 𝓜 𝓖 𝓡);
       numbers = cited 𝓤 H (By 𝓤 H A number.ended (number.clauses 𝓤 H A mem run)) 𝓜 𝓡 code.env number-def.name number-def.routine code.calls-judge-c·number-of (number-thm.met 𝓤 H 𝓜 𝓖 𝓡);
-    }))
+    } in
+    meets 𝓤 H 𝓜 𝓖 𝓡 u32 (reply.clauses 𝓤 H A mem run) code.env #judge-c·judge-history code.function (code.unfolded 𝓤 H 𝓜 𝓡) (λ κ κ′ q q′ h x g. walk 𝓤 H A (givenOf 𝓤 H 𝓜 𝓖) mem run (tablesOf 𝓤 H 𝓜 (tables 𝓤 H 𝓜 𝓡 code.env)) known κ κ′ q q′ h x)
