@@ -1,6 +1,7 @@
 -- The consumer's step on two stores alike, phases 1 to 7: answers alike. From what the stores share of linked records, the only
 -- ones that the consumer comes to.
 use mathlib.Core.Path.{_≡_, refl, ap}
+use mathlib.Core.Bool.{cond}
 use mathlib.Core.List.{List, [], _∷_}
 use Prim.Native.Nat.{ℕ, zero, suc}
 use native.Mathlib.Omega.{arith}
@@ -68,6 +69,11 @@ module _ {z : Sizes} {σ τ : Reader} (pair : Twins z σ τ) where
   at-cursor : (k k′ : ℕ → Answer) → ((r : ℕ) → σ (used r) ≡ 2 → Like z σ τ (k r) (k′ (f r))) → Like z σ τ (need (σ cursorRecord) k) (need (τ cursorRecord) k′)
   at-cursor k k′ each = by-need (pair .stores) (σ cursorRecord) (τ cursorRecord) k k′ (a .words cursorRecord tt) (λ r q. each r (cursor-linked m r q))
 
+  -- at the end of the cursor's record, or not
+  at-cursor-end : (k k′ j j′ : ℕ → Answer) → ((r : ℕ) → σ (used r) ≡ 2 → Like z σ τ (k r) (k′ (f r))) → ((r : ℕ) → σ (used r) ≡ 2 → Like z σ τ (j r) (j′ (f r)))
+      → Like z σ τ (need (σ cursorRecord) (λ r. cond (atEnd z σ r (σ cursorPosition)) (k r) (j r))) (need (τ cursorRecord) (λ r. cond (atEnd z τ r (τ cursorPosition)) (k′ r) (j′ r)))
+  at-cursor-end k k′ j j′ ends goes-on = at-cursor _ _ (λ r u. by-cond _ _ (end-same r u _ _ cursor-same) (λ b. ends r u) (λ b. goes-on r u))
+
   at-found : (k k′ : ℕ → Answer) → ((r : ℕ) → σ (used r) ≡ 2 → Like z σ τ (k r) (k′ (f r))) → Like z σ τ (need (σ foundRecord) k) (need (τ foundRecord) k′)
   at-found k k′ each = by-need (pair .stores) (σ foundRecord) (τ foundRecord) k k′ (a .words foundRecord tt) (λ r q. each r (found-linked m r q))
 
@@ -110,19 +116,17 @@ module _ {z : Sizes} {σ τ : Reader} (pair : Twins z σ τ) where
   pub scan-alike : Like z σ τ (scan z σ) (scan z τ)
   unfolding scan
   scan-alike =
-      at-cursor _ _
+      at-cursor-end _ _ _ _
       (λ r u.
-      by-cond (atEnd z σ r (σ cursorPosition)) (atEnd z τ (f r) (τ cursorPosition)) (end-same r u _ _ cursor-same)
-      (λ b.
       by-cond (eqb (σ tailRecord) (suc r)) (eqb (τ tailRecord) (suc (f r))) (tail-test pair r)
       (λ c. ends-empty)
       (λ c.
       crosses r (λ n p. goes (cursorRecord := suc n ∷ cursorPosition := p ∷ [])) (λ n p. goes (cursorRecord := suc n ∷ cursorPosition := p ∷ [])) u
       (λ n p l. by-plain (pair .stores) going (cursorRecord := suc n ∷ cursorPosition := p ∷ []) _ refl (λ s w. w) (λ t s e. e))))
-      (λ b.
+      (λ r u.
       by-cond (eqb (σ cursorPosition) (σ tail)) (eqb (τ cursorPosition) (τ tail)) (rw (cursor-same, tail-same) refl)
       (λ c. ends-empty)
-      (λ c. by-plain (pair .stores) going (consumerPhase := 4 ∷ []) _ refl (λ s w. w) (λ t s e. e))))
+      (λ c. by-plain (pair .stores) going (consumerPhase := 4 ∷ []) _ refl (λ s w. w) (λ t s e. e)))
 
   -- 4. Read the entry.
   pub read-entry-alike : Like z σ τ (readEntry z σ) (readEntry z τ)
@@ -156,10 +160,8 @@ module _ {z : Sizes} {σ τ : Reader} (pair : Twins z σ τ) where
   pub rescan-alike : Like z σ τ (rescan z σ) (rescan z τ)
   unfolding rescan
   rescan-alike =
-      at-cursor _ _
+      at-cursor-end _ _ _ _
       (λ r u.
-      by-cond (atEnd z σ r (σ cursorPosition)) (atEnd z τ (f r) (τ cursorPosition)) (end-same r u _ _ cursor-same)
-      (λ b.
       crosses r
       (λ n p. rescanned z σ p (σ foundPosition) (cursorRecord := suc n ∷ cursorPosition := p ∷ []) [])
       (λ n p. rescanned z τ p (τ foundPosition) (cursorRecord := suc n ∷ cursorPosition := p ∷ []) []) u
@@ -167,7 +169,7 @@ module _ {z : Sizes} {σ τ : Reader} (pair : Twins z σ τ) where
       by-cond (eqb p (σ foundPosition)) (eqb p (τ foundPosition)) (rw found-same refl)
       (λ c. by-plain (pair .stores) going toItem _ refl (λ s w. w) (λ t s e. e))
       (λ c. by-plain (pair .stores) going (cursorRecord := suc n ∷ cursorPosition := p ∷ []) _ refl (λ s w. w) (λ t s e. e))))
-      (λ b.
+      (λ r u.
       by-inside r (f r) (σ cursorPosition) (τ cursorPosition) (place-same r u) cursor-same
       (λ i.
       by-cond (eqb (σ (state r i)) 1) (eqb (τ (state (f r) i)) 1) (rw (state-same r u i) refl)
@@ -180,7 +182,7 @@ module _ {z : Sizes} {σ τ : Reader} (pair : Twins z σ τ) where
       (by-cond (eqb (suc (σ cursorPosition)) (σ foundPosition)) (eqb (suc (τ cursorPosition)) (τ foundPosition)) (rw (cursor-same, found-same) refl)
       (λ d. by-plain (pair .stores) going toItem toItem refl (λ s w. w) (λ t s e. e))
       (λ d.
-      by-plain (pair .stores) going (cursorPosition := suc (σ cursorPosition) ∷ []) (cursorPosition := suc (τ cursorPosition) ∷ []) (rw cursor-same refl) (λ s w. w) (λ t s e. e)))))))
+      by-plain (pair .stores) going (cursorPosition := suc (σ cursorPosition) ∷ []) (cursorPosition := suc (τ cursorPosition) ∷ []) (rw cursor-same refl) (λ s w. w) (λ t s e. e))))))
 
   -- 6. Read call number and value.
   pub read-item-alike : Like z σ τ (readItem z σ) (readItem z τ)
