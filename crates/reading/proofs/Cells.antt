@@ -92,7 +92,6 @@ module _ (m : List ℕ) (i k t n v : ℕ) (size : length m ≡ 28672) (room : i 
   ending = (8192 + i, k) ∷ (12288 + i, n) ∷ (24576 + i, v) ∷ (t, 0) ∷ []
 
   pub ended-is : Ended m (ended m i k t n v) i k t n v
-  unfolding ended
   ended-is = record {
     size = length-written m ending;
     old = λ q j a b l d. kept m ending (4096 * q + j) (omega arith);

@@ -46,7 +46,7 @@ begun m c k t n v =
     (max (topOf m) n)
 
 -- the memory with call i ended at event k
-unfoldable pub ended : List ℕ → (i k thread number value : ℕ) → List ℕ
+abbrev pub ended : List ℕ → (i k thread number value : ℕ) → List ℕ
 ended m i k t n v = set (set (set (set m (8192 + i) k) (12288 + i) n) (24576 + i) v) t 0
 
 -- Whether an end repeats the number and value of call i; a dequeue has nothing to repeat.
