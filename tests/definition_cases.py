@@ -608,7 +608,7 @@ use Rattle.rules.specs.Free.{free, lowestFree}
 use Rattle.rules.specs.Rule.{Response}
 use Rattle.rules.specs.Producer.{takePosition, loadTail, lookNext, claimRecord, linkClaimed, shiftTail, goBack, writeEntry, setEntry, claimAhead, linkAhead, producerStep}
 use Rattle.rules.specs.Consumer.{front, readTail, scan, readEntry, rescan, readItem, markHandled, consumerStep}
-use Rattle.rules.specs.Request.{Request, Result, applied, opened, open-store, startingEnqueue, startingDequeue, stepping, answer, sizesOf, admitted, result}
+use Rattle.rules.specs.Request.{Request, Result, applied, opened, open-store, startingEnqueue, startingDequeue, stepping, effect, sizesOf, admitted, result}
 use Rattle.rules.specs.Play.{Played, play, itemsLeft}
 
 -- an open of lent words, and requests after it
@@ -654,7 +654,7 @@ call s = made-on (s .words) (s .made)
 """
 STORE = STORE.replace(
     'UNFOLDED',
-    'result admitted applied answer startingEnqueue startingDequeue stepping open-store opened reader writes inRange '
+    'result admitted applied effect startingEnqueue startingDequeue stepping open-store opened reader writes inRange '
     'free lowestFree takePosition loadTail lookNext claimRecord linkClaimed shiftTail goBack writeEntry setEntry '
     'claimAhead linkAhead producerStep front readTail scan readEntry rescan readItem markHandled consumerStep',
 )

@@ -12,7 +12,7 @@ use Rattle.history.specs.Event.{mostProducers}
 use Rattle.rules.specs.Sizes.{Sizes, between, sizesInRange, storeWords, contentWords, mostEntries, mostRecords, mostStarts}
 use Rattle.rules.specs.Cell.{Reader, reader}
 use Rattle.rules.specs.Range.{inRange}
-use Rattle.rules.specs.Rule.{Answer, refuse}
+use Rattle.rules.specs.Rule.{Effect, refuse}
 use Rattle.rules.specs.Request.{sizesOf, admitted}
 use Rattle.rules.specs.Update.{both}
 use Rattle.rules.specs.InRange.{range-has}
@@ -69,7 +69,7 @@ module _ (m : List ℕ) where
         rw (le-ltb (length m) contentWords l, subst (λ (y : Sizes). sizesInRange y ≡ true) e s, subst (λ (y : Sizes). ltb (length m) (storeWords y) ≡ false) e (le-ltb (length m) (storeWords z) h), subst (λ (y : Sizes). inRange y (reader y m) ≡ b) e r) refl
 
 -- a call on words that are refused, whatever it is
-pub refused-by : (m : List ℕ) (f : Sizes → Reader → Answer) (n : ℕ) → refusal m ≡ n → (n ≡ 0 → ⊥) → admitted m f ≡ refuse n
+pub refused-by : (m : List ℕ) (f : Sizes → Reader → Effect) (n : ℕ) → refusal m ≡ n → (n ≡ 0 → ⊥) → admitted m f ≡ refuse n
 unfolding refusal admitted
 refused-by m f n e h =
     go (ltb (length m) contentWords) (sizesInRange (sizesOf m)) (ltb (length m) (storeWords (sizesOf m))) (inRange (sizesOf m) (reader (sizesOf m) m)) e
@@ -100,7 +100,7 @@ admitted-by m e =
           ranges = range-has (sizesOf m) (reader (sizesOf m) m) r;
         }
 
-pub goes-on : (m : List ℕ) (f : Sizes → Reader → Answer) → refusal m ≡ 0 → admitted m f ≡ f (sizesOf m) (reader (sizesOf m) m)
+pub goes-on : (m : List ℕ) (f : Sizes → Reader → Effect) → refusal m ≡ 0 → admitted m f ≡ f (sizesOf m) (reader (sizesOf m) m)
 unfolding refusal admitted
 goes-on m f e =
     go (ltb (length m) contentWords) (sizesInRange (sizesOf m)) (ltb (length m) (storeWords (sizesOf m))) (inRange (sizesOf m) (reader (sizesOf m) m)) e

@@ -6,7 +6,7 @@ use Prim.Native.Nat.{ℕ, suc, _*_}
 use lib.Dec.{leb}
 use Rattle.rules.specs.Sizes.{Sizes}
 use Rattle.rules.specs.Cell.{Reader, reader, _:=_, headRecord, headPosition, cursorRecord, cursorPosition, place, next, used}
-use Rattle.rules.specs.Rule.{Answer, refuse, goes, need}
+use Rattle.rules.specs.Rule.{Effect, refuse, goes, need}
 use Rattle.dequeue.specs.declared.Crossing.{Crossing}
 use Rattle.dequeue.specs.declared.Crossing.the-variants.{None, To}
 
@@ -22,7 +22,7 @@ pub record CrossesTo (z : Sizes) (σ : Reader) (r l p : ℕ) : Type 0 where
 
 -- It does not: refusal 9, whatever would follow.
 pub record CrossesNowhere (z : Sizes) (σ : Reader) (r : ℕ) : Type 0 where
-  pub refused : (a : ℕ → ℕ → Answer) → need (σ (next r)) (λ n. need (σ (place n)) λ q. cond (leb (z .B * q) (z .M)) (a n q) (refuse 9)) ≡ refuse 9
+  pub refused : (a : ℕ → ℕ → Effect) → need (σ (next r)) (λ n. need (σ (place n)) λ q. cond (leb (z .B * q) (z .M)) (a n q) (refuse 9)) ≡ refuse 9
 
 abbrev pub Crosses : Sizes → Reader → ℕ → Crossing → Type 0
 Crosses z σ r None = CrossesNowhere z σ r
@@ -32,9 +32,9 @@ pub record Crossed (z : Sizes) (m : List ℕ) (r : ℕ) (x : Crossing) : Type 0 
   pub crosses : Crosses z (reader z m) r x
 
 -- phase 1, the head at the end of its record h
-abbrev pub toHead : (h n p : ℕ) → Answer
+abbrev pub toHead : (h n p : ℕ) → Effect
 toHead h n p = goes (headRecord := suc n ∷ headPosition := p ∷ used h := 3 ∷ [])
 
 -- phase 3, crossing
-abbrev pub toCursor : (n p : ℕ) → Answer
+abbrev pub toCursor : (n p : ℕ) → Effect
 toCursor n p = goes (cursorRecord := suc n ∷ cursorPosition := p ∷ [])

@@ -11,7 +11,7 @@ use Rattle.rules.specs.Free.{Picker, lowestFree}
 use Rattle.rules.specs.Rule.{refuse}
 use Rattle.rules.specs.Producer.{producerRules, producerStep}
 use Rattle.rules.specs.Consumer.{consumerRules, consumerStep}
-use Rattle.rules.specs.Request.{Request, Result, applied, stepping, answer, result, sizesOf}
+use Rattle.rules.specs.Request.{Request, Result, applied, stepping, effect, result, sizesOf}
 use Rattle.store.specs.declared.Shape.{Shape}
 use Rattle.store.specs.declared.Consumer.{Consumer}
 use Rattle.store.specs.declared.Producer.{Producer}
@@ -27,14 +27,14 @@ module _ (pick : Picker) (q : Request) (m : List ℕ) where
   -- the words are refused
   pub call-refused : (n : ℕ) → refusal m ≡ n → (n ≡ 0 → ⊥) → left (Refused n) m ≡ result pick q m
   unfolding result applied
-  call-refused n e h = ap (applied (sizesOf m) m) (sym (refused-by m (answer pick q) n e h))
+  call-refused n e h = ap (applied (sizesOf m) m) (sym (refused-by m (effect pick q) n e h))
 
   -- they are admitted, and the call's own rule answers
-  pub call-answered : (l : Result) (z : Shape) → sizes z ≡ sizesOf m → refusal m ≡ 0 → l ≡ does (answer pick q) z m → l ≡ result pick q m
+  pub call-answered : (l : Result) (z : Shape) → sizes z ≡ sizesOf m → refusal m ≡ 0 → l ≡ does (effect pick q) z m → l ≡ result pick q m
   unfolding result
   call-answered l z s e a =
-      a ∙ subst (λ (y : Sizes). applied (sizes z) m (answer pick q (sizes z) (reader (sizes z) m)) ≡ applied y m (answer pick q y (reader y m))) s refl
-      ∙ ap (applied (sizesOf m) m) (sym (goes-on m (answer pick q) e))
+      a ∙ subst (λ (y : Sizes). applied (sizes z) m (effect pick q (sizes z) (reader (sizes z) m)) ≡ applied y m (effect pick q y (reader y m))) s refl
+      ∙ ap (applied (sizesOf m) m) (sym (goes-on m (effect pick q) e))
 
 -- the code's sizes are admitted with the words
 pub admitted-as : (z : Shape) (m : List ℕ) → sizes z ≡ sizesOf m → refusal m ≡ 0 → Admitted (sizes z) m

@@ -98,8 +98,9 @@ pub fn shift_tail(s: &mut [u32], z: Shape, t: u32) -> Reply
     if held == 0 {
         return Reply::Refused(9);
     }
+    let to = phase::LOAD;
     if read_contents(s, z).tail_record != held {
-        put_producer(s, z, t, word::PHASE, phase::LOAD);
+        put_producer(s, z, t, word::PHASE, to);
         return Reply::Going;
     }
     let next = part(s, z, held - 1, word::NEXT);
@@ -107,7 +108,7 @@ pub fn shift_tail(s: &mut [u32], z: Shape, t: u32) -> Reply
         return Reply::Refused(9);
     }
     put_content(s, z, word::TAIL_RECORD, next);
-    put_producer(s, z, t, word::PHASE, phase::LOAD);
+    put_producer(s, z, t, word::PHASE, to);
     Reply::Going
 }
 

@@ -8,16 +8,16 @@ use Rattle.history.specs.Event.{History}
 use Rattle.rules.specs.Sizes.{Sizes}
 use Rattle.rules.specs.Cell.{reader}
 use Rattle.rules.specs.Free.{Picker, Picks}
-use Rattle.rules.specs.Rule.{Answer, refuse, reply, Response, refused, accepted}
-use Rattle.rules.specs.Request.{Request, Result, applied, answer, result, open-store}
+use Rattle.rules.specs.Rule.{Effect, refuse, reply, Response, refused, accepted}
+use Rattle.rules.specs.Request.{Request, Result, applied, effect, result, open-store}
 use Rattle.rules.specs.Play.{Played, events, playOne, play}
 use Rattle.rules.specs.Readback.{reader-writes}
 use Rattle.simulation.specs.Good.{Fine}
-use Rattle.simulation.specs.Every.{answer-fine}
+use Rattle.simulation.specs.Every.{effect-fine}
 use Rattle.ordering.specs.Theorem.{Maintained, result-is, keeps, opened-kept}
 use Rattle.renaming.specs.Renaming.{unchanged}
 use Rattle.renaming.specs.Alike.{alike-itself}
-use Rattle.renaming.specs.AlikeAnswers.{Stores, Like}
+use Rattle.renaming.specs.AlikeEffects.{Stores, Like}
 use Rattle.renaming.specs.AlikeRecords.{Twins}
 use Rattle.renaming.specs.AlikeEvery.{answer-alike}
 use Rattle.ordering.specs.Choice.{SameReplies, No-Reply-Depends}
@@ -36,7 +36,7 @@ record Both (z : Sizes) (r r′ : Result) : Type 0 where
 
 -- One call.
 module _ {z : Sizes} {p p′ : Played} (k : Together z p p′) (pick pick′ : Picker) (right : Picks pick) (right′ : Picks pick′) (q : Request) where
-  by-answers : (x y : Answer) → Fine z (reader z (p .words)) (k .first .beside) q x → Fine z (reader z (p′ .words)) (k .second .beside) q y
+  by-answers : (x y : Effect) → Fine z (reader z (p .words)) (k .first .beside) q x → Fine z (reader z (p′ .words)) (k .second .beside) q y
       → Like z (reader z (p .words)) (reader z (p′ .words)) x y → Both z (applied z (p .words) x) (applied z (p′ .words) y)
   unfolding applied
   by-answers (refuse n) (refuse m) f g l = record { reply-same = ap refused (l .answers); stores = k .stores }
@@ -66,9 +66,9 @@ module _ {z : Sizes} {p p′ : Played} (k : Together z p p′) (pick pick′ : P
   results : Both z (result pick q (p .words)) (result pick′ q (p′ .words))
   results =
       rw (result-is (k .first) pick right q, result-is (k .second) pick′ right′ q)
-      (by-answers (answer pick q z (reader z (p .words))) (answer pick′ q z (reader z (p′ .words)))
-      (answer-fine z (reader z (p .words)) (k .first .beside) (k .first .good) pick right q)
-      (answer-fine z (reader z (p′ .words)) (k .second .beside) (k .second .good) pick′ right′ q)
+      (by-answers (effect pick q z (reader z (p .words))) (effect pick′ q z (reader z (p′ .words)))
+      (effect-fine z (reader z (p .words)) (k .first .beside) (k .first .good) pick right q)
+      (effect-fine z (reader z (p′ .words)) (k .second .beside) (k .second .good) pick′ right′ q)
       (answer-alike twins pick pick′ right right′ q))
 
   goes-on : Together z (playOne pick q p) (playOne pick′ q p′)

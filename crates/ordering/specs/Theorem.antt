@@ -14,8 +14,8 @@ use Rattle.criterion.specs.Order.{order}
 use Rattle.rules.specs.Sizes.{Sizes, sizesInRange, storeWords}
 use Rattle.rules.specs.Cell.{Reader, reader}
 use Rattle.rules.specs.Free.{Picker, Picks}
-use Rattle.rules.specs.Rule.{Answer, refuse, reply, refused, accepted, ok}
-use Rattle.rules.specs.Request.{Request, Result, applied, answer, result, open-store, opened}
+use Rattle.rules.specs.Rule.{Effect, refuse, reply, refused, accepted, ok}
+use Rattle.rules.specs.Request.{Request, Result, applied, effect, result, open-store, opened}
 use Rattle.rules.specs.Play.{Played, replyEvents, events, playOne, play}
 use Rattle.rules.specs.Readback.{reader-writes, length-writes}
 use Rattle.rules.specs.Refusal.{accepted-not-refused}
@@ -23,7 +23,7 @@ use Rattle.model.specs.Items.{items, items-rest}
 use Rattle.model.specs.State.{State}
 use Rattle.simulation.specs.View.{Ghost, view}
 use Rattle.simulation.specs.Good.{Good, Fine}
-use Rattle.simulation.specs.Every.{answer-fine}
+use Rattle.simulation.specs.Every.{effect-fine}
 use Rattle.simulation.specs.Opened.{open-fits, openGhost, open-reads, open-good}
 use Rattle.simulation.specs.Left.{items-left}
 use Rattle.simulation.specs.Admission.{sizes-are, admitted-is}
@@ -59,17 +59,17 @@ owed {z} {p} k =
 
 -- One call.
 module _ {z : Sizes} {p : Played} (k : Maintained z p) (pick : Picker) (right : Picks pick) (q : Request) where
-  pub result-is : result pick q (p .words) ≡ applied z (p .words) (answer pick q z (reader z (p .words)))
+  pub result-is : result pick q (p .words) ≡ applied z (p .words) (effect pick q z (reader z (p .words)))
   unfolding result
   result-is =
-      ap₂ (λ (y : Sizes) (a : Answer). applied y (p .words) a) (sizes-are z (p .words) (k .good .range))
-      (admitted-is z (p .words) (k .good .range) (k .good .sizes) (k .fits) (answer pick q))
+      ap₂ (λ (y : Sizes) (a : Effect). applied y (p .words) a) (sizes-are z (p .words) (k .good .range))
+      (admitted-is z (p .words) (k .good .range) (k .good .sizes) (k .fits) (effect pick q))
 
   -- what stands after a call with this result
   abbrev played : Result → Played
   played r = record { words = r .words; replies = r .reply ∷ p .replies; history = events q (p .history) (r .reply) ++ p .history }
 
-  by-answer : (a : Answer) → Fine z (reader z (p .words)) (k .beside) q a → Maintained z (played (applied z (p .words) a))
+  by-answer : (a : Effect) → Fine z (reader z (p .words)) (k .beside) q a → Maintained z (played (applied z (p .words) a))
   unfolding applied
   by-answer (refuse n) f =
       record {
@@ -91,7 +91,7 @@ module _ {z : Sizes} {p : Played} (k : Maintained z p) (pick : Picker) (right : 
   pub keeps : Maintained z (playOne pick q p)
   keeps =
       subst⁻¹ (λ (r : Result). Maintained z (played r)) result-is
-      (by-answer (answer pick q z (reader z (p .words))) (answer-fine z (reader z (p .words)) (k .beside) (k .good) pick right q))
+      (by-answer (effect pick q z (reader z (p .words))) (effect-fine z (reader z (p .words)) (k .beside) (k .good) pick right q))
 
 -- All of them.
 plays : {z : Sizes} (picks : ℕ → Picker) → ((k : ℕ) → Picks (picks k)) → (qs : List Request) {p : Played} → Maintained z p → Maintained z (play picks qs p)

@@ -12,12 +12,12 @@ use borrow.Author.Tests.{leb-true}
 use Rattle.history.specs.Lists.{All}
 use Rattle.rules.specs.Sizes.{Sizes, between, sizesInRange, storeWords}
 use Rattle.rules.specs.Free.{Picker, Picks}
-use Rattle.rules.specs.Rule.{Answer, refuse, reply}
-use Rattle.rules.specs.Request.{Request, applied, openWrites, opened, open-store, answer, sizesOf, admitted, result}
+use Rattle.rules.specs.Rule.{Effect, refuse, reply}
+use Rattle.rules.specs.Request.{Request, applied, openWrites, opened, open-store, effect, sizesOf, admitted, result}
 use Rattle.rules.specs.Update.{both}
 use Rattle.rules.specs.Readback.{WriteThere, length-writes, drop-writes}
 use Rattle.rules.specs.Refusal.{by-open}
-use Rattle.refinement.specs.Answers.{Sound, admitted-sound}
+use Rattle.refinement.specs.Effects.{Sound, admitted-sound}
 
 -- The words after a call on a store of sizes z: as many as before, and past the store the same.
 pub record Beyond (z : Sizes) (before after : List ℕ) : Type 0 where
@@ -39,7 +39,7 @@ behind z m n l e = record { as-many = l; same = same }
     same : (k : ℕ) → storeWords z ≤ k → getD n k 0 ≡ getD m k 0
     same k h = sym (at n k h) ∙ ap (λ (w : List ℕ). getD w (k - storeWords z) 0) e ∙ at m k h
 
-applied-beyond : (z : Sizes) (q : Request) (m : List ℕ) (a : Answer) → Sound z q a → Beyond z m (applied z m a .words)
+applied-beyond : (z : Sizes) (q : Request) (m : List ℕ) (a : Effect) → Sound z q a → Beyond z m (applied z m a .words)
 unfolding applied
 applied-beyond z q m (refuse n) s = unchanged z m
 applied-beyond z q m (reply r ws) s = behind z m _ (length-writes z m ws) (drop-writes z m ws (s .1))
@@ -67,5 +67,5 @@ pub words-beyond : (pick : Picker) → Picks pick → (m : List ℕ)
 unfolding result
 words-beyond pick right m = (
   (λ z. by-open (λ r. Beyond z m (r .words)) z m (λ n h. unchanged z m) (opened-beyond z m)),
-  (λ q. applied-beyond (sizesOf m) q m (admitted m (answer pick q)) (admitted-sound pick right q m)),
+  (λ q. applied-beyond (sizesOf m) q m (admitted m (effect pick q)) (admitted-sound pick right q m)),
 )

@@ -1,5 +1,5 @@
 pub mod RecordNumbers
-pub mod Answers
+pub mod Effects
 pub mod Beyond
 pub mod Calls
 pub mod Theorem

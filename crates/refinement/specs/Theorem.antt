@@ -10,8 +10,8 @@ use borrow.Author.Tests.{ne-eqb}
 use Rattle.history.specs.Lists.{All}
 use Rattle.rules.specs.Sizes.{Sizes}
 use Rattle.rules.specs.Free.{lowestFree}
-use Rattle.rules.specs.Rule.{Response, refused, accepted, ok, started, going, ended, empty, item, Answer, refuse, reply}
-use Rattle.rules.specs.Request.{Request, startEnqueue, startDequeue, step, Result, applied, answer, open-store, sizesOf, admitted, result}
+use Rattle.rules.specs.Rule.{Response, refused, accepted, ok, started, going, ended, empty, item, Effect, refuse, reply}
+use Rattle.rules.specs.Request.{Request, startEnqueue, startDequeue, step, Result, applied, effect, open-store, sizesOf, admitted, result}
 use Rattle.rules.specs.Play.{Played, playOne, play}
 use Rattle.rules.specs.Pick.{lowest-free-picks}
 use Rattle.rules.specs.Refusal.{by-open}
@@ -19,7 +19,7 @@ use Rattle.ordering.specs.Demand.{Ordered}
 use Rattle.ordering.specs.Theorem.{demand-3}
 use Rattle.engine.specs.Export.{code, replyWords, Returned, returned, Replied, replied}
 use Rattle.refinement.specs.Calls.{Made, Meets, Chain, noted, recorded, fresh, Refines, Demand-3-Of-Calls, Exchange, Exports, ExchangeChain, says, madeOf, Demand-3-For-C}
-use Rattle.refinement.specs.Answers.{kindOf, kindFor, Sound, admitted-sound}
+use Rattle.refinement.specs.Effects.{kindOf, kindFor, Sound, admitted-sound}
 
 -- One call is the rules' call.
 noted-is : (c : Made) (p : Played) → Meets (p .words) c → noted c p ≡ playOne lowestFree (c .request) p
@@ -46,9 +46,9 @@ May q (accepted r) = kindOf r ≡ kindFor q
 
 pub result-may : (q : Request) (m : List ℕ) → May q (result lowestFree q m .reply)
 unfolding result applied
-result-may q m = go (admitted m (answer lowestFree q)) (admitted-sound lowestFree lowest-free-picks q m)
+result-may q m = go (admitted m (effect lowestFree q)) (admitted-sound lowestFree lowest-free-picks q m)
   where
-    go : (a : Answer) → Sound (sizesOf m) q a → May q (applied (sizesOf m) m a .reply)
+    go : (a : Effect) → Sound (sizesOf m) q a → May q (applied (sizesOf m) m a .reply)
     go (refuse n) s = s
     go (reply r ws) s = s .0
 

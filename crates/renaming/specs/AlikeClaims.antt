@@ -23,7 +23,7 @@ use Rattle.memory.specs.Claiming.{claimWrites}
 use Rattle.simulation.specs.Rows.{has-sort}
 use Rattle.renaming.specs.Renaming.{Renaming, to-apart, renamed, renamed-is, isLink, seen, exchanged, by-exchanged}
 use Rattle.renaming.specs.Alike.{NoRecord, kind, Same, Body, Alike}
-use Rattle.renaming.specs.AlikeAnswers.{Like, not-cleared, not-relinked, by-refusal, by-plain}
+use Rattle.renaming.specs.AlikeEffects.{Like, not-cleared, not-relinked, by-refusal, by-plain}
 use Rattle.renaming.specs.AlikeRecords.{Twins, tail-linked, head-linked, cursor-linked, found-linked, next-linked}
 
 -- a use of the kind of 0 is 0 or 3

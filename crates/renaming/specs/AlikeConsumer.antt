@@ -9,12 +9,12 @@ use lib.Dec.{eqb}
 use Rattle.rules.specs.Sizes.{Sizes}
 use Rattle.rules.specs.Cell.{Reader, Write, _:=_, clearConsumer, held, tail, tailRecord, headRecord, headPosition, consumerPhase, cursorRecord, cursorPosition, foundRecord, foundPosition, itemNumber, itemValue, place, used, state, entryNumber, entryValue}
 use Rattle.rules.specs.Update.{after}
-use Rattle.rules.specs.Rule.{Answer, going, empty, item, reply, goes, atEnd, cross, need}
+use Rattle.rules.specs.Rule.{Effect, going, empty, item, reply, goes, atEnd, cross, need}
 use Rattle.rules.specs.Consumer.{byState, endsEmpty, front, readTail, scan, readEntry, rescanned, rescan, readItem, markHandled}
 use Rattle.memory.specs.Memory.{Memory}
 use Rattle.renaming.specs.Renaming.{renamed, writesTo}
 use Rattle.renaming.specs.Alike.{Alike}
-use Rattle.renaming.specs.AlikeAnswers.{Like, not-relinked, by-cond, by-up-to, by-inside, by-need, by-cross, by-plain}
+use Rattle.renaming.specs.AlikeEffects.{Like, not-relinked, by-cond, by-up-to, by-inside, by-need, by-cross, by-plain}
 use Rattle.renaming.specs.AlikeRecords.{Twins, head-linked, cursor-linked, found-linked, next-linked, tail-test}
 
 module _ {z : Sizes} {σ τ : Reader} (pair : Twins z σ τ) where
@@ -27,7 +27,7 @@ module _ {z : Sizes} {σ τ : Reader} (pair : Twins z σ τ) where
   m : Memory z σ (pair .γ .shape)
   m = pair .good .memory
 
-  by-state : (x y : ℕ) {b s h b′ s′ h′ : Answer} → y ≡ x → Like z σ τ b b′ → Like z σ τ s s′ → Like z σ τ h h′
+  by-state : (x y : ℕ) {b s h b′ s′ h′ : Effect} → y ≡ x → Like z σ τ b b′ → Like z σ τ s s′ → Like z σ τ h h′
       → Like z σ τ (byState x b s h) (byState y b′ s′ h′)
   by-state zero y e blank set handled = rw e blank
   by-state (suc zero) y e blank set handled = rw e set
@@ -61,20 +61,20 @@ module _ {z : Sizes} {σ τ : Reader} (pair : Twins z σ τ) where
   end-same : (r : ℕ) → σ (used r) ≡ 2 → (p q : ℕ) → q ≡ p → atEnd z τ (f r) q ≡ atEnd z σ r p
   end-same r u p q e = rw (place-same r u, e) refl
 
-  crosses : (r : ℕ) (k k′ : ℕ → ℕ → Answer) → σ (used r) ≡ 2 → ((n p : ℕ) → σ (used n) ≡ 2 → Like z σ τ (k n p) (k′ (f n) p))
+  crosses : (r : ℕ) (k k′ : ℕ → ℕ → Effect) → σ (used r) ≡ 2 → ((n p : ℕ) → σ (used n) ≡ 2 → Like z σ τ (k n p) (k′ (f n) p))
       → Like z σ τ (cross z σ r k) (cross z τ (f r) k′)
   crosses r k k′ u = by-cross (pair .stores) r k k′ u (λ n e. next-linked m r u n e .0)
 
   -- what is done at the cursor's record, and at found's
-  at-cursor : (k k′ : ℕ → Answer) → ((r : ℕ) → σ (used r) ≡ 2 → Like z σ τ (k r) (k′ (f r))) → Like z σ τ (need (σ cursorRecord) k) (need (τ cursorRecord) k′)
+  at-cursor : (k k′ : ℕ → Effect) → ((r : ℕ) → σ (used r) ≡ 2 → Like z σ τ (k r) (k′ (f r))) → Like z σ τ (need (σ cursorRecord) k) (need (τ cursorRecord) k′)
   at-cursor k k′ each = by-need (pair .stores) (σ cursorRecord) (τ cursorRecord) k k′ (a .words cursorRecord tt) (λ r q. each r (cursor-linked m r q))
 
   -- at the end of the cursor's record, or not
-  at-cursor-end : (k k′ j j′ : ℕ → Answer) → ((r : ℕ) → σ (used r) ≡ 2 → Like z σ τ (k r) (k′ (f r))) → ((r : ℕ) → σ (used r) ≡ 2 → Like z σ τ (j r) (j′ (f r)))
+  at-cursor-end : (k k′ j j′ : ℕ → Effect) → ((r : ℕ) → σ (used r) ≡ 2 → Like z σ τ (k r) (k′ (f r))) → ((r : ℕ) → σ (used r) ≡ 2 → Like z σ τ (j r) (j′ (f r)))
       → Like z σ τ (need (σ cursorRecord) (λ r. cond (atEnd z σ r (σ cursorPosition)) (k r) (j r))) (need (τ cursorRecord) (λ r. cond (atEnd z τ r (τ cursorPosition)) (k′ r) (j′ r)))
   at-cursor-end k k′ j j′ ends goes-on = at-cursor _ _ (λ r u. by-cond _ _ (end-same r u _ _ cursor-same) (λ b. ends r u) (λ b. goes-on r u))
 
-  at-found : (k k′ : ℕ → Answer) → ((r : ℕ) → σ (used r) ≡ 2 → Like z σ τ (k r) (k′ (f r))) → Like z σ τ (need (σ foundRecord) k) (need (τ foundRecord) k′)
+  at-found : (k k′ : ℕ → Effect) → ((r : ℕ) → σ (used r) ≡ 2 → Like z σ τ (k r) (k′ (f r))) → Like z σ τ (need (σ foundRecord) k) (need (τ foundRecord) k′)
   at-found k k′ each = by-need (pair .stores) (σ foundRecord) (τ foundRecord) k k′ (a .words foundRecord tt) (λ r q. each r (found-linked m r q))
 
   -- 1. Front.

@@ -15,8 +15,8 @@ use Rattle.rules.specs.Free.{Picker, Picks, Choice}
 use Rattle.rules.specs.Rule.{refuse, ok, started}
 use Rattle.rules.specs.Producer.{producerRules, producerStep}
 use Rattle.rules.specs.Consumer.{consumerRules, consumerStep}
-use Rattle.rules.specs.Request.{Request, startEnqueue, startDequeue, step, startingEnqueue, startingDequeue, stepping, answer}
-use Rattle.renaming.specs.AlikeAnswers.{Like, by-refusal, by-cond, by-plain}
+use Rattle.rules.specs.Request.{Request, startEnqueue, startDequeue, step, startingEnqueue, startingDequeue, stepping, effect}
+use Rattle.renaming.specs.AlikeEffects.{Like, by-refusal, by-cond, by-plain}
 use Rattle.renaming.specs.AlikeRecords.{Twins}
 use Rattle.renaming.specs.AlikeProducer.{take-position-alike, load-tail-alike, look-next-alike, link-claimed-alike, link-ahead-alike, shift-tail-alike, go-back-alike, write-entry-alike, set-entry-alike}
 use Rattle.renaming.specs.AlikeClaims.{claim-record-alike, claim-ahead-alike}
@@ -108,8 +108,8 @@ module _ {z : Sizes} {σ τ : Reader} (pair : Twins z σ τ) where
       (λ b. by-refusal 5)
       (λ b. by-plain (pair .stores) ok (consumerPhase := 1 ∷ []) _ refl (λ s u. u) (λ u s e. e))
 
-  pub answer-alike : (pick pick′ : Picker) → Picks pick → Picks pick′ → (q : Request) → Like z σ τ (answer pick q z σ) (answer pick′ q z τ)
-  unfolding answer
+  pub answer-alike : (pick pick′ : Picker) → Picks pick → Picks pick′ → (q : Request) → Like z σ τ (effect pick q z σ) (effect pick′ q z τ)
+  unfolding effect
   answer-alike pick pick′ right right′ (startEnqueue t v) = start-enqueue-alike t v
   answer-alike pick pick′ right right′ startDequeue = start-dequeue-alike
   answer-alike pick pick′ right right′ (step t) = step-alike pick pick′ right right′ t

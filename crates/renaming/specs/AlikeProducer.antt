@@ -16,7 +16,7 @@ use Rattle.rules.specs.Producer.{choose, takePosition, loadTail, lookNext, link
 use Rattle.memory.specs.Memory.{Memory}
 use Rattle.renaming.specs.Renaming.{renamed, writesTo}
 use Rattle.renaming.specs.Alike.{Same, Body, Alike}
-use Rattle.renaming.specs.AlikeAnswers.{Like, not-cleared, not-relinked, by-cond, by-up-to, by-inside, by-need, by-reply, by-plain}
+use Rattle.renaming.specs.AlikeEffects.{Like, not-cleared, not-relinked, by-cond, by-up-to, by-inside, by-need, by-reply, by-plain}
 use Rattle.renaming.specs.AlikeRecords.{Twins, tail-linked, tail-test, held-next, held-prev, claimed-same}
 
 module _ {z : Sizes} {σ τ : Reader} (pair : Twins z σ τ) (t : ℕ) where

@@ -17,7 +17,7 @@ use Rattle.simulation.specs.Good.{Good}
 use Rattle.simulation.specs.ProducerSteps.{seen-at}
 use Rattle.renaming.specs.Renaming.{renamed, eqb-alike, eqb-renamed}
 use Rattle.renaming.specs.Alike.{kind, Body, Alike}
-use Rattle.renaming.specs.AlikeAnswers.{Stores}
+use Rattle.renaming.specs.AlikeEffects.{Stores}
 
 pub kind-two : (x : ℕ) → kind x ≡ 2 → x ≡ 2
 kind-two zero e = absurd (omega arith)

@@ -1,6 +1,6 @@
 pub mod Renaming
 pub mod Alike
-pub mod AlikeAnswers
+pub mod AlikeEffects
 pub mod AlikeRecords
 pub mod AlikeProducer
 pub mod AlikeConsumer

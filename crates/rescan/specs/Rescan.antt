@@ -6,7 +6,7 @@ use Prim.Native.Nat.{ℕ, suc}
 use lib.Dec.{eqb}
 use Rattle.rules.specs.Sizes.{Sizes}
 use Rattle.rules.specs.Cell.{Reader, reader, Write, write, writes, _:=_, headRecord, headPosition, consumerPhase, cursorRecord, cursorPosition, foundRecord, foundPosition}
-use Rattle.rules.specs.Rule.{Answer, goes}
+use Rattle.rules.specs.Rule.{Effect, goes}
 use Rattle.rules.specs.Consumer.{rescanned}
 use Rattle.rules.specs.Request.{applied}
 use Rattle.store.specs.declared.Reply.the-variants.{Going}
@@ -22,11 +22,11 @@ moves l p found = cond (eqb p found) settles (cursorRecord := l ∷ cursorPositi
 
 module _ (z : Sizes) (σ : Reader) where
   -- the cursor crosses to record n at position p
-  abbrev pub toRescan : (n p : ℕ) → Answer
+  abbrev pub toRescan : (n p : ℕ) → Effect
   toRescan n p = rescanned z σ p (σ foundPosition) (cursorRecord := suc n ∷ cursorPosition := p ∷ []) []
 
   -- a set entry at the cursor
-  abbrev pub rescanFound : Answer
+  abbrev pub rescanFound : Effect
   rescanFound =
       rescanned z σ (σ headPosition) (σ cursorPosition)
       (cursorRecord := σ headRecord ∷ cursorPosition := σ headPosition ∷ [])

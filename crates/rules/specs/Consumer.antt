@@ -6,23 +6,23 @@ use lib.Dec.{eqb}
 use lib.ListN.{getD}
 use Rattle.rules.specs.Sizes.{Sizes}
 use Rattle.rules.specs.Cell.{Reader, Write, _:=_, clearConsumer, tail, tailRecord, headRecord, headPosition, consumerPhase, cursorRecord, cursorPosition, foundRecord, foundPosition, itemNumber, itemValue, used, state, entryNumber, entryValue}
-use Rattle.rules.specs.Rule.{Answer, refuse, reply, empty, item, goes, need, upTo, atEnd, inside, cross}
+use Rattle.rules.specs.Rule.{Effect, refuse, reply, empty, item, goes, need, upTo, atEnd, inside, cross}
 
 -- an entry's state by cases: empty, set, handled
-abbrev pub byState : ℕ → Answer → Answer → Answer → Answer
+abbrev pub byState : ℕ → Effect → Effect → Effect → Effect
 byState zero blank set handled = blank
 byState (suc zero) blank set handled = set
 byState (suc (suc s)) blank set handled = handled
 
 -- The dequeue ends and answers empty.
-abbrev pub endsEmpty : Answer
+abbrev pub endsEmpty : Effect
 endsEmpty = reply empty (clearConsumer ∷ [])
 
 module _ (z : Sizes) (σ : Reader) where
   -- 1. Front. At the end of the head record: empty if it is also the tail record; otherwise next becomes head record, head
   -- position its first, the old one is retired; stay. Else read the entry: handled advances the head; set goes to 6 with found
   -- the head; empty goes to 2.
-  unfoldable pub front : Answer
+  unfoldable pub front : Effect
   front =
       need (σ headRecord)
       λ h. cond (atEnd z σ h (σ headPosition))
@@ -35,7 +35,7 @@ module _ (z : Sizes) (σ : Reader) where
       (upTo (z .M) (suc (σ headPosition)) (goes (headPosition := suc (σ headPosition) ∷ []))))
 
   -- 2. Read tail: equal to the head position is empty; otherwise the cursor is the next position; to 3.
-  unfoldable pub readTail : Answer
+  unfoldable pub readTail : Effect
   readTail =
       cond (eqb (σ tail) (σ headPosition)) endsEmpty
       (upTo (z .M) (suc (σ headPosition))
@@ -43,7 +43,7 @@ module _ (z : Sizes) (σ : Reader) where
 
   -- 3. If the cursor stands at its record's end: empty if that is the tail record, otherwise cross to next, the cursor at its
   -- first position (so in every crossing); stay. Else read tail: cursor at tail is empty; otherwise to 4.
-  unfoldable pub scan : Answer
+  unfoldable pub scan : Effect
   scan =
       need (σ cursorRecord)
       λ r. cond (atEnd z σ r (σ cursorPosition))
@@ -52,7 +52,7 @@ module _ (z : Sizes) (σ : Reader) where
       (cond (eqb (σ cursorPosition) (σ tail)) endsEmpty (goes (consumerPhase := 4 ∷ [])))
 
   -- 4. Read the entry: set makes it found, and the cursor returns to the head; to 5. Otherwise advance; to 3.
-  unfoldable pub readEntry : Answer
+  unfoldable pub readEntry : Effect
   readEntry =
       need (σ cursorRecord)
       λ r. inside z σ r (σ cursorPosition)
@@ -68,14 +68,14 @@ module _ (z : Sizes) (σ : Reader) where
 
   -- When the cursor's position then equals that of found, the same step goes to 6; otherwise stay. (What moved is written
   -- first; in 6 the cursor is not in use.)
-  abbrev pub rescanned : (cursor found : ℕ) → List Write → List Write → Answer
+  abbrev pub rescanned : (cursor found : ℕ) → List Write → List Write → Effect
   rescanned cursor found stays moved =
       cond (eqb cursor found) (goes (moved ++ (cursorRecord := 0 ∷ cursorPosition := 0 ∷ consumerPhase := 6 ∷ []))) (goes (moved ++ stays))
 
   -- 5. Rescan from the head, head included, to the position before found, that one included. One step either crosses, when the
   -- cursor stands at a record's end, or reads one entry. A set entry becomes found and the cursor returns to the head; any
   -- other is passed by one position.
-  unfoldable pub rescan : Answer
+  unfoldable pub rescan : Effect
   rescan =
       need (σ cursorRecord)
       λ r. cond (atEnd z σ r (σ cursorPosition))
@@ -89,14 +89,14 @@ module _ (z : Sizes) (σ : Reader) where
       (rescanned (suc (σ cursorPosition)) (σ foundPosition) (cursorPosition := suc (σ cursorPosition) ∷ []) [])))
 
   -- 6. Read call number and value; to 7.
-  unfoldable pub readItem : Answer
+  unfoldable pub readItem : Effect
   readItem =
       need (σ foundRecord)
       λ r. inside z σ r (σ foundPosition)
       λ i. goes (itemNumber := σ (entryNumber r i) ∷ itemValue := σ (entryValue r i) ∷ consumerPhase := 7 ∷ [])
 
   -- 7. Mark handled; if found is the head position, it advances. Reply item.
-  unfoldable pub markHandled : Answer
+  unfoldable pub markHandled : Effect
   markHandled =
       need (σ foundRecord)
       λ r. inside z σ r (σ foundPosition)
@@ -106,8 +106,8 @@ module _ (z : Sizes) (σ : Reader) where
       (reply (item (σ itemNumber) (σ itemValue)) (state r i := 2 ∷ clearConsumer ∷ []))
 
 -- The consumer's rule in each phase; refusal 7 while it is idle.
-abbrev pub consumerRules : List (Sizes → Reader → Answer)
+abbrev pub consumerRules : List (Sizes → Reader → Effect)
 consumerRules = (λ z σ. refuse 7) ∷ front ∷ readTail ∷ scan ∷ readEntry ∷ rescan ∷ readItem ∷ markHandled ∷ []
 
-unfoldable pub consumerStep : Sizes → Reader → Answer
+unfoldable pub consumerStep : Sizes → Reader → Effect
 consumerStep z σ = getD consumerRules (σ (consumerPhase)) (λ z σ. refuse 7) z σ

@@ -6,7 +6,7 @@ use lib.Dec.{leb, ltb, eqb}
 use lib.ListN.{getD}
 use Rattle.rules.specs.Sizes.{Sizes, mostPlace}
 use Rattle.rules.specs.Cell.{Reader, Write, _:=_, clearProducer, wipe, tail, tailRecord, phase, call, value, position, held, claimed, backed, place, next, prev, used, state, entryNumber, entryValue}
-use Rattle.rules.specs.Rule.{Answer, refuse, reply, ended, goes, need, upTo, inside}
+use Rattle.rules.specs.Rule.{Effect, refuse, reply, ended, goes, need, upTo, inside}
 
 module _ (z : Sizes) (σ : Reader) (t : ℕ) where
   -- "choose" means: L at or past B × place of the held record goes to 3; L below B × (place − 1) goes to 7; otherwise 8.
@@ -16,29 +16,29 @@ module _ (z : Sizes) (σ : Reader) (t : ℕ) where
       (cond (ltb (σ (position t) + z .B) (z .B * σ (place r))) 7 8)
 
   -- 1. Take: L becomes tail, tail grows by one; to 2.
-  unfoldable pub takePosition : Answer
+  unfoldable pub takePosition : Effect
   takePosition = upTo (z .M) (suc (σ tail)) (goes (position t := σ tail ∷ tail := suc (σ tail) ∷ phase t := 2 ∷ []))
 
   -- 2. Load: hold the tail record; choose.
-  unfoldable pub loadTail : Answer
+  unfoldable pub loadTail : Effect
   loadTail = need (σ tailRecord) λ r. goes (held t := suc r ∷ phase t := choose r ∷ [])
 
   -- 3. Look at next of held: none goes to 4, otherwise 6.
-  unfoldable pub lookNext : Answer
+  unfoldable pub lookNext : Effect
   lookNext = need (σ (held t)) λ r. goes (phase t := cond (eqb (σ (next r)) 0) 4 6 ∷ [])
 
   -- Claiming picks a free one, zeroes it and gives it use 1. Then to phase p.
-  abbrev pub claim : (r p : ℕ) → Answer
+  abbrev pub claim : (r p : ℕ) → Effect
   claim r p = goes (wipe r ∷ used r := 1 ∷ claimed t := suc r ∷ phase t := p ∷ [])
 
   -- 4. Claim a record; to 5. Refusal 8: no record free.
-  unfoldable pub claimRecord : (choice : ℕ) → Answer
+  unfoldable pub claimRecord : (choice : ℕ) → Effect
   claimRecord zero = refuse 8
   claimRecord (suc r) = claim r 5
 
   -- Link: if next of held is none, the claimed record becomes it, linked, prev held, place one more. Otherwise it is given
   -- back, use 0. What follows gets these writes.
-  abbrev pub linked : (List Write → Answer) → Answer
+  abbrev pub linked : (List Write → Effect) → Effect
   linked f =
       need (σ (held t))
       λ h. need (σ (claimed t))
@@ -48,11 +48,11 @@ module _ (z : Sizes) (σ : Reader) (t : ℕ) where
       (f (used c := 0 ∷ []))
 
   -- 5. Link. To 6.
-  unfoldable pub linkClaimed : Answer
+  unfoldable pub linkClaimed : Effect
   linkClaimed = linked λ ws. goes (ws ++ (claimed t := 0 ∷ phase t := 6 ∷ []))
 
   -- 6. Shift: if the tail record is the held one, it becomes next of held. To 2.
-  unfoldable pub shiftTail : Answer
+  unfoldable pub shiftTail : Effect
   shiftTail =
       need (σ (held t))
       λ h. cond (eqb (σ tailRecord) (suc h))
@@ -60,19 +60,19 @@ module _ (z : Sizes) (σ : Reader) (t : ℕ) where
       (goes (phase t := 2 ∷ []))
 
   -- 7. Back: hold prev of held; choose.
-  unfoldable pub goBack : Answer
+  unfoldable pub goBack : Effect
   goBack =
       need (σ (held t)) λ h. need (σ (prev h)) λ p. goes (held t := suc p ∷ backed t := 1 ∷ phase t := choose p ∷ [])
 
   -- 8. Write call number and value into the entry; to 9.
-  unfoldable pub writeEntry : Answer
+  unfoldable pub writeEntry : Effect
   writeEntry =
       need (σ (held t))
       λ h. inside z σ h (σ (position t))
       λ i. goes (entryNumber h i := σ (call t) ∷ entryValue h i := σ (value t) ∷ phase t := 9 ∷ [])
 
   -- 9. Set the entry. If the index is 1 and phase 7 was never taken, to 10; otherwise end.
-  unfoldable pub setEntry : Answer
+  unfoldable pub setEntry : Effect
   setEntry =
       need (σ (held t))
       λ h. inside z σ h (σ (position t))
@@ -81,16 +81,16 @@ module _ (z : Sizes) (σ : Reader) (t : ℕ) where
       (reply ended (state h i := 1 ∷ clearProducer t ∷ []))
 
   -- 10. If none is free, end; else claim; to 11.
-  unfoldable pub claimAhead : (choice : ℕ) → Answer
+  unfoldable pub claimAhead : (choice : ℕ) → Effect
   claimAhead zero = reply ended (clearProducer t ∷ [])
   claimAhead (suc r) = claim r 11
 
   -- 11. As 5, then end. The tail record does not move.
-  unfoldable pub linkAhead : Answer
+  unfoldable pub linkAhead : Effect
   linkAhead = linked λ ws. reply ended (ws ++ (clearProducer t ∷ []))
 
 -- A producer's rule in each phase; refusal 7 while it is idle.
-abbrev pub producerRules : (choice : ℕ) → List (Sizes → Reader → ℕ → Answer)
+abbrev pub producerRules : (choice : ℕ) → List (Sizes → Reader → ℕ → Effect)
 producerRules choice =
     (λ z σ t. refuse 7)
     ∷ takePosition
@@ -106,5 +106,5 @@ producerRules choice =
     ∷ linkAhead
     ∷ []
 
-unfoldable pub producerStep : (choice : ℕ) → Sizes → Reader → ℕ → Answer
+unfoldable pub producerStep : (choice : ℕ) → Sizes → Reader → ℕ → Effect
 producerStep choice z σ t = getD (producerRules choice) (σ (phase t)) (λ z σ t. refuse 7) z σ t

@@ -9,7 +9,7 @@ use Rattle.rules.specs.Sizes.{Sizes, sizesInRange, firstRecord, storeWor
 use Rattle.rules.specs.Cell.{Reader, Write, reader, writes, _:=_, content, tailRecord, headRecord, starts, consumerPhase, phase, call, value, place, used}
 use Rattle.rules.specs.Range.{inRange}
 use Rattle.rules.specs.Free.{Picker}
-use Rattle.rules.specs.Rule.{Answer, Response, refused, accepted, ok, started, refuse, reply}
+use Rattle.rules.specs.Rule.{Effect, Response, refused, accepted, ok, started, refuse, reply}
 use Rattle.rules.specs.Producer.{producerStep}
 use Rattle.rules.specs.Consumer.{consumerStep}
 
@@ -19,7 +19,7 @@ pub record Result : Type 0 where
   pub words : List ℕ
 
 -- A refused call changes no word; an accepted one makes its writes.
-unfoldable pub applied : Sizes → List ℕ → Answer → Result
+unfoldable pub applied : Sizes → List ℕ → Effect → Result
 applied z m (refuse n) = record { reply = refused n; words = m }
 applied z m (reply r ws) = record { reply = accepted r; words = writes z m ws }
 
@@ -57,7 +57,7 @@ pub data Request : Type 0 where
 
 -- *Start enqueue* gives call number starts + 1, phase 1. 4: no such producer. 5: that thread has a call under way. 6: starts
 -- equal M.
-unfoldable pub startingEnqueue : (t v : ℕ) → Sizes → Reader → Answer
+unfoldable pub startingEnqueue : (t v : ℕ) → Sizes → Reader → Effect
 startingEnqueue t v z σ =
     cond (eqb t 0 || ltb (z .P) t) (refuse 4)
     (cond (not (eqb (σ (phase t)) 0)) (refuse 5)
@@ -66,21 +66,21 @@ startingEnqueue t v z σ =
     (starts := suc (σ starts) ∷ phase t := 1 ∷ call t := suc (σ starts) ∷ value t := v ∷ []))))
 
 -- *Start dequeue* puts the consumer in phase 1. 5: that thread has a call under way.
-unfoldable pub startingDequeue : Sizes → Reader → Answer
+unfoldable pub startingDequeue : Sizes → Reader → Effect
 startingDequeue z σ = cond (not (eqb (σ consumerPhase) 0)) (refuse 5) (reply ok (consumerPhase := 1 ∷ []))
 
 -- *Step* (thread) does one phase. 4: a thread above P. 7: thread idle. 8 and 9 are the phases' own.
-unfoldable pub stepping : Picker → ℕ → Sizes → Reader → Answer
+unfoldable pub stepping : Picker → ℕ → Sizes → Reader → Effect
 stepping pick t z σ =
     cond (ltb (z .P) t) (refuse 4)
     (cond (eqb t 0)
     (cond (eqb (σ consumerPhase) 0) (refuse 7) (consumerStep z σ))
     (cond (eqb (σ (phase t)) 0) (refuse 7) (producerStep (pick z σ) z σ t)))
 
-unfoldable pub answer : Picker → Request → Sizes → Reader → Answer
-answer pick (startEnqueue t v) z σ = startingEnqueue t v z σ
-answer pick startDequeue z σ = startingDequeue z σ
-answer pick (step t) z σ = stepping pick t z σ
+unfoldable pub effect : Picker → Request → Sizes → Reader → Effect
+effect pick (startEnqueue t v) z σ = startingEnqueue t v z σ
+effect pick startDequeue z σ = startingDequeue z σ
+effect pick (step t) z σ = stepping pick t z σ
 
 -- the sizes that words 0 to 3 give
 abbrev pub sizesOf : List ℕ → Sizes
@@ -88,7 +88,7 @@ sizesOf m = record { B = getD m 0 0; N = getD m 1 0; P = getD m 2 0; M = getD m 
 
 -- 2: store shorter than 16 words. 3: words 0 to 3 out of range. 2: shorter than its sizes need. 3: another word out of range.
 -- Then the call's own.
-unfoldable pub admitted : List ℕ → (Sizes → Reader → Answer) → Answer
+unfoldable pub admitted : List ℕ → (Sizes → Reader → Effect) → Effect
 admitted m f =
     cond (ltb (length m) 16) (refuse 2)
     (cond (not (sizesInRange (sizesOf m))) (refuse 3)
@@ -96,4 +96,4 @@ admitted m f =
     (cond (not (inRange (sizesOf m) (reader (sizesOf m) m))) (refuse 3) (f (sizesOf m) (reader (sizesOf m) m)))))
 
 unfoldable pub result : Picker → Request → List ℕ → Result
-result pick q m = applied (sizesOf m) m (admitted m (answer pick q))
+result pick q m = applied (sizesOf m) m (admitted m (effect pick q))

@@ -1,4 +1,4 @@
--- What a rule answers, and the words that rules are written in. A refusal has no writes, so a refused call changes nothing.
+-- The effect of a rule, and the words that rules are written in. A refusal has no writes, so a refused call changes nothing.
 use mathlib.Core.Bool.{Bool, _&&_, cond}
 use mathlib.Core.List.{List}
 use Prim.Native.Nat.{ℕ, zero, suc, _+_, _-_, _*_}
@@ -20,21 +20,21 @@ pub data Response : Type 0 where
   refused : ℕ → Response
   accepted : Reply → Response
 
--- A rule's answer: a refusal, or a reply with the writes that go with it.
-pub data Answer : Type 0 where
-  refuse : ℕ → Answer
-  reply : Reply → List Write → Answer
+-- A rule's effect: a refusal, or a reply with the writes that go with it.
+pub data Effect : Type 0 where
+  refuse : ℕ → Effect
+  reply : Reply → List Write → Effect
 
-abbrev pub goes : List Write → Answer
+abbrev pub goes : List Write → Effect
 goes ws = reply going ws
 
 -- Refusal 9: a needed link is none. A record number is stored plus one; zero is none.
-abbrev pub need : ℕ → (ℕ → Answer) → Answer
+abbrev pub need : ℕ → (ℕ → Effect) → Effect
 need zero f = refuse 9
 need (suc r) f = f r
 
 -- Refusal 9: a number would leave its range.
-abbrev pub upTo : (most x : ℕ) → Answer → Answer
+abbrev pub upTo : (most x : ℕ) → Effect → Effect
 upTo most x a = cond (leb x most) a (refuse 9)
 
 module _ (z : Sizes) (σ : Reader) where
@@ -51,9 +51,9 @@ module _ (z : Sizes) (σ : Reader) where
   index r p = p + z .B - z .B * σ (place r)
 
   -- Refusal 9: an index leaves the record.
-  abbrev pub inside : (r p : ℕ) → (ℕ → Answer) → Answer
+  abbrev pub inside : (r p : ℕ) → (ℕ → Effect) → Effect
   inside r p f = cond (within r p) (f (index r p)) (refuse 9)
 
   -- From record r to its next, at that one's first position, B × (place − 1).
-  abbrev pub cross : (r : ℕ) → (ℕ → ℕ → Answer) → Answer
+  abbrev pub cross : (r : ℕ) → (ℕ → ℕ → Effect) → Effect
   cross r f = need (σ (next r)) λ n. need (σ (place n)) λ q. upTo (z .M) (z .B * q) (f n (z .B * q))

@@ -11,7 +11,7 @@ use Rattle.rules.specs.Free.{free, lowestFree}
 use Rattle.rules.specs.Rule.{Reply, Response, refused, accepted, ok, started, going, ended, empty, item}
 use Rattle.rules.specs.Producer.{takePosition, loadTail, lookNext, claimRecord, linkClaimed, shiftTail, goBack, writeEntry, setEntry, claimAhead, linkAhead, producerStep}
 use Rattle.rules.specs.Consumer.{front, readTail, scan, readEntry, rescan, readItem, markHandled, consumerStep}
-use Rattle.rules.specs.Request.{Request, startEnqueue, startDequeue, step, applied, opened, open-store, startingEnqueue, startingDequeue, stepping, answer, admitted, result}
+use Rattle.rules.specs.Request.{Request, startEnqueue, startDequeue, step, applied, opened, open-store, startingEnqueue, startingDequeue, stepping, effect, admitted, result}
 use Rattle.rules.specs.Play.{play}
 
 -- An open of a store of so many zero words, the calls after it, and the replies of all of them, in order.
@@ -39,7 +39,7 @@ goings (suc n) = going ∷ goings n
 
 -- The replies that the rules give to some calls on these words, and to an open and the calls after it.
 unfoldable pub repliesTo : List Request → List ℕ → List Response
-unfolding play result admitted applied answer startingEnqueue startingDequeue stepping reader writes inRange free lowestFree takePosition loadTail lookNext claimRecord linkClaimed shiftTail goBack writeEntry setEntry claimAhead linkAhead producerStep front readTail scan readEntry rescan readItem markHandled consumerStep
+unfolding play result admitted applied effect startingEnqueue startingDequeue stepping reader writes inRange free lowestFree takePosition loadTail lookNext claimRecord linkClaimed shiftTail goBack writeEntry setEntry claimAhead linkAhead producerStep front readTail scan readEntry rescan readItem markHandled consumerStep
 repliesTo qs m = reverse (play (λ k. lowestFree) qs (record { words = m; replies = []; history = [] }) .replies)
 
 unfoldable pub replay : Trial → List Response

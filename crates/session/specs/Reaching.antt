@@ -19,9 +19,9 @@ use Rattle.rules.specs.Update.{both, neither}
 use Rattle.rules.specs.Range.{inRange}
 use Rattle.rules.specs.Free.{Picker, lowestFree}
 use Rattle.rules.specs.Pick.{lowest-free-picks}
-use Rattle.rules.specs.Rule.{Answer, refuse, reply, Response, refused, accepted, ok, started, going, ended, empty, item}
+use Rattle.rules.specs.Rule.{Effect, refuse, reply, Response, refused, accepted, ok, started, going, ended, empty, item}
 use Rattle.rules.specs.Refusal.{accepted-not-refused}
-use Rattle.rules.specs.Request.{Result, Request, startEnqueue, startDequeue, step, applied, open-store, opened, startingEnqueue, answer, sizesOf, admitted, result}
+use Rattle.rules.specs.Request.{Result, Request, startEnqueue, startDequeue, step, applied, open-store, opened, startingEnqueue, effect, sizesOf, admitted, result}
 use Rattle.rules.specs.Play.{Played, events, endOfEnqueue, playOne, play, threadOf}
 use Rattle.simulation.specs.Good.{by-cond}
 use Rattle.ordering.specs.Theorem.{demand-3}
@@ -139,7 +139,7 @@ module _ (t v n : ℕ) (m : List ℕ) where
   abbrev σ : Reader
   σ = reader z m
 
-  abbrev P : Answer → Type 0
+  abbrev P : Effect → Type 0
   P a = applied z m a .reply ≡ accepted (started n) → Names t n
 
   no : {k : ℕ} → refused k ≡ accepted (started n) → Names t n
@@ -155,7 +155,7 @@ module _ (t v n : ℕ) (m : List ℕ) where
   number {k} e = let q : n ≡ suc k = cc in le-leb 1 n (omega arith)
 
   started-names : result lowestFree (startEnqueue t v) m .reply ≡ accepted (started n) → Names t n
-  unfolding result admitted answer startingEnqueue applied
+  unfolding result admitted effect startingEnqueue applied
   started-names =
       by-cond P (ltb (length m) 16) (refuse 2) _ (λ _. no) λ _. by-cond P (not (sizesInRange z)) (refuse 3) _ (λ _. no) λ s.
       by-cond P (ltb (length m) (storeWords z)) (refuse 2) _ (λ _. no) λ _. by-cond P (not (inRange z σ)) (refuse 3) _ (λ _. no) λ _.

@@ -10,7 +10,7 @@ use borrow.Author.Tests.{le-ltb}
 use Rattle.rules.specs.Sizes.{Sizes, sizesInRange, storeWords}
 use Rattle.rules.specs.Cell.{Reader, reader, content}
 use Rattle.rules.specs.Range.{inRange, exactly}
-use Rattle.rules.specs.Rule.{Answer, refuse}
+use Rattle.rules.specs.Rule.{Effect, refuse}
 use Rattle.rules.specs.Request.{sizesOf, admitted}
 use Rattle.rules.specs.InRange.{InRange, range-of}
 use Rattle.simulation.specs.Rows.{has-sort}
@@ -26,7 +26,7 @@ module _ (z : Sizes) (m : List ℕ) (range : InRange z (reader z m)) where
         M = has-sort z (exactly (z .M)) (reader z m (content 3)) (range .words (content 3) (omega arith)) i;
       }
 
-  pub admitted-is : sizesInRange z ≡ true → storeWords z ≤ length m → (f : Sizes → Reader → Answer) → admitted m f ≡ f z (reader z m)
+  pub admitted-is : sizesInRange z ≡ true → storeWords z ≤ length m → (f : Sizes → Reader → Effect) → admitted m f ≡ f z (reader z m)
   unfolding admitted
   admitted-is sizes fits f =
       ap by-sizes sizes-are
@@ -36,13 +36,13 @@ module _ (z : Sizes) (m : List ℕ) (range : InRange z (reader z m)) where
       (le-ltb (length m) (storeWords z) fits)
       (range-of z (reader z m) range)
     where
-      by-sizes : Sizes → Answer
+      by-sizes : Sizes → Effect
       by-sizes y =
           cond (ltb (length m) 16) (refuse 2)
           (cond (not (sizesInRange y)) (refuse 3)
           (cond (ltb (length m) (storeWords y)) (refuse 2)
           (cond (not (inRange y (reader y m))) (refuse 3) (f y (reader y m)))))
 
-      passed : (a b c d : Bool) (x : Answer) → a ≡ false → b ≡ true → c ≡ false → d ≡ true
+      passed : (a b c d : Bool) (x : Effect) → a ≡ false → b ≡ true → c ≡ false → d ≡ true
           → cond a (refuse 2) (cond (not b) (refuse 3) (cond c (refuse 2) (cond (not d) (refuse 3) x))) ≡ x
       passed a b c d x ea eb ec ed = rw (ea, eb, ec, ed) refl

@@ -10,7 +10,7 @@ use Rattle.history.specs.Lists.{All}
 use Rattle.rules.specs.Sizes.{Sizes}
 use Rattle.rules.specs.Cell.{Reader, Write, _:=_, tail, tailRecord, headRecord, headPosition, consumer, consumerPhase, cursorRecord, cursorPosition, foundRecord, foundPosition, place, next, used, state}
 use Rattle.rules.specs.Range.{number, record-number, idleSorts}
-use Rattle.rules.specs.Rule.{Answer, going, goes, upTo, atEnd, index, inside, cross}
+use Rattle.rules.specs.Rule.{Effect, going, goes, upTo, atEnd, index, inside, cross}
 use Rattle.rules.specs.Consumer.{byState, front, readTail}
 use Rattle.rules.specs.Request.{step}
 use Rattle.rules.specs.InRange.{InSort, others-untouched, writes-keep-range}
@@ -72,7 +72,7 @@ module _ (z : Sizes) (σ : Reader) (γ : Ghost) (good : Good z σ γ) where
     placed = ap (placeOf (placesOf σ)) (sym q) ∙ head-placed z σ γ good
 
     -- read the entry: handled advances the head; set goes to 6 with found the head; empty goes to 2
-    abbrev readFront : ℕ → Answer
+    abbrev readFront : ℕ → Effect
     readFront i =
         byState (σ (state h i))
         (goes (consumerPhase := 2 ∷ []))

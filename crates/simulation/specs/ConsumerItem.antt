@@ -14,7 +14,7 @@ use Rattle.rules.specs.Sizes.{Sizes}
 use Rattle.rules.specs.Cell.{Reader, _:=_, clearConsumer, headPosition, consumer, consumerPhase, foundRecord, foundPosition, itemNumber, itemValue, place, used, state, entryNumber, entryValue, entry}
 use Rattle.rules.specs.Update.{after, update}
 use Rattle.rules.specs.Range.{number, foundSorts}
-use Rattle.rules.specs.Rule.{Answer, goes, item, reply, need, upTo, index, inside}
+use Rattle.rules.specs.Rule.{Effect, goes, item, reply, need, upTo, index, inside}
 use Rattle.rules.specs.Consumer.{readItem, markHandled}
 use Rattle.rules.specs.Request.{step}
 use Rattle.model.specs.State
@@ -44,7 +44,7 @@ module _ (z : Sizes) (σ : Reader) (γ : Ghost) (good : Good z σ γ) where
       (j, slot z σ (γ .shape) (m .chain) r (σ foundPosition) (rw q at (m .found)) j)
 
   -- the steps that look at found's entry: their rule holds of it
-  at-found : Found (z .B) (view σ γ) (σ foundPosition) (placeOf (placesOf σ) (σ foundRecord)) → (f : ℕ → ℕ → Answer)
+  at-found : Found (z .B) (view σ γ) (σ foundPosition) (placeOf (placesOf σ) (σ foundRecord)) → (f : ℕ → ℕ → Effect)
       → ((r : ℕ) → σ foundRecord ≡ suc r → Slot z σ (γ .shape) r (σ foundPosition) → Fine z σ γ (step 0) (f r (index z σ r (σ foundPosition))))
       → Fine z σ γ (step 0) (need (σ foundRecord) (λ r. inside z σ r (σ foundPosition) (f r)))
   at-found found f each =

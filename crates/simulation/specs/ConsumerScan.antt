@@ -10,7 +10,7 @@ use borrow.Author.Tests.{eqb-true, eqb-false}
 use Rattle.rules.specs.Sizes.{Sizes}
 use Rattle.rules.specs.Cell.{Reader, Write, _:=_, tail, tailRecord, headRecord, headPosition, consumer, consumerPhase, cursorRecord, cursorPosition, foundRecord, foundPosition, place, state}
 use Rattle.rules.specs.Range.{cursorSorts}
-use Rattle.rules.specs.Rule.{Answer, goes, upTo, atEnd, index, cross}
+use Rattle.rules.specs.Rule.{Effect, goes, upTo, atEnd, index, cross}
 use Rattle.rules.specs.Consumer.{scan, readEntry}
 use Rattle.rules.specs.Request.{step}
 use Rattle.model.specs.State
@@ -117,10 +117,10 @@ module _ (z : Sizes) (σ : Reader) (γ : Ghost) (good : Good z σ γ) where
           ∷ consumerPhase := 5
           ∷ []
 
-      advanced : Answer
+      advanced : Effect
       advanced = upTo (z .M) (suc (σ cursorPosition)) (goes (cursorPosition := suc (σ cursorPosition) ∷ consumerPhase := 3 ∷ []))
 
-      reads : (r i : ℕ) → Answer
+      reads : (r i : ℕ) → Effect
       reads r i = cond (eqb (σ (state r i)) 1) (goes (found r)) advanced
 
       finds : (r : ℕ) → σ cursorRecord ≡ suc r → γ .entry (σ cursorPosition) ≡ put → Fine z σ γ (step 0) (goes (found r))

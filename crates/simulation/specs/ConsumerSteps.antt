@@ -16,7 +16,7 @@ use Rattle.rules.specs.Sizes.{Sizes}
 use Rattle.rules.specs.Cell.{Reader, Write, clearConsumer, consumer, consumerPhase, cursorRecord, cursorPosition, foundRecord, foundPosition, itemNumber, itemValue, tail, tailRecord, headRecord, place, next, used, ofConsumer}
 use Rattle.rules.specs.Update.{after, Own}
 use Rattle.rules.specs.Range.{lastConsumerPhase, number, consumerSorts, consumerInRange}
-use Rattle.rules.specs.Rule.{Answer, Reply, going, empty, cross}
+use Rattle.rules.specs.Rule.{Effect, Reply, going, empty, cross}
 use Rattle.rules.specs.Consumer.{byState, endsEmpty}
 use Rattle.rules.specs.Request.{step}
 use Rattle.rules.specs.Play.{replyEvents}
@@ -33,7 +33,7 @@ use Rattle.simulation.specs.Rows.{has-sort, ConsumerWords, consumer-row-
 use Rattle.simulation.specs.OwnWords.{consumer-own}
 
 -- an entry's state by cases
-pub by-state : (P : Answer → Type 0) (x : ℕ) (e : Entry) (a b c : Answer) → x ≡ codeOf e
+pub by-state : (P : Effect → Type 0) (x : ℕ) (e : Entry) (a b c : Effect) → x ≡ codeOf e
     → (e ≡ blank → P a) → (e ≡ put → P b) → (e ≡ gone → P c) → P (byState x a b c)
 by-state P x blank a b c q f g h = rw q (f refl)
 by-state P x put a b c q f g h = rw q (g refl)
@@ -89,7 +89,7 @@ module _ (z : Sizes) (σ : Reader) (γ : Ghost) (good : Good z σ γ) where
   not-tail-record r u n e = n (good .memory .tail-is ∙ ap suc (ap (γ .shape .at) (sym e) ∙ good .memory .chain .only r u .2))
 
   -- To cross from a linked record before the tail record leads to the first position of the next one, where this one ends.
-  pub by-cross : (P : Answer → Type 0) (r : ℕ) (f : ℕ → ℕ → Answer) → σ (used r) ≡ 2 → σ (place r) < γ .shape .tp
+  pub by-cross : (P : Effect → Type 0) (r : ℕ) (f : ℕ → ℕ → Effect) → σ (used r) ≡ 2 → σ (place r) < γ .shape .tp
       → z .B * σ (place r) ≤ z .M
       → ((n : ℕ) → n ≡ γ .shape .at (suc (σ (place r))) → σ (used n) ≡ 2 → σ (place n) ≡ suc (σ (place r)) → P (f n (z .B * σ (place r))))
       → P (cross z σ r f)

@@ -13,7 +13,7 @@ use Rattle.rules.specs.Sizes.{Sizes}
 use Rattle.rules.specs.Cell
 use Rattle.rules.specs.Cell.{Reader, place, used}
 use Rattle.rules.specs.Update.{and-true}
-use Rattle.rules.specs.Rule.{Answer, within, index, inside}
+use Rattle.rules.specs.Rule.{Effect, within, index, inside}
 use Rattle.model.specs.State.{Entry}
 use Rattle.model.specs.Invariant.{Inside}
 use Rattle.memory.specs.Memory.{ChainShape, ChainOf}
@@ -34,7 +34,7 @@ pub record Stands (B p j i : ℕ) : Type 0 where
 
 -- A position inside a record passes the rule's test, and has an index there.
 module _ (z : Sizes) (σ : Reader) (r p : ℕ) (h : Inside (z .B) p (σ (place r))) where
-  pub by-inside : (P : Answer → Type 0) (f : ℕ → Answer) → P (f (index z σ r p)) → P (inside z σ r p f)
+  pub by-inside : (P : Effect → Type 0) (f : ℕ → Effect) → P (f (index z σ r p)) → P (inside z σ r p f)
   by-inside P f x =
       let e : within z σ r p ≡ true = and-true (lt-ltb p (z .B * σ (place r)) (h .0)) (le-leb (z .B * σ (place r)) (p + z .B) (h .1)) in
       rw e x

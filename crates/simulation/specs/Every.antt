@@ -12,7 +12,7 @@ use Rattle.rules.specs.Free.{Picker, Picks, Choice}
 use Rattle.rules.specs.Rule.{refuse}
 use Rattle.rules.specs.Producer.{producerRules, producerStep}
 use Rattle.rules.specs.Consumer.{consumerRules, consumerStep}
-use Rattle.rules.specs.Request.{Request, startEnqueue, startDequeue, step, stepping, answer}
+use Rattle.rules.specs.Request.{Request, startEnqueue, startDequeue, step, stepping, effect}
 use Rattle.simulation.specs.View.{Ghost}
 use Rattle.simulation.specs.Good.{Good, Fine, by-cond}
 use Rattle.simulation.specs.ProducerWalk.{load-tail-fine, look-next-fine, shift-tail-fine, go-back-fine}
@@ -81,8 +81,8 @@ module _ (z : Sizes) (σ : Reader) (γ : Ghost) (good : Good z σ γ) where
       (λ d. idle-fine (step t))
       (λ d. producer-fine t (omega arith, ltb-false (z .P) t b) (pick z σ) (right z σ))))
 
-  pub answer-fine : (pick : Picker) → Picks pick → (q : Request) → Fine z σ γ q (answer pick q z σ)
-  unfolding answer
-  answer-fine pick right (startEnqueue t v) = start-enqueue-fine z σ γ good t v
-  answer-fine pick right startDequeue = start-dequeue-fine z σ γ good
-  answer-fine pick right (step t) = step-fine pick right t
+  pub effect-fine : (pick : Picker) → Picks pick → (q : Request) → Fine z σ γ q (effect pick q z σ)
+  unfolding effect
+  effect-fine pick right (startEnqueue t v) = start-enqueue-fine z σ γ good t v
+  effect-fine pick right startDequeue = start-dequeue-fine z σ γ good
+  effect-fine pick right (step t) = step-fine pick right t

@@ -11,7 +11,7 @@ use Rattle.history.specs.Form.{wellFormed}
 use Rattle.rules.specs.Sizes.{Sizes, sizesInRange}
 use Rattle.rules.specs.Cell.{Cell, Reader, Write, tail, place}
 use Rattle.rules.specs.Update.{areaOf, after}
-use Rattle.rules.specs.Rule.{Answer, refuse, reply, need, upTo}
+use Rattle.rules.specs.Rule.{Effect, refuse, reply, need, upTo}
 use Rattle.rules.specs.Request.{Request}
 use Rattle.rules.specs.Play.{threadOf, replyEvents}
 use Rattle.rules.specs.Readback.{WriteThere}
@@ -52,19 +52,19 @@ pub record Goes (z : Sizes) (σ : Reader) (γ : Ghost) (q : Request) (r : Rattle
   pub grown : next .history ≡ replyEvents q (γ .history) r ++ γ .history
   pub moved : Moved (threadOf q) σ (after σ ws) (γ .shape) (next .shape)
 
-abbrev pub Fine : (z : Sizes) (σ : Reader) (γ : Ghost) → Request → Answer → Type 0
+abbrev pub Fine : (z : Sizes) (σ : Reader) (γ : Ghost) → Request → Effect → Type 0
 Fine z σ γ q (refuse n) = (n ≢ 3) × (n ≢ 9)
 Fine z σ γ q (reply r ws) = Goes z σ γ q r ws
 
 -- To show something of a rule's answer, show it at each leaf.
-module _ (P : Answer → Type 0) where
-  pub by-need : (x : ℕ) (f : ℕ → Answer) → (x ≡ 0 → ⊥) → ((r : ℕ) → x ≡ suc r → P (f r)) → P (need x f)
+module _ (P : Effect → Type 0) where
+  pub by-need : (x : ℕ) (f : ℕ → Effect) → (x ≡ 0 → ⊥) → ((r : ℕ) → x ≡ suc r → P (f r)) → P (need x f)
   by-need zero f some each = absurd (some refl)
   by-need (suc r) f some each = each r refl
 
-  pub by-cond : (b : Bool) (a c : Answer) → (b ≡ true → P a) → (b ≡ false → P c) → P (cond b a c)
+  pub by-cond : (b : Bool) (a c : Effect) → (b ≡ true → P a) → (b ≡ false → P c) → P (cond b a c)
   by-cond true a c f g = f refl
   by-cond false a c f g = g refl
 
-  pub by-up-to : (most x : ℕ) (a : Answer) → x ≤ most → P a → P (upTo most x a)
+  pub by-up-to : (most x : ℕ) (a : Effect) → x ≤ most → P a → P (upTo most x a)
   by-up-to most x a h f = rw (le-leb x most h) f

@@ -17,7 +17,7 @@ use Rattle.rules.specs.Sizes.{Sizes, mostPlace}
 use Rattle.rules.specs.Cell.{Cell, Reader, Write, _:=_, clearProducer, tail, headPosition, starts, producer, part, entry, consumer, place, next, prev, used, phase, call, value, position, held, claimed, tailRecord, headRecord, cursorRecord, foundRecord, ofProducer}
 use Rattle.rules.specs.Update.{after, update, areaOf, OtherKind, Own, own-leaves}
 use Rattle.rules.specs.Range.{number, link, most, producerSorts, producerInRange}
-use Rattle.rules.specs.Rule.{Reply, Answer, going, ended, goes, reply}
+use Rattle.rules.specs.Rule.{Reply, Effect, going, ended, goes, reply}
 use Rattle.rules.specs.Producer.{linked, linkClaimed, linkAhead}
 use Rattle.rules.specs.Request.{step}
 use Rattle.rules.specs.Play.{replyEvents}
@@ -241,7 +241,7 @@ module _ (z : Sizes) (σ : Reader) (γ : Ghost) (good : Good z σ γ) (t : ℕ) 
   self = eq-eqb t t refl
 
   -- Either end of a link: the claimed record is linked behind the last one, or given back.
-  by-linked : (p : ℕ) (f : List Write → Answer) → σ (phase t) ≡ p → 3 ≤ p → (p ≡ 5) ⊎ (p ≡ 11)
+  by-linked : (p : ℕ) (f : List Write → Effect) → σ (phase t) ≡ p → 3 ≤ p → (p ≡ 5) ⊎ (p ≡ 11)
       → ((h c : ℕ) → σ (held t) ≡ suc h → σ (claimed t) ≡ suc c → σ (next h) ≡ 0 → suc (σ (place h)) ≤ mostPlace
       → Fine z σ γ (step t) (f (next h := suc c ∷ used c := 2 ∷ prev c := suc h ∷ place c := suc (σ (place h)) ∷ [])))
       → ((h c : ℕ) → σ (held t) ≡ suc h → σ (claimed t) ≡ suc c → σ (place h) < γ .shape .hi → Fine z σ γ (step t) (f (used c := 0 ∷ [])))

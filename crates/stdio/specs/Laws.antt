@@ -8,7 +8,7 @@ use lib.IntN.{ℤ, pos, negsuc, natAbs}
 use lib.Signed.{ltZ, nonNeg}
 use borrow.Author.Tests.{ltb-true, ltb-false}
 use Rattle.libc.specs.Io.{Moved}
-use Rattle.stdio.specs.declared.Answer.the-variants.{Failed, Ended, More}
+use Rattle.stdio.specs.declared.Got.the-variants.{Failed, Ended, More}
 use Rattle.stdio.specs.Input.{readAnswer}
 
 pub below : (z : ℤ) → ltZ z (pos 0) ≡ true → Failed ≡ readAnswer z

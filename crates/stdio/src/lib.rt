@@ -6,7 +6,7 @@ ghost use mathlib.Core.Path.{_≡_};
 ghost use Rattle.stdio.specs.Input.{readAnswer, Within};
 
 // What a call of C's read did: it failed, the input has ended, or it gave so many bytes.
-pub enum Answer {
+pub enum Got {
     Failed,
     Ended,
     More(usize),
@@ -19,17 +19,17 @@ pub enum Input {
 }
 
 // What the number that it answered says.
-fn read_answer(got: isize) -> Answer
+fn read_answer(got: isize) -> Got
     ensures { λ r. ⌜ r ≡ readAnswer got ⌝ }
 {
     if got < 0 {
-        return Answer::Failed;
+        return Got::Failed;
     }
     if 0 < got {
         let n = got as usize;
-        return Answer::More(n);
+        return Got::More(n);
     }
-    Answer::Ended
+    Got::Ended
 }
 
 // Reads standard input to its end, or until the buffer is full.
@@ -40,13 +40,13 @@ pub fn read_input(buf: &mut [u8]) -> Input
     while done < buf.len() {
         let answer = read_answer(libc::read(STDIN_FILENO, &mut buf[done..]));
         match answer {
-            Answer::Failed => {
+            Got::Failed => {
                 return Input::Unreadable;
             }
-            Answer::Ended => {
+            Got::Ended => {
                 return Input::Bytes(done);
             }
-            Answer::More(n) => {
+            Got::More(n) => {
                 done += n;
             }
         }

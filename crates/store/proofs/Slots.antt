@@ -9,7 +9,7 @@ use denote.Enum.Declared.{tagOf}
 use types.Run.{OneOf}
 use Rattle.rules.specs.Sizes.{Sizes}
 use Rattle.rules.specs.Cell.{reader}
-use Rattle.rules.specs.Rule.{Answer, refuse, need, atEnd, within}
+use Rattle.rules.specs.Rule.{Effect, refuse, need, atEnd, within}
 use Rattle.rules.specs.Request.{applied}
 use Rattle.store.specs.declared.Reply.the-variants.{Refused}
 use Rattle.store.specs.declared.Slot.{Slot}
@@ -34,7 +34,7 @@ module _ {z : Sizes} {m : List ℕ} {l p link position : ℕ} (a : link ≡ l) (
   stands-at s e = rw (a, b) (rw e at (s .stands))
 
   -- not in the record
-  pub not-inside : (f : ℕ → Answer) (x : Slot) → Slotted z m l p x → OneOf (0 ∷ 1 ∷ []) (tagOf the-type x)
+  pub not-inside : (f : ℕ → Effect) (x : Slot) → Slotted z m l p x → OneOf (0 ∷ 1 ∷ []) (tagOf the-type x)
       → left (Refused 9) m ≡ applied z m (need link (λ r. cond (within z (reader z m) r position) (f r) (refuse 9)))
   unfolding applied
   not-inside f None s k = rw (a, b) (ap (applied z m) (sym (s .stands .outside f)))
@@ -43,7 +43,7 @@ module _ {z : Sizes} {m : List ℕ} {l p link position : ℕ} (a : link ≡ l) (
   not-inside f (At r i) s (inr k) = absurd (omega arith)
 
   -- neither at the record's end nor in it
-  pub nowhere : (f g : ℕ → Answer) (x : Slot) → Slotted z m l p x → OneOf (0 ∷ 2 ∷ []) (tagOf the-type x) → OneOf (0 ∷ 1 ∷ []) (tagOf the-type x)
+  pub nowhere : (f g : ℕ → Effect) (x : Slot) → Slotted z m l p x → OneOf (0 ∷ 2 ∷ []) (tagOf the-type x) → OneOf (0 ∷ 1 ∷ []) (tagOf the-type x)
       → left (Refused 9) m ≡ applied z m (need link (λ r. cond (atEnd z (reader z m) r position) (f r) (cond (within z (reader z m) r position) (g r) (refuse 9))))
   unfolding applied
   nowhere f g None s j k = rw (a, b) (ap (applied z m) (sym (s .stands .refused f g)))

@@ -3,7 +3,7 @@ use mathlib.Core.List.{List}
 use Prim.Native.Nat.{ℕ}
 use Rattle.rules.specs.Sizes.{Sizes}
 use Rattle.rules.specs.Cell.{Reader, reader}
-use Rattle.rules.specs.Rule.{Answer, Response, refused, accepted, ok, started, going, ended, empty, item}
+use Rattle.rules.specs.Rule.{Effect, Response, refused, accepted, ok, started, going, ended, empty, item}
 use Rattle.rules.specs.Request.{Result, applied}
 use Rattle.store.specs.declared.Shape.{Shape}
 use Rattle.store.specs.Shape.{sizes}
@@ -24,5 +24,5 @@ abbrev pub left : Reply → List ℕ → Result
 left r m = record { reply = response r; words = m }
 
 -- what a rule leaves of the words
-abbrev pub does : (Sizes → Reader → Answer) → Shape → List ℕ → Result
+abbrev pub does : (Sizes → Reader → Effect) → Shape → List ℕ → Result
 does rule z m = applied (sizes z) m (rule (sizes z) (reader (sizes z) m))

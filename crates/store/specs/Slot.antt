@@ -7,7 +7,7 @@ use native.Mathlib.Omega.{arith}
 use borrow.Author.Tests.{eq-eqb, ne-eqb, lt-ltb, le-ltb, le-leb, lt-leb}
 use Rattle.rules.specs.Sizes.{Sizes}
 use Rattle.rules.specs.Cell.{Reader, reader, place}
-use Rattle.rules.specs.Rule.{Answer, refuse, need, atEnd, within, index}
+use Rattle.rules.specs.Rule.{Effect, refuse, need, atEnd, within, index}
 use Rattle.store.specs.Steps.{some}
 use Rattle.store.specs.declared.Slot.{Slot}
 use Rattle.store.specs.declared.Slot.the-variants.{None, End, At}
@@ -30,8 +30,8 @@ pub record StandsAt (z : Sizes) (σ : Reader) (l p r i : ℕ) : Type 0 where
 
 -- The link is none, or the index leaves the record: refusal 9, whatever would follow.
 pub record StandsNowhere (z : Sizes) (σ : Reader) (l p : ℕ) : Type 0 where
-  pub outside : (b : ℕ → Answer) → need l (λ r. cond (within z σ r p) (b r) (refuse 9)) ≡ refuse 9
-  pub refused : (a b : ℕ → Answer) → need l (λ r. cond (atEnd z σ r p) (a r) (cond (within z σ r p) (b r) (refuse 9))) ≡ refuse 9
+  pub outside : (b : ℕ → Effect) → need l (λ r. cond (within z σ r p) (b r) (refuse 9)) ≡ refuse 9
+  pub refused : (a b : ℕ → Effect) → need l (λ r. cond (atEnd z σ r p) (a r) (cond (within z σ r p) (b r) (refuse 9))) ≡ refuse 9
 
 abbrev pub Stands : Sizes → Reader → (l p : ℕ) → Slot → Type 0
 Stands z σ l p None = StandsNowhere z σ l p

@@ -4,7 +4,7 @@ use native.Mathlib.Omega.{arith}
 use borrow.Author.Needs.{needs}
 use denote.Ref.{now}
 use Rattle.rules.specs.Free.{lowestFree}
-use Rattle.rules.specs.Request.{answer}
+use Rattle.rules.specs.Request.{effect}
 use Rattle.admission.specs.Admit.{admitted-by}
 use Rattle.engine.specs.Calls.{call-refused, call-answered, admitted-as}
 use Rattle.engine.specs.Request.{request}
@@ -45,21 +45,21 @@ same-length-2 : tie.Need-same-length-2
 same-length-2 c = search needs
 
 returns-2 : tie.Need-returns-2
-unfolding answer
+unfolding effect
 returns-2 c = call-answered lowestFree (request (c .before .before .before .before .before .before .before .before .before .before .before .before .before .args .q)) (now (c .before .before .before .before .before .before .before .before .before .before .before .before .before .args .s)) _ (c .before .before .before .before .before .before .before .shape-of .result) (c .before .before .before .before .before .before .before .shape-of .ensures) (c .before .before .before .before .before .before .before .before .before .before .admit .ensures ∙ c .before .before .before .before .before .before .before .before .before .if1 .left) (rw (c .before .before .before .before .before .q .given .1) (c .before .before .begin-enqueue .ensures))
 
 same-length-3 : tie.Need-same-length-3
 same-length-3 c = search needs
 
 returns-3 : tie.Need-returns-3
-unfolding answer
+unfolding effect
 returns-3 c = call-answered lowestFree (request (c .before .before .before .before .before .before .before .before .before .before .before .before .args .q)) (now (c .before .before .before .before .before .before .before .before .before .before .before .before .args .s)) _ (c .before .before .before .before .before .before .shape-of .result) (c .before .before .before .before .before .before .shape-of .ensures) (c .before .before .before .before .before .before .before .before .before .admit .ensures ∙ c .before .before .before .before .before .before .before .before .if1 .left) (rw (c .before .before .before .before .enum-told .given .1) (c .before .before .begin-dequeue .ensures))
 
 same-length-4 : tie.Need-same-length-4
 same-length-4 c = search needs
 
 returns-4 : tie.Need-returns-4
-unfolding answer
+unfolding effect
 returns-4 c = call-answered lowestFree (request (c .before .before .before .before .before .before .before .before .before .before .before .before .before .args .q)) (now (c .before .before .before .before .before .before .before .before .before .before .before .before .before .args .s)) _ (c .before .before .before .before .before .before .before .shape-of .result) (c .before .before .before .before .before .before .before .shape-of .ensures) (c .before .before .before .before .before .before .before .before .before .before .admit .ensures ∙ c .before .before .before .before .before .before .before .before .before .if1 .left) (rw (c .before .before .before .before .before .q2 .given .1) (c .before .before .step-thread .ensures))
 
 pub call-spec : {M : Type 1} → statement M

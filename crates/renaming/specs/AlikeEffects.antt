@@ -10,7 +10,7 @@ use lib.Dec.{leb}
 use Rattle.rules.specs.Sizes.{Sizes}
 use Rattle.rules.specs.Cell.{Reader, Write, place, next, used, held}
 use Rattle.rules.specs.Update.{after}
-use Rattle.rules.specs.Rule.{Reply, Answer, refuse, reply, need, upTo, within, index, inside, cross}
+use Rattle.rules.specs.Rule.{Reply, Effect, refuse, reply, need, upTo, within, index, inside, cross}
 use Rattle.renaming.specs.Renaming.{Renaming, renamed, writesTo}
 use Rattle.renaming.specs.Alike.{Alike, LinksSame, HoldsSame, alike-after}
 
@@ -19,13 +19,13 @@ pub record Stores (z : Sizes) (σ τ : Reader) : Type 0 where
   pub renaming : Renaming (z .N)
   pub alike : Alike (renaming .to) σ τ
 
-abbrev pub Answers : Sizes → (σ τ : Reader) → Answer → Answer → Type 0
+abbrev pub Answers : Sizes → (σ τ : Reader) → Effect → Effect → Type 0
 Answers z σ τ (refuse n) (refuse m) = n ≡ m
 Answers z σ τ (refuse n) (reply s vs) = ⊥
 Answers z σ τ (reply r ws) (refuse m) = ⊥
 Answers z σ τ (reply r ws) (reply s vs) = (r ≡ s) × Stores z (after σ ws) (after τ vs)
 
-pub record Like (z : Sizes) (σ τ : Reader) (x y : Answer) : Type 0 where
+pub record Like (z : Sizes) (σ τ : Reader) (x y : Effect) : Type 0 where
   pub answers : Answers z σ τ x y
 
 -- a word that was cleared, or is as it was
@@ -42,16 +42,16 @@ module _ {z : Sizes} {σ τ : Reader} where
   pub by-refusal : (n : ℕ) → Like z σ τ (refuse n) (refuse n)
   by-refusal n = record { answers = refl }
 
-  pub by-cond : (b d : Bool) {x y x′ y′ : Answer} → d ≡ b → (b ≡ true → Like z σ τ x x′) → (b ≡ false → Like z σ τ y y′)
+  pub by-cond : (b d : Bool) {x y x′ y′ : Effect} → d ≡ b → (b ≡ true → Like z σ τ x x′) → (b ≡ false → Like z σ τ y y′)
       → Like z σ τ (cond b x y) (cond d x′ y′)
   by-cond true d e f g = rw e (f refl)
   by-cond false d e f g = rw e (g refl)
 
-  pub by-up-to : (most n m : ℕ) {x x′ : Answer} → m ≡ n → Like z σ τ x x′ → Like z σ τ (upTo most n x) (upTo most m x′)
+  pub by-up-to : (most n m : ℕ) {x x′ : Effect} → m ≡ n → Like z σ τ x x′ → Like z σ τ (upTo most n x) (upTo most m x′)
   by-up-to most n m e h = rw e (by-cond (leb n most) (leb n most) refl (λ b. h) (λ b. by-refusal 9))
 
   -- a position inside a record, of the same place in both stores
-  pub by-inside : (r s p q : ℕ) {k k′ : ℕ → Answer} → τ (place s) ≡ σ (place r) → q ≡ p
+  pub by-inside : (r s p q : ℕ) {k k′ : ℕ → Effect} → τ (place s) ≡ σ (place r) → q ≡ p
       → ((i : ℕ) → Like z σ τ (k i) (k′ i)) → Like z σ τ (inside z σ r p k) (inside z τ s q k′)
   by-inside r s p q e w h =
       rw (e, w) (by-cond (within z σ r p) (within z σ r p) refl (λ b. h (index z σ r p)) (λ b. by-refusal 9))
@@ -63,13 +63,13 @@ module _ {z : Sizes} {σ τ : Reader} where
     abbrev a : Alike f σ τ
     a = stores .alike
 
-    pub by-need : (x y : ℕ) (k k′ : ℕ → Answer) → y ≡ renamed f x → ((r : ℕ) → x ≡ suc r → Like z σ τ (k r) (k′ (f r)))
+    pub by-need : (x y : ℕ) (k k′ : ℕ → Effect) → y ≡ renamed f x → ((r : ℕ) → x ≡ suc r → Like z σ τ (k r) (k′ (f r)))
         → Like z σ τ (need x k) (need y k′)
     by-need zero y k k′ e h = rw e (by-refusal 9)
     by-need (suc r) y k k′ e h = rw e (h r refl)
 
     -- to cross from a linked record to its next, linked too
-    pub by-cross : (r : ℕ) (k k′ : ℕ → ℕ → Answer) → σ (used r) ≡ 2 → ((n : ℕ) → σ (next r) ≡ suc n → σ (used n) ≡ 2)
+    pub by-cross : (r : ℕ) (k k′ : ℕ → ℕ → Effect) → σ (used r) ≡ 2 → ((n : ℕ) → σ (next r) ≡ suc n → σ (used n) ≡ 2)
         → ((n p : ℕ) → σ (used n) ≡ 2 → Like z σ τ (k n p) (k′ (f n) p))
         → Like z σ τ (cross z σ r k) (cross z τ (f r) k′)
     by-cross r k k′ u linked h =

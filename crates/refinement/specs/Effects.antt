@@ -13,10 +13,10 @@ use Rattle.rules.specs.Sizes.{Sizes, sizesInRange, mostPlace, storeWords}
 use Rattle.rules.specs.Cell.{Reader, reader, Write, tailRecord, headRecord, held, claimed, cursorRecord, foundRecord, cursorPosition, foundPosition, consumerPhase, headPosition, tail, starts, state, phase, position, backed, place, next, prev, _:=_, clearProducer}
 use Rattle.rules.specs.Range.{inRange}
 use Rattle.rules.specs.Free.{Picker, Picks, Choice}
-use Rattle.rules.specs.Rule.{Reply, ok, started, going, ended, empty, item, Answer, refuse, reply, need, upTo, within, index, atEnd}
+use Rattle.rules.specs.Rule.{Reply, ok, started, going, ended, empty, item, Effect, refuse, reply, need, upTo, within, index, atEnd}
 use Rattle.rules.specs.Producer.{linked, takePosition, loadTail, lookNext, claimRecord, linkClaimed, shiftTail, goBack, writeEntry, setEntry, claimAhead, linkAhead, producerRules, producerStep}
 use Rattle.rules.specs.Consumer.{byState, front, readTail, scan, readEntry, rescan, readItem, markHandled, consumerRules, consumerStep}
-use Rattle.rules.specs.Request.{Request, startEnqueue, startDequeue, step, startingEnqueue, startingDequeue, stepping, answer, sizesOf, admitted}
+use Rattle.rules.specs.Request.{Request, startEnqueue, startDequeue, step, startingEnqueue, startingDequeue, stepping, effect, sizesOf, admitted}
 use Rattle.rules.specs.Update.{both, neither}
 use Rattle.rules.specs.Readback.{WriteThere}
 use Rattle.rules.specs.InRange.{InRange, range-has}
@@ -36,30 +36,30 @@ kindFor (startEnqueue t v) = 1
 kindFor startDequeue = 0
 kindFor (step t) = 2
 
-abbrev pub Sound : Sizes → Request → Answer → Type 0
+abbrev pub Sound : Sizes → Request → Effect → Type 0
 Sound z q (refuse n) = (1 ≤ n) × (n ≤ 9)
 Sound z q (reply r ws) = (kindOf r ≡ kindFor q) × All (WriteThere z) ws
 
 -- To show that an answer is sound, show it at each leaf.
-by-cond : (z : Sizes) (q : Request) (b : Bool) (a c : Answer) → (b ≡ true → Sound z q a) → (b ≡ false → Sound z q c) → Sound z q (cond b a c)
+by-cond : (z : Sizes) (q : Request) (b : Bool) (a c : Effect) → (b ≡ true → Sound z q a) → (b ≡ false → Sound z q c) → Sound z q (cond b a c)
 by-cond z q true a c f g = f refl
 by-cond z q false a c f g = g refl
 
 module _ (z : Sizes) (σ : Reader) (range : InRange z σ) (t : ℕ) where
-  abbrev S : Answer → Type 0
+  abbrev S : Effect → Type 0
   S a = Sound z (step t) a
 
-  either : (b : Bool) (a c : Answer) → S a → S c → S (cond b a c)
+  either : (b : Bool) (a c : Effect) → S a → S c → S (cond b a c)
   either b a c x y = by-cond z (step t) b a c (λ _. x) (λ _. y)
 
-  needs : (x : ℕ) (f : ℕ → Answer) → x ≤ z .N → ((r : ℕ) → r < z .N → S (f r)) → S (need x f)
+  needs : (x : ℕ) (f : ℕ → Effect) → x ≤ z .N → ((r : ℕ) → r < z .N → S (f r)) → S (need x f)
   needs zero f h each = omega arith
   needs (suc r) f h each = each r h
 
-  up-to : (limit x : ℕ) (a : Answer) → S a → S (upTo limit x a)
+  up-to : (limit x : ℕ) (a : Effect) → S a → S (upTo limit x a)
   up-to limit x a s = either (leb x limit) a (refuse 9) s (omega arith)
 
-  in-record : (r p : ℕ) (a : Answer) → (index z σ r p < z .B → S a) → S (cond (within z σ r p) a (refuse 9))
+  in-record : (r p : ℕ) (a : Effect) → (index z σ r p < z .B → S a) → S (cond (within z σ r p) a (refuse 9))
   in-record r p a f =
       by-cond z (step t) (within z σ r p) a (refuse 9)
       (λ e.
@@ -67,7 +67,7 @@ module _ (z : Sizes) (σ : Reader) (range : InRange z σ) (t : ℕ) where
       f (omega (arith, ltb-true p (z .B * σ (place r)) (b .0), leb-true (z .B * σ (place r)) (p + z .B) (b .1))))
       (λ _. omega arith)
 
-  places : (x : ℕ) (f : ℕ → Answer) → ((y : ℕ) → S (f y)) → S (need x f)
+  places : (x : ℕ) (f : ℕ → Effect) → ((y : ℕ) → S (f y)) → S (need x f)
   places zero f each = omega arith
   places (suc y) f each = each y
 
@@ -101,7 +101,7 @@ module _ (z : Sizes) (σ : Reader) (range : InRange z σ) (t : ℕ) where
       (in-record h (σ headPosition) _
       λ b. by-state (σ (state h (index z σ h (σ headPosition)))) _ _ _ (omega arith) (omega arith) (up-to (z .M) (suc (σ headPosition)) _ (omega arith)))
     where
-      by-state : (x : ℕ) (a b c : Answer) → S a → S b → S c → S (byState x a b c)
+      by-state : (x : ℕ) (a b c : Effect) → S a → S b → S c → S (byState x a b c)
       by-state zero a b c f g h = f
       by-state (suc zero) a b c f g h = g
       by-state (suc (suc x)) a b c f g h = h
@@ -280,14 +280,14 @@ module _ (z : Sizes) (σ : Reader) (range : InRange z σ) where
       λ n. either z σ range t (eqb (σ (phase t)) 0) _ _ (omega arith)
       (producer-sound z σ range t (omega (arith, eqb-false t 0 n, ltb-false (z .P) t l)) (pick z σ) (right z σ))
 
-  pub answer-sound : (pick : Picker) → Picks pick → (q : Request) → Sound z q (answer pick q z σ)
-  unfolding answer
+  pub answer-sound : (pick : Picker) → Picks pick → (q : Request) → Sound z q (effect pick q z σ)
+  unfolding effect
   answer-sound pick right (startEnqueue t v) = start-enqueue-sound t v
   answer-sound pick right startDequeue = start-dequeue-sound
   answer-sound pick right (step t) = step-sound pick right t
 
 -- The same of a call on any words.
-pub admitted-sound : (pick : Picker) → Picks pick → (q : Request) (m : List ℕ) → Sound (sizesOf m) q (admitted m (answer pick q))
+pub admitted-sound : (pick : Picker) → Picks pick → (q : Request) (m : List ℕ) → Sound (sizesOf m) q (admitted m (effect pick q))
 unfolding admitted
 admitted-sound pick right q m =
     let z = sizesOf m in
