@@ -1,5 +1,6 @@
 -- `starting::begin_dequeue` meets its contract.
 use mathlib.Core.Path.{refl}
+use native.Mathlib.Omega.{arith}
 use borrow.Author.Needs.{needs}
 use borrow.Author.Tests.{ne-eqb}
 use Rattle.rules.specs.Cell.{writes}
@@ -15,7 +16,7 @@ same-length c = search needs
 
 returns : tie.Need-returns
 unfolding startingDequeue applied
-returns c = rw (c .before .before .read-consumer .ensures .phase, ne-eqb _ _ (c .if1 .taken)) refl
+returns c = rw (c .before .before .read-consumer .ensures .phase, ne-eqb (c .before .before .read-consumer .result .phase) 0 (λ e. omega (arith, c .if1 .taken))) refl
 
 put-consumer-requires : tie.Need-put-consumer-requires
 put-consumer-requires c κs = search needs

@@ -25,7 +25,7 @@ same-length c = search needs
 
 returns-3 : tie.Need-returns-3
 unfolding startingEnqueue applied
-returns-3 c = rw (le-ltb (c .before .before .before .before .before .before .before .before .args .z .producers) (c .before .before .before .before .before .before .before .before .args .t) (c .before .before .before .before .if2 .left), ne-eqb (c .before .before .before .before .before .before .before .before .args .t) 0 (c .before .before .before .before .before .before .if1 .left), c .before .before .read-producer .ensures .phase, ne-eqb _ _ (c .if3 .taken)) refl
+returns-3 c = rw (le-ltb (c .before .before .before .before .before .before .before .before .args .z .producers) (c .before .before .before .before .before .before .before .before .args .t) (c .before .before .before .before .if2 .left), ne-eqb (c .before .before .before .before .before .before .before .before .args .t) 0 (c .before .before .before .before .before .before .if1 .left), c .before .before .read-producer .ensures .phase, ne-eqb (c .before .before .read-producer .result .phase) 0 (λ e. omega (arith, c .if3 .taken))) refl
 
 read-contents-requires : tie.Need-read-contents-requires
 read-contents-requires c κs = search needs
