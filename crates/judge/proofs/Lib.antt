@@ -1,6 +1,6 @@
 pub mod Filling
 pub mod Staying
 pub mod Answering
-pub mod Walking
+pub mod MirWalks
 pub mod Lending
 pub mod Taken

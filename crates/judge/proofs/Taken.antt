@@ -27,7 +27,7 @@ use denote.Triple.Spec.{Meets}
 use denote.Triple.Walked.{Stays, stay-dropped, gave-slice, walkOf, goes-dropped, goes-gave-slice, ends-at, walked}
 use denote.Exit.{yes}
 use Rattle.judge.specs.declared.Call.{Call}
-use Rattle.judge.proofs.Walking.{Entry, Code, proves}
+use Rattle.judge.proofs.MirWalks.{Entry, Code, proves}
 
 abbrev words : Slot 2
 words = shrSliceOf (0 ∷ []) tt (plain (λ _. u32))

@@ -5,4 +5,4 @@ pub mod Store
 pub mod Rows
 pub mod Slot
 pub mod Words
-pub mod Steps
+pub mod Branches

@@ -8,7 +8,7 @@ use borrow.Author.Tests.{eq-eqb, ne-eqb, lt-ltb, le-ltb, le-leb, lt-leb}
 use Rattle.rules.specs.Sizes.{Sizes}
 use Rattle.rules.specs.Cell.{Reader, reader, place}
 use Rattle.rules.specs.Rule.{Effect, refuse, need, atEnd, within, index}
-use Rattle.store.specs.Steps.{some}
+use Rattle.store.specs.Branches.{some}
 use Rattle.store.specs.declared.Slot.{Slot}
 use Rattle.store.specs.declared.Slot.the-variants.{None, End, At}
 

@@ -2,7 +2,7 @@
 use mathlib.Core.Path.{refl}
 use borrow.Author.Needs.{needs}
 use Rattle.rules.specs.Cell.{writes}
-use Rattle.store.specs.Steps.{some, suc-pred}
+use Rattle.store.specs.Branches.{some, suc-pred}
 use Rattle.claim.proofs.claim.Statement.{statement}
 use Rattle.claim.proofs.claim.Tie as tie
 

@@ -4,7 +4,7 @@ use borrow.Author.Needs.{needs}
 use Rattle.rules.specs.Cell.{writes}
 use Rattle.rules.specs.Producer.{claimAhead}
 use Rattle.rules.specs.Request.{applied}
-use Rattle.store.specs.Steps.{some}
+use Rattle.store.specs.Branches.{some}
 use Rattle.claim.proofs.claim_ahead.Statement.{statement}
 use Rattle.claim.proofs.claim_ahead.Tie as tie
 

@@ -3,7 +3,7 @@ use mathlib.Core.Path.{refl}
 use borrow.Author.Needs.{needs}
 use Rattle.rules.specs.Producer.{claimRecord}
 use Rattle.rules.specs.Request.{applied}
-use Rattle.store.specs.Steps.{some}
+use Rattle.store.specs.Branches.{some}
 use Rattle.claim.proofs.claim_record.Statement.{statement}
 use Rattle.claim.proofs.claim_record.Tie as tie
 

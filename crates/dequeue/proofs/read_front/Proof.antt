@@ -8,7 +8,7 @@ use borrow.Author.Tests.{eq-eqb, ne-eqb, le-leb, lt-leb}
 use Rattle.rules.specs.Cell.{writes}
 use Rattle.rules.specs.Consumer.{front}
 use Rattle.rules.specs.Request.{applied}
-use Rattle.store.specs.Steps.{handled}
+use Rattle.store.specs.Branches.{handled}
 use Rattle.store.proofs.Slots.{end-there, at-there, stands-end, stands-at, nowhere}
 use Rattle.dequeue.proofs.read_front.Statement.{statement}
 use Rattle.dequeue.proofs.read_front.Tie as tie

@@ -6,7 +6,7 @@ use borrow.Author.Tests.{eq-eqb, ne-eqb}
 use Rattle.rules.specs.Cell.{writes}
 use Rattle.rules.specs.Consumer.{scan}
 use Rattle.rules.specs.Request.{applied}
-use Rattle.store.specs.Steps.{some, suc-pred}
+use Rattle.store.specs.Branches.{some, suc-pred}
 use Rattle.dequeue.proofs.scan_on.Statement.{statement}
 use Rattle.dequeue.proofs.scan_on.Tie as tie
 

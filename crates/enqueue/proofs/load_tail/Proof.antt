@@ -4,7 +4,7 @@ use borrow.Author.Needs.{needs}
 use Rattle.rules.specs.Cell.{writes}
 use Rattle.rules.specs.Producer.{loadTail}
 use Rattle.rules.specs.Request.{applied}
-use Rattle.store.specs.Steps.{some, suc-pred}
+use Rattle.store.specs.Branches.{some, suc-pred}
 use Rattle.enqueue.proofs.load_tail.Statement.{statement}
 use Rattle.enqueue.proofs.load_tail.Tie as tie
 

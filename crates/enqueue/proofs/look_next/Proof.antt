@@ -4,7 +4,7 @@ use borrow.Author.Needs.{needs}
 use Rattle.rules.specs.Cell.{writes}
 use Rattle.rules.specs.Producer.{lookNext}
 use Rattle.rules.specs.Request.{applied}
-use Rattle.store.specs.Steps.{some}
+use Rattle.store.specs.Branches.{some}
 use Rattle.enqueue.proofs.look_next.Statement.{statement}
 use Rattle.enqueue.proofs.look_next.Tie as tie
 

@@ -6,7 +6,7 @@ use borrow.Author.Tests.{eq-eqb, ne-eqb}
 use Rattle.rules.specs.Cell.{writes}
 use Rattle.rules.specs.Producer.{shiftTail}
 use Rattle.rules.specs.Request.{applied}
-use Rattle.store.specs.Steps.{some, suc-pred}
+use Rattle.store.specs.Branches.{some, suc-pred}
 use Rattle.enqueue.proofs.shift_tail.Statement.{statement}
 use Rattle.enqueue.proofs.shift_tail.Tie as tie
 

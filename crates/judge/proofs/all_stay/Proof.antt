@@ -44,7 +44,7 @@ use denote.Exit.{yes}
 use Rattle.judge.specs.declared.Call.{Call}
 use Rattle.judge.specs.Working.{noCall, staysAt, allStay}
 use Rattle.judge.proofs.Lending.{slice}
-use Rattle.judge.proofs.Walking.{Entry, Flags, less, offset-fits, next-fits, typeOf, span, envOf, deaths, allocates, frees-all, By, calls-by, counts, proves}
+use Rattle.judge.proofs.MirWalks.{Entry, Flags, less, offset-fits, next-fits, typeOf, span, envOf, deaths, allocates, frees-all, By, calls-by, counts, proves}
 use Rattle.judge.proofs.Call as call
 use Rattle.judge.proofs.Call.Laws as call-laws
 use Rattle.judge.proofs.stays as one

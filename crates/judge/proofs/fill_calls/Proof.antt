@@ -46,7 +46,7 @@ use Rattle.judge.specs.declared.Call.{Call}
 use Rattle.judge.specs.Working.{noCall, entryIn, filled}
 use Rattle.judge.proofs.Filling.{length-filled, one-more}
 use Rattle.judge.proofs.Lending.{slice}
-use Rattle.judge.proofs.Walking.{Entry, Working, less, offset-fits, next-fits, typeOf, span, envOf, deaths, allocates, frees-all, By, calls-by, counts, proves}
+use Rattle.judge.proofs.MirWalks.{Entry, Working, less, offset-fits, next-fits, typeOf, span, envOf, deaths, allocates, frees-all, By, calls-by, counts, proves}
 use Rattle.judge.proofs.Call as call
 use Rattle.judge.proofs.Call.Laws as call-laws
 use Rattle.judge.proofs.entry_of as entry

@@ -46,7 +46,7 @@ use Rattle.marking.proofs.Marked as marked
 use Rattle.marking.proofs.Marked.Laws as marked-laws
 use Rattle.judge.proofs.Verdict as verdict
 use Rattle.judge.proofs.Verdict.Laws as verdict-laws
-use Rattle.judge.proofs.Walking.{Entry, Working, Flags, typeOf, span, allocates, frees-all, By, calls-by}
+use Rattle.judge.proofs.MirWalks.{Entry, Working, Flags, typeOf, span, allocates, frees-all, By, calls-by}
 use Rattle.judge.proofs.Lending.{at, slice, lends-own, own-back, shares-own, own-room, lends-slice, slice-back, shares-slice}
 use Rattle.judge.proofs.Taken.{Given-both, After, exits, meets}
 use Rattle.reading.proofs.read as read

@@ -54,7 +54,7 @@ use Rattle.judge.proofs.Call as call
 use Rattle.judge.proofs.Call.Laws as call-laws
 use Rattle.judge.proofs.Verdict as verdict
 use Rattle.judge.proofs.Verdict.Laws as verdict-laws
-use Rattle.judge.proofs.Walking.{Entry, typeOf, span, big-lit, allocates, frees-all, By, calls-by, proves}
+use Rattle.judge.proofs.MirWalks.{Entry, typeOf, span, big-lit, allocates, frees-all, By, calls-by, proves}
 use Rattle.judge.proofs.judge as judge
 use Rattle.judge.proofs.judge.Symbol as judge-def
 use Rattle.judge.proofs.judge.Met as judge-thm

@@ -32,7 +32,7 @@ use Rattle.judge.specs.declared.Call.{Call}
 use Rattle.judge.specs.Answer.{Judges}
 use Rattle.judge.proofs.Verdict as verdict
 use Rattle.judge.proofs.Verdict.Laws as verdict-laws
-use Rattle.judge.proofs.Walking.{Entry, span, allocates, frees-all, By, calls-by}
+use Rattle.judge.proofs.MirWalks.{Entry, span, allocates, frees-all, By, calls-by}
 use Rattle.judge.proofs.Taken.{Given-both, After, exits, meets}
 use Rattle.judge.proofs.judge as judge
 use Rattle.judge.proofs.judge.Symbol as judge-def

@@ -8,7 +8,7 @@ use borrow.Author.Tests.{eq-eqb, ne-eqb, le-leb, lt-leb}
 use Rattle.rules.specs.Cell.{writes}
 use Rattle.rules.specs.Request.{applied}
 use Rattle.rules.specs.Sizes.{mostPlace}
-use Rattle.store.specs.Steps.{some, suc-pred}
+use Rattle.store.specs.Branches.{some, suc-pred}
 use Rattle.linking.proofs.link.Statement.{statement}
 use Rattle.linking.proofs.link.Tie as tie
 
