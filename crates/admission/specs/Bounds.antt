@@ -45,7 +45,7 @@ pub record Bounded (z : Sizes) (b : List ℕ) : Type 0 where
 abbrev pub wordTest : (m b : List ℕ) (at j : ℕ) → Bool
 wordTest m b at j = leb (getD m (at + j) 0) (getD b j 0)
 
-length-bounds : (row : List ℕ) (m n : ℕ) → length (entryBounds row m n) ≡ length row
+pub length-bounds : (row : List ℕ) (m n : ℕ) → length (entryBounds row m n) ≡ length row
 unfolding entryBounds
 length-bounds row m zero = refl
 length-bounds row m (suc n) = simp length-set (length-bounds row m n)

@@ -5,8 +5,7 @@ use native.Mathlib.Numerals.{add-one}
 use native.Mathlib.Omega.{arith}
 use lib.ListN.{length, length-set}
 use denote.Ref.{now}
-use Rattle.store.specs.Shape.{sizes}
-use Rattle.admission.specs.Bounds.{entryBounds, length-row}
+use Rattle.admission.specs.Bounds.{entryBounds, length-bounds}
 use Rattle.admission.proofs.fill_bounds.Statement.{statement}
 use Rattle.admission.proofs.fill_bounds.Tie as tie
 
@@ -46,8 +45,7 @@ mul-b-2 c = omega arith
 
 slice-write-b-5 : tie.Need-slice-write-b-5 Inv-loop μ-loop
 slice-write-b-5 c =
-    let a = c .before .before .before .args in
-    let e = ap length (c .before .loop .inv .1) ∙ length-row (now (a .b)) (sizes (a .z)) (c .before .loop .i) in
+    let e : length (c .before .loop .b) ≡ length (now (c .before .before .before .args .b)) = ap length (c .before .loop .inv .1) ∙ length-bounds _ _ _ ∙ simp length-set in
     omega arith
 
 mul-b-3 : tie.Need-mul-b-3 Inv-loop μ-loop
@@ -61,8 +59,7 @@ mul-b-4 c = omega arith
 
 slice-write-b-6 : tie.Need-slice-write-b-6 Inv-loop μ-loop
 slice-write-b-6 c =
-    let a = c .before .before .before .args in
-    let e = ap length (c .before .loop .inv .1) ∙ length-row (now (a .b)) (sizes (a .z)) (c .before .loop .i) in
+    let e : length (c .before .loop .b) ≡ length (now (c .before .before .before .args .b)) = ap length (c .before .loop .inv .1) ∙ length-bounds _ _ _ ∙ simp length-set in
     simp length-set (omega arith)
 
 add-i : tie.Need-add-i Inv-loop μ-loop
@@ -76,9 +73,7 @@ unfolding entryBounds
 loop-again c = (omega arith, rw (add-one (c .before .loop .i), c .before .loop .inv .1) refl)
 
 same-length : tie.Need-same-length Inv-loop μ-loop
-same-length c =
-    let a = c .before .before .before .args in
-    ap length (c .before .loop .inv .1) ∙ length-row (now (a .b)) (sizes (a .z)) (c .before .loop .i)
+same-length c = ap length (c .before .loop .inv .1) ∙ length-bounds _ _ _ ∙ simp length-set
 
 returns : tie.Need-returns Inv-loop μ-loop
 returns c =

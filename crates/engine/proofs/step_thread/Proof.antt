@@ -94,37 +94,37 @@ read-producer-requires : tie.Need-read-producer-requires
 read-producer-requires c κs = search needs
 
 take-position-requires : tie.Need-take-position-requires
-take-position-requires c κs = (c .before .before .before .before .before .before .before .before .pre, omega arith)
+take-position-requires c κs = search needs
 
 load-tail-requires : tie.Need-load-tail-requires
-load-tail-requires c κs = (c .before .before .before .before .before .before .before .before .pre, omega arith)
+load-tail-requires c κs = search needs
 
 look-next-requires : tie.Need-look-next-requires
-look-next-requires c κs = (c .before .before .before .before .before .before .before .before .pre, omega arith)
+look-next-requires c κs = search needs
 
 claim-record-requires : tie.Need-claim-record-requires
-claim-record-requires c κs = (c .before .before .before .before .before .before .before .before .pre, omega arith)
+claim-record-requires c κs = search needs
 
 link-claimed-requires : tie.Need-link-claimed-requires
-link-claimed-requires c κs = (c .before .before .before .before .before .before .before .before .pre, omega arith)
+link-claimed-requires c κs = search needs
 
 shift-tail-requires : tie.Need-shift-tail-requires
-shift-tail-requires c κs = (c .before .before .before .before .before .before .before .before .pre, omega arith)
+shift-tail-requires c κs = search needs
 
 go-back-requires : tie.Need-go-back-requires
-go-back-requires c κs = (c .before .before .before .before .before .before .before .before .pre, omega arith)
+go-back-requires c κs = search needs
 
 write-entry-requires : tie.Need-write-entry-requires
-write-entry-requires c κs = (c .before .before .before .before .before .before .before .before .pre, omega arith)
+write-entry-requires c κs = search needs
 
 set-entry-requires : tie.Need-set-entry-requires
-set-entry-requires c κs = (c .before .before .before .before .before .before .before .before .pre, omega arith)
+set-entry-requires c κs = search needs
 
 claim-ahead-requires : tie.Need-claim-ahead-requires
-claim-ahead-requires c κs = (c .before .before .before .before .before .before .before .before .pre, omega arith)
+claim-ahead-requires c κs = search needs
 
 link-ahead-requires : tie.Need-link-ahead-requires
-link-ahead-requires c κs = (c .before .before .before .before .before .before .before .before .pre, omega arith)
+link-ahead-requires c κs = search needs
 
 same-length-10 : tie.Need-same-length-10
 same-length-10 c = search needs
