@@ -61,9 +61,9 @@ pub fn load_tail(s: &mut [u32], z: Shape, t: u32) -> Reply
     if q.tail_record == 0 {
         return Reply::Refused(9);
     }
-    let next = choose_phase(s, z, t, q.tail_record - 1);
+    let to = choose_phase(s, z, t, q.tail_record - 1);
     put_producer(s, z, t, word::HELD, q.tail_record);
-    put_producer(s, z, t, word::PHASE, next);
+    put_producer(s, z, t, word::PHASE, to);
     Reply::Going
 }
 
@@ -78,13 +78,8 @@ pub fn look_next(s: &mut [u32], z: Shape, t: u32) -> Reply
         return Reply::Refused(9);
     }
     let none = part(s, z, held - 1, word::NEXT) == 0;
-    put_producer(
-        s,
-        z,
-        t,
-        word::PHASE,
-        select(none, phase::CLAIM, phase::SHIFT),
-    );
+    let to = select(none, phase::CLAIM, phase::SHIFT);
+    put_producer(s, z, t, word::PHASE, to);
     Reply::Going
 }
 
@@ -126,10 +121,10 @@ pub fn go_back(s: &mut [u32], z: Shape, t: u32) -> Reply
     if prev == 0 {
         return Reply::Refused(9);
     }
-    let next = choose_phase(s, z, t, prev - 1);
+    let to = choose_phase(s, z, t, prev - 1);
     put_producer(s, z, t, word::HELD, prev);
     put_producer(s, z, t, word::BACKED, 1);
-    put_producer(s, z, t, word::PHASE, next);
+    put_producer(s, z, t, word::PHASE, to);
     Reply::Going
 }
 

@@ -344,11 +344,8 @@ pub fn clear_producer(s: &mut [u32], z: Shape, t: u32)
     requires { ⌜ t ≤ z .producers ⌝ }
     ensures { λ _. ⌜ now (s .exit) ≡ write (sizes z) (now (s .entry)) (clearProducer t) ⌝ }
 {
-    clear(
-        s,
-        size::CONTENT_WORDS + size::THREAD_WORDS * t,
-        size::THREAD_WORDS,
-    );
+    let at = size::CONTENT_WORDS + size::THREAD_WORDS * t;
+    clear(s, at, size::THREAD_WORDS);
 }
 
 pub fn wipe_record(s: &mut [u32], z: Shape, r: u32)

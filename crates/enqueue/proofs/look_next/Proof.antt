@@ -35,7 +35,7 @@ same-length-2 c = search needs
 
 returns-2 : tie.Need-returns-2
 unfolding lookNext applied writes
-returns-2 c = rw (some (c .before .before .before .before .before .before .before .before .read-producer .ensures .held) (c .before .before .before .before .before .before .before .if1 .left), c .before .before .before .before .before .part .ensures .is, c .before .before .put-producer .ensures, c .before .before .before .select .ensures) refl
+returns-2 c = rw (some (c .before .before .before .before .before .before .before .before .read-producer .ensures .held) (c .before .before .before .before .before .before .before .if1 .left), c .before .before .before .before .before .part .ensures .is, c .before .before .put-producer .ensures, c .before .before .before .before .select .ensures) refl
 
 pub look-next-spec : {M : Type 1} → statement M
 look-next-spec =
