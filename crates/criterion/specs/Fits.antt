@@ -101,28 +101,28 @@ Next d e = d .end < e .start
 
 -- what the calls put into it have
 pub record Sorted (ds : List Dequeue) (p : List Enqueue) : Type 0 where
-  pub enqueues : Pairwise (λ x y. Timely (enq x) (enq y)) p
-  pub dequeues : Pairwise Next ds
+  pub enqueues-in-order : Pairwise (λ x y. Timely (enq x) (enq y)) p
+  pub dequeues-in-order : Pairwise Next ds
   pub forward : All (λ d. (d .end ≢ 0) × (d .start < d .end)) ds
   pub apart : All (λ x. All (λ d. x .start ≢ d .start) ds) p
 
 without-enqueue : {ds : List Dequeue} {x : Enqueue} {p : List Enqueue} → Sorted ds (x ∷ p) → Sorted ds p
-without-enqueue s = record { enqueues = s .enqueues .1; dequeues = s .dequeues; forward = s .forward; apart = s .apart .1 }
+without-enqueue s = record { enqueues-in-order = s .enqueues-in-order .1; dequeues-in-order = s .dequeues-in-order; forward = s .forward; apart = s .apart .1 }
 
 without-dequeue : {d : Dequeue} {ds : List Dequeue} {p : List Enqueue} → Sorted (d ∷ ds) p → Sorted ds p
 without-dequeue {p = p} s =
-    record { enqueues = s .enqueues; dequeues = s .dequeues .1; forward = s .forward .1; apart = all-map _ _ p (λ x a. a .1) (s .apart) }
+    record { enqueues-in-order = s .enqueues-in-order; dequeues-in-order = s .dequeues-in-order .1; forward = s .forward .1; apart = all-map _ _ p (λ x a. a .1) (s .apart) }
 
 -- the first of the calls against the others
 first-enqueue :
     (d : Dequeue) (ds : List Dequeue) (x : Enqueue) (p : List Enqueue) → Sorted (d ∷ ds) (x ∷ p) → x .start ≤ d .end
     → (c : Call) → Among (d ∷ ds) p c → Timely (enq x) c
-first-enqueue d ds x p s l (enq y) m = all-at _ p (s .enqueues .0) y m
+first-enqueue d ds x p s l (enq y) m = all-at _ p (s .enqueues-in-order .0) y m
 first-enqueue d ds x p s l (deq b) m = (λ r. late m r, all-at _ (d ∷ ds) (s .apart .0) b m)
   where
     late : Member b (d ∷ ds) → Precedes (deq b) (enq x) → ⊥
     late (inl e) r = let q : b .end ≡ d .end = ap (λ (z : Dequeue). z .end) e in let t = r .1 in omega arith
-    late (inr n) r = let t = r .1 in let u = all-at _ ds (s .dequeues .0) b n in let v = all-at _ ds (s .forward .1) b n in omega arith
+    late (inr n) r = let t = r .1 in let u = all-at _ ds (s .dequeues-in-order .0) b n in let v = all-at _ ds (s .forward .1) b n in omega arith
 
 first-dequeue :
     (d : Dequeue) (ds : List Dequeue) (p : List Enqueue) → Sorted (d ∷ ds) p → All (λ y. Precedes (enq y) (deq d) → ⊥) p
@@ -130,12 +130,12 @@ first-dequeue :
 first-dequeue d ds p s a (enq y) m = (all-at _ p a y m, λ e. all-at _ p (s .apart) y m .0 (sym e))
 first-dequeue d ds p s a (deq b) m =
     let t = s .forward .0 in
-    let u = all-at _ ds (s .dequeues .0) b m in
+    let u = all-at _ ds (s .dequeues-in-order .0) b m in
     let v = all-at _ ds (s .forward .1) b m in
     (λ r. let w = r .1 in omega arith, λ e. omega arith)
 
 pub fits-timely : {ds : List Dequeue} {q p r : List Enqueue} {ord : List Call} → Fits ds q p r ord → Sorted ds p → Pairwise Timely ord
-fits-timely (done {p = p}) s = pairwise-map Timely (λ x y. Timely (enq x) (enq y)) enq p (λ a b t. t) (s .enqueues)
+fits-timely (done {p = p}) s = pairwise-map Timely (λ x y. Timely (enq x) (enq y)) enq p (λ a b t. t) (s .enqueues-in-order)
 fits-timely (put {d = d} {ds = ds} {x = x} {p = p} {ord = ord} l f) s = (
   all-of _ ord
       (λ c m. first-enqueue d ds x p s l c (fits-among f c m)),

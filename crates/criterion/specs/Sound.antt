@@ -200,8 +200,8 @@ module _ (h : History) (w : wellFormed h ≡ true) where
       sorted : Sorted dequeued line
       sorted =
           record {
-            enqueues = in-line .0;
-            dequeues = in-turn .1;
+            enqueues-in-order = in-line .0;
+            dequeues-in-order = in-turn .1;
             forward = has-ended;
             apart =
                 all-of _ line

@@ -1,4 +1,3 @@
-pub mod Request
 pub mod Export
 pub mod Calls
 pub mod Delivery

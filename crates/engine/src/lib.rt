@@ -5,7 +5,6 @@ ghost use Rattle.rules.specs.Request.{startEnqueue, startDequeue, step, steppin
 ghost use Rattle.store.specs.Shape.{sizes};
 ghost use Rattle.store.specs.Outcome.{response, left, does};
 ghost use Rattle.store.specs.Store.{Admitted};
-ghost use Rattle.engine.specs.Request.{request};
 ghost use Rattle.engine.specs.Export.{code, replyWords, returned, replied};
 use admission::admit;
 use admission::shape_of;
@@ -34,13 +33,6 @@ use store::Reply;
 use store::Shape;
 use store::read_consumer;
 use store::read_producer;
-
-// A start enqueue (producer, value), a start dequeue or a step (thread).
-pub enum Request {
-    Enqueue(u32, u32),
-    Dequeue,
-    Step(u32),
-}
 
 // *Step* (thread) on admitted words does one phase.
 fn step_thread(s: &mut [u32], z: Shape, t: u32) -> Reply
@@ -80,41 +72,37 @@ fn step_thread(s: &mut [u32], z: Shape, t: u32) -> Reply
     }
 }
 
-// A call on any words: admission first, then its own rule.
-fn call(s: &mut [u32], q: Request) -> Reply
-    ensures { λ r. ⌜ left r (now (s .exit)) ≡ result lowestFree (request q) (now (s .entry)) ⌝ }
+// *Start enqueue* (producer, value): admission first, then its own rule.
+pub fn start_enqueue(s: &mut [u32], t: u32, v: u32) -> Reply
+    ensures { λ r. ⌜ left r (now (s .exit)) ≡ result lowestFree (startEnqueue t v) (now (s .entry)) ⌝ }
 {
     let n = admit(s);
     if n != 0 {
         return Reply::Refused(n);
     }
-    let z = shape_of(s);
-    match q {
-        Request::Enqueue(t, v) => begin_enqueue(s, z, t, v),
-        Request::Dequeue => begin_dequeue(s, z),
-        Request::Step(t) => step_thread(s, z, t),
-    }
-}
-
-// *Start enqueue* (producer, value).
-pub fn start_enqueue(s: &mut [u32], t: u32, v: u32) -> Reply
-    ensures { λ r. ⌜ left r (now (s .exit)) ≡ result lowestFree (startEnqueue t v) (now (s .entry)) ⌝ }
-{
-    call(s, Request::Enqueue(t, v))
+    begin_enqueue(s, shape_of(s), t, v)
 }
 
 // *Start dequeue*.
 pub fn start_dequeue(s: &mut [u32]) -> Reply
     ensures { λ r. ⌜ left r (now (s .exit)) ≡ result lowestFree startDequeue (now (s .entry)) ⌝ }
 {
-    call(s, Request::Dequeue)
+    let n = admit(s);
+    if n != 0 {
+        return Reply::Refused(n);
+    }
+    begin_dequeue(s, shape_of(s))
 }
 
 // *Step* (thread).
 pub fn step(s: &mut [u32], t: u32) -> Reply
     ensures { λ r. ⌜ left r (now (s .exit)) ≡ result lowestFree (step t) (now (s .entry)) ⌝ }
 {
-    call(s, Request::Step(t))
+    let n = admit(s);
+    if n != 0 {
+        return Reply::Refused(n);
+    }
+    step_thread(s, shape_of(s), t)
 }
 
 // The number that a reply is returned as.
@@ -152,11 +140,10 @@ fn store_reply(r: Reply, reply: &mut [u32; 4])
     }
 }
 
-// A call whose reply goes to the caller's four words.
-fn deliver(store: &mut [u32], q: Request, reply: &mut [u32; 4]) -> u32
-    ensures { λ n. ⌜ record { number = n; store = now (store .exit); reply = now (reply .exit) } ≡ replied (result lowestFree (request q) (now (store .entry))) (now (reply .entry)) ⌝ }
+// A reply goes to the caller's four words, and its number is returned.
+fn deliver(r: Reply, reply: &mut [u32; 4]) -> u32
+    ensures { λ n. ⌜ (n ≡ code (response r)) × (now (reply .exit) ≡ replyWords (response r) (now (reply .entry))) ⌝ }
 {
-    let r = call(store, q);
     store_reply(r, reply);
     returned_code(r)
 }
@@ -191,7 +178,7 @@ pub extern "C" fn intake_start_enqueue(
 ) -> u32
     ensures { λ n. ⌜ record { number = n; store = now (store .exit); reply = now (reply .exit) } ≡ replied (result lowestFree (startEnqueue producer value) (now (store .entry))) (now (reply .entry)) ⌝ }
 {
-    deliver(store, Request::Enqueue(producer, value), reply)
+    deliver(start_enqueue(store, producer, value), reply)
 }
 
 // *Start dequeue*.
@@ -207,5 +194,5 @@ pub extern "C" fn intake_start_dequeue(store: &mut [u32]) -> u32
 pub extern "C" fn intake_step(store: &mut [u32], thread: u32, reply: &mut [u32; 4]) -> u32
     ensures { λ n. ⌜ record { number = n; store = now (store .exit); reply = now (reply .exit) } ≡ replied (result lowestFree (step thread) (now (store .entry))) (now (reply .entry)) ⌝ }
 {
-    deliver(store, Request::Step(thread), reply)
+    deliver(step(store, thread), reply)
 }

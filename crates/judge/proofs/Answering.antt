@@ -28,7 +28,7 @@ use Rattle.marking.proofs.Zeros.{no-flags}
 use Rattle.judge.specs.declared.Call.{Call}
 use Rattle.judge.specs.declared.Verdict.{Verdict}
 use Rattle.judge.specs.declared.Verdict.the-variants.{Explained, Unexplained}
-use Rattle.judge.specs.Answer.{entry, written, Judges}
+use Rattle.judge.specs.Contract.{entry, written, Judges}
 use Rattle.judge.specs.Working.{callsOf, markOf, testedOf, goesThrough, verdictOf, entryIn, filled, allStay}
 use Rattle.judge.proofs.Filling.{length-filled}
 use Rattle.judge.proofs.Staying.{all-stay-as}

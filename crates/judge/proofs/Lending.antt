@@ -27,8 +27,8 @@ use borrow.Rule.Slice.Lend.{keptF, sl-relend, sl-relent-backˡ}
 use borrow.Rule.Slice.Handed.{sl-share}
 
 -- a reference to what lies at the start of a block, and one to a slice
-abbrev pub at : {X : Type 0} → (l : ℕ) → GName → X → RefT X
-at l γ h = record { ptr = (l, 0); name = γ; now = h }
+abbrev pub blockRef : {X : Type 0} → (l : ℕ) → GName → X → RefT X
+blockRef l γ h = record { ptr = (l, 0); name = γ; now = h }
 
 abbrev pub slice : {X : Type 0} → (b o : ℕ) → GName → List X → RefT (List X)
 slice b o γ xs = record { ptr = (b, o); name = γ; now = xs }
@@ -50,11 +50,11 @@ module _ {M : Type 1} (𝓤 : URA M) (H : Heap 𝓤) (A : Atoms 𝓤) (W : Given
 module _ {M : Type 1} {𝓤 : URA M} {H : Heap 𝓤} {A : Atoms 𝓤} {K : Type 0} {W : Given 𝓤 H A} {Γ : List (Item 𝓤)} {G : Goal 𝓤 H} where
   -- ---- an array of the function's own
   pub lends-own : K → Soaks G → (R : RattleType) → One R → (ℓ : Lifetime) (h : R .Denot) (l : ℕ) {v : Val}
-      → ((α : ℕ) (γ : GName) → Seq K W (‵ (flft (α ∷ []) fullShare) ∷ ‵ (MutRef ℓ (α ∷ []) R .own (at l γ h) (vptr l 0 ∷ [])) ∷ ‵ (flent (α ∷ []) (Body (mem R) l 0 γ)) ∷ Γ) G)
+      → ((α : ℕ) (γ : GName) → Seq K W (‵ (flft (α ∷ []) fullShare) ∷ ‵ (MutRef ℓ (α ∷ []) R .own (blockRef l γ h) (vptr l 0 ∷ [])) ∷ ‵ (flent (α ∷ []) (Body (mem R) l 0 γ)) ∷ Γ) G)
       → Seq K W (‵ (fat fullShare (lone (R .mir)) l 0 v) ∷ ‵ (R .own h (v ∷ [])) ∷ Γ) G
   lends-own t z R one ℓ h l {v} k =
       use2 W (‵ (partAt R fullShare h l 0)) (part-in 𝓤 H A W R one fullShare h l 0 v) $ lft-new t z (λ α. move t (1 ∷ []) $
-      use1 W (later (some (λ (γ : GName). ‵ (MutRef ℓ (α ∷ []) R .own (at l γ h) (vptr l 0 ∷ [])) ⊛ ‵ (flent (α ∷ []) (Body (mem R) l 0 γ))))) (lends-ref 𝓤 H A W R ℓ (α ∷ []) h l 0) $
+      use1 W (later (some (λ (γ : GName). ‵ (MutRef ℓ (α ∷ []) R .own (blockRef l γ h) (vptr l 0 ∷ [])) ⊛ ‵ (flent (α ∷ []) (Body (mem R) l 0 γ))))) (lends-ref 𝓤 H A W R ℓ (α ∷ []) h l 0) $
       await t z $ pick t (λ γ. split t $ move t (2 ∷ []) $ k α γ))
 
   -- it is back, at its last value
@@ -63,11 +63,11 @@ module _ {M : Type 1} {𝓤 : URA M} {H : Heap 𝓤} {A : Atoms 𝓤} {K : Type 
   own-back t z R h l {α} {γ} = step (λ s. lft-end t z $ use3 W (later (‵ (partAt R fullShare h l 0))) (ref-back 𝓤 H A W R (α ∷ []) γ h l 0) $ await t z $ s)
 
   pub shares-own : K → Soaks G → (R : RattleType) (ℓ : Lifetime) (h : R .Denot) (l : ℕ)
-      → ((α : ℕ) (γ : GName) → Seq K W (‵ (flft (α ∷ []) fullShare) ∷ ‵ (ShrRef ℓ (α ∷ []) R .own (at l γ h) (vptr l 0 ∷ [])) ∷ ‵ (flent (α ∷ []) (partAt R fullShare h l 0)) ∷ Γ) G)
+      → ((α : ℕ) (γ : GName) → Seq K W (‵ (flft (α ∷ []) fullShare) ∷ ‵ (ShrRef ℓ (α ∷ []) R .own (blockRef l γ h) (vptr l 0 ∷ [])) ∷ ‵ (flent (α ∷ []) (partAt R fullShare h l 0)) ∷ Γ) G)
       → Seq K W (‵ (partAt R fullShare h l 0) ∷ Γ) G
   shares-own t z R ℓ h l k =
       lft-new t z (λ α. move t (1 ∷ []) $
-      use1 W (later (some (λ (γ : GName). ‵ (ShrRef ℓ (α ∷ []) R .own (at l γ h) (vptr l 0 ∷ [])) ⊛ ‵ (flent (α ∷ []) (partAt R fullShare h l 0))))) (lends-shr 𝓤 H A W R ℓ (α ∷ []) fullShare h l 0) $
+      use1 W (later (some (λ (γ : GName). ‵ (ShrRef ℓ (α ∷ []) R .own (blockRef l γ h) (vptr l 0 ∷ [])) ⊛ ‵ (flent (α ∷ []) (partAt R fullShare h l 0))))) (lends-shr 𝓤 H A W R ℓ (α ∷ []) fullShare h l 0) $
       await t z $ pick t (λ γ. split t $ move t (2 ∷ []) $ k α γ))
 
   -- it is back for good: room to be freed

@@ -16,7 +16,7 @@ use Rattle.history.specs.Linearization.{Linearizable}
 use Rattle.criterion.specs.Pass.{explains}
 use Rattle.criterion.specs.Criterion.{verdict}
 use Rattle.judge.specs.declared.Verdict.the-variants.{Refused, Explained, Unexplained}
-use Rattle.judge.specs.Answer.{reply}
+use Rattle.judge.specs.Contract.{reply}
 
 -- What is read as a history is well-formed.
 abbrev Formed : Reading → Type 0

@@ -1,3 +1,3 @@
-pub mod Answer
+pub mod Contract
 pub mod Decides
 pub mod Working

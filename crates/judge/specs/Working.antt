@@ -14,7 +14,7 @@ use Rattle.marking.specs.declared.Marked.the-variants.{Fails, Mark}
 use Rattle.judge.specs.declared.Call.{Call}
 use Rattle.judge.specs.declared.Verdict.{Verdict}
 use Rattle.judge.specs.declared.Verdict.the-variants.{Refused, Explained, Unexplained}
-use Rattle.judge.specs.Answer.{entry}
+use Rattle.judge.specs.Contract.{entry}
 
 -- How many calls were started; none where the history is refused.
 abbrev pub callsOf : Entered → ℕ

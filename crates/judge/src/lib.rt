@@ -15,10 +15,10 @@ ghost use lib.ListN.{length, getD};
 ghost use Rattle.history.specs.Calls.{row};
 ghost use Rattle.history.specs.Form.{mostEvents, read};
 ghost use Rattle.reading.specs.Table.{callAt};
-ghost use Rattle.judge.specs.Answer.{reply, Judges};
+ghost use Rattle.judge.specs.Contract.{reply, Judges};
 ghost use Rattle.judge.specs.Working.{callsOf, markOf, testedOf, goesThrough, verdictOf, entryIn, filled, staysAt, allStay};
 
-// The judge's reply: a refusal's number, or whether the history is explained (specs/Answer.antt).
+// The judge's reply: a refusal's number, or whether the history is explained (specs/Contract.antt).
 pub enum Verdict {
     Refused(u32),
     Explained,

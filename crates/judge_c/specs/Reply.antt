@@ -7,7 +7,7 @@ use Rattle.history.specs.Form.{read}
 use Rattle.judge.specs.declared.Call.{Call}
 use Rattle.judge.specs.declared.Verdict.{Verdict}
 use Rattle.judge.specs.declared.Verdict.the-variants.{Refused, Explained, Unexplained}
-use Rattle.judge.specs.Answer.{reply, written}
+use Rattle.judge.specs.Contract.{reply, written}
 
 abbrev pub numberOf : Verdict → ℕ
 numberOf (Refused n) = n

@@ -9,10 +9,10 @@ use native.Mathlib.Omega.{arith}
 use Rattle.history.specs.Event.{Event, History, dequeueStarted, gaveItem, gaveEmpty}
 use Rattle.history.specs.Linearization.{Item}
 use Rattle.criterion.specs.Explained.{Started, Taken, EndedBefore, EndedBeforeDequeue, MayGive, MayBeEmpty}
-use Rattle.model.specs.State.{blank, put, gone, Consumer, resting, front, scanning, holding, State, at}
+use Rattle.model.specs.State.{blank, put, gone, Consumer, resting, front, scanning, holding, State, override}
 use Rattle.model.specs.Invariant.{Has, Places, Owners, Contents, Past, Calls, ConsumerOk, Invariant, isBusy}
 use Rattle.model.specs.Moves.{withConsumer, withEvent, withPlaces, beginDequeue, answerEmpty, takeItem, takeFront}
-use Rattle.model.specs.Facts.{ended-before-ended, ended-before-dequeue-ended, put-not-blank, put-not-gone, at-same, at-other, at-all}
+use Rattle.model.specs.Facts.{ended-before-ended, ended-before-dequeue-ended, put-not-blank, put-not-gone, override-same, override-other, override-all}
 use Rattle.model.specs.Frame.{Kept, KeptCall, same-call, same-owner, kept-call, producer-kept}
 use Rattle.model.specs.Known.{put-below-tail, put-in-records, put-past-head, put-untaken}
 
@@ -112,34 +112,34 @@ module _ (B : ℕ) (s : State) (i : Invariant B s) (f g : ℕ) (x : Item) (e : s
         is-first = first;
       }
 
-  still-gone : (p : ℕ) → entry p ≡ gone → at entry f gone p ≡ gone
-  still-gone = at-all entry f gone (λ p a. entry p ≡ gone → a ≡ gone) (λ d. refl) (λ p ne d. d)
+  still-gone : (p : ℕ) → entry p ≡ gone → override entry f gone p ≡ gone
+  still-gone = override-all entry f gone (λ p a. entry p ≡ gone → a ≡ gone) (λ d. refl) (λ p ne d. d)
 
-  still-blank : (p : ℕ) → entry p ≡ blank → at entry f gone p ≡ blank
-  still-blank p d = at-other entry f gone p (λ q. put-not-blank _ is-put (ap entry (sym q) ∙ d)) ∙ d
+  still-blank : (p : ℕ) → entry p ≡ blank → override entry f gone p ≡ blank
+  still-blank p d = override-other entry f gone p (λ q. put-not-blank _ is-put (ap entry (sym q) ∙ d)) ∙ d
 
-  was-put : (p : ℕ) → at entry f gone p ≡ put → entry p ≡ put
-  was-put = at-all entry f gone (λ p a. a ≡ put → entry p ≡ put) (λ d. absurd (put-not-gone gone d refl)) (λ p ne d. d)
+  was-put : (p : ℕ) → override entry f gone p ≡ put → entry p ≡ put
+  was-put = override-all entry f gone (λ p a. a ≡ put → entry p ≡ put) (λ d. absurd (put-not-gone gone d refl)) (λ p ne d. d)
 
   abbrev after : History
   after = gaveItem (x .number) (x .value) ∷ history
 
   -- a set entry's call is the one taken, or its entry is still set
-  taken-or-put : (m p : ℕ) → owner p ≡ m → entry p ≡ put → Taken m after ⊎ (at entry f gone p ≡ put)
+  taken-or-put : (m p : ℕ) → owner p ≡ m → entry p ≡ put → Taken m after ⊎ (override entry f gone p ≡ put)
   taken-or-put m p o p-put =
-      at-all entry f gone (λ q a. owner q ≡ m → entry q ≡ put → Taken m after ⊎ (a ≡ put)) (λ o d. inl (inl (sym o ∙ owner-is)))
+      override-all entry f gone (λ q a. owner q ≡ m → entry q ≡ put → Taken m after ⊎ (a ≡ put)) (λ o d. inl (inl (sym o ∙ owner-is)))
       (λ q ne o d. inr d) p o p-put
 
-  ended-take : (m : ℕ) → Taken m history ⊎ Has tail entry owner put m → Taken m after ⊎ Has tail (at entry f gone) owner put m
+  ended-take : (m : ℕ) → Taken m history ⊎ Has tail entry owner put m → Taken m after ⊎ Has tail (override entry f gone) owner put m
   ended-take m (inl taken) = inl (inr taken)
   ended-take m (inr (p, l, o, p-put)) = ⊎-elim inl (λ d. inr (p, l, o, d)) (taken-or-put m p o p-put)
 
-  taken-take : (m : ℕ) → Taken m after → Has tail (at entry f gone) owner gone m
-  taken-take m (inl d) = (f, consumer-clause B s i _ e .1 .1, owner-is ∙ sym d, at-same entry f gone)
+  taken-take : (m : ℕ) → Taken m after → Has tail (override entry f gone) owner gone m
+  taken-take m (inl d) = (f, consumer-clause B s i _ e .1 .1, owner-is ∙ sym d, override-same entry f gone)
   taken-take m (inr d) = let (p, l, o, is-gone) = i .past .taken-has m d in (p, l, o, still-gone p is-gone)
 
   -- the item is given, and the head may move on
-  take-found : (hp′ : ℕ) → Places B tail hp′ lo tp hi → ((p : ℕ) → p < hp′ → at entry f gone p ≡ gone)
+  take-found : (hp′ : ℕ) → Places B tail hp′ lo tp hi → ((p : ℕ) → p < hp′ → override entry f gone p ≡ gone)
       → Invariant B (withPlaces (takeItem s f x) hp′ lo tp hi)
   take-found hp′ places gone-below =
       record {
@@ -185,4 +185,4 @@ module _ (B : ℕ) (s : State) (i : Invariant B s) (f g : ℕ) (x : Item) (e : s
   pub take-front : f ≡ hp → Invariant B (takeFront s f x)
   take-front at-head =
       take-found (suc hp) (omega (arith, i .places, consumer-clause B s i _ e .0, consumer-clause B s i _ e .1 .1))
-      (at-all entry f gone (λ p a. p < suc hp → a ≡ gone) (λ l. refl) (λ p ne l. i .entries .gone-below p (omega arith)))
+      (override-all entry f gone (λ p a. p < suc hp → a ≡ gone) (λ l. refl) (λ p ne l. i .entries .gone-below p (omega arith)))

@@ -10,7 +10,7 @@ use Rattle.criterion.specs.Explained.{Started, Begun, Ended, Taken, EndedBefore
 use Rattle.model.specs.State.{blank, put, idle, started, done, State, initial}
 use Rattle.model.specs.Invariant.{Has, ProducerOk, Invariant}
 use Rattle.model.specs.Moves.{beginEnqueue, finish}
-use Rattle.model.specs.Facts.{started-begun, put-not-blank, at-all}
+use Rattle.model.specs.Facts.{started-begun, put-not-blank, override-all}
 use Rattle.model.specs.Frame.{Kept, kept-call, producer-kept, Watched, consumer-kept}
 use Rattle.model.specs.Threads.{call-is-open, calls-begin, calls-end, producers-after}
 use Rattle.model.specs.Known.{open-numbered, ended-begun, owner-numbered}
@@ -107,7 +107,7 @@ module _ (B : ℕ) (s : State) (i : Invariant B s) (t v : ℕ) where
             (λ u y has e. omega (arith, open-numbered B s i (y .number) (y .value) (call-is-open B s i u y has)))
             (i .calls);
         producers =
-            at-all (s .producer) t (started (suc starts) v) (λ u p. ProducerOk B (beginEnqueue s t v) p) (
+            override-all (s .producer) t (started (suc starts) v) (λ u p. ProducerOk B (beginEnqueue s t v) p) (
               record {
                 is-started = inl (refl, refl);
                 not-ended = λ e. omega (arith, i .past .numbered (suc starts) (ended-begun B s i (suc starts) e));

@@ -10,7 +10,7 @@ use lib.Dec.{eqb}
 use borrow.Author.Tests.{eqb-true, eqb-false, eq-eqb, ne-eqb}
 use Rattle.history.specs.Event.{History, enqueueStarted, enqueueEnded, dequeueStarted, gaveItem, gaveEmpty}
 use Rattle.criterion.specs.Explained.{Started, Begun, Ended, EndedBefore, EndedBeforeDequeue}
-use Rattle.model.specs.State.{Entry, blank, put, gone, at}
+use Rattle.model.specs.State.{Entry, blank, put, gone, override}
 
 pub started-begun : (n v : ℕ) (h : History) → Started n v h → Begun n h
 started-begun n v (enqueueStarted t m w ∷ h) (inl e) = inl (e .0)
@@ -47,23 +47,23 @@ gone-not-blank e p q = let z : _≡_ {A = ℕ} 0 1 = cc in omega arith
 
 -- f, but x at k
 module _ {A : Type 0} (f : ℕ → A) (k : ℕ) (x : A) where
-  pub at-same : at f k x k ≡ x
-  at-same = rw (eq-eqb k k refl)
+  pub override-same : override f k x k ≡ x
+  override-same = rw (eq-eqb k k refl)
 
-  pub at-other : (j : ℕ) → j ≢ k → at f k x j ≡ f j
-  at-other j ne = rw (ne-eqb k j (λ e. ne (sym e)))
+  pub override-other : (j : ℕ) → j ≢ k → override f k x j ≡ f j
+  override-other j ne = rw (ne-eqb k j (λ e. ne (sym e)))
 
   -- what holds of x at k, and of f everywhere else, holds everywhere
-  pub at-all : (P : ℕ → A → Type 0) → P k x → ((j : ℕ) → j ≢ k → P j (f j)) → (j : ℕ) → P j (at f k x j)
-  at-all P here there j = go (eqb k j) refl
+  pub override-all : (P : ℕ → A → Type 0) → P k x → ((j : ℕ) → j ≢ k → P j (f j)) → (j : ℕ) → P j (override f k x j)
+  override-all P here there j = go (eqb k j) refl
     where
       go : (b : Bool) → eqb k j ≡ b → P j (cond b x (f j))
       go true e = subst (λ (i : ℕ). P i x) (eqb-true k j e) here
       go false e = there j (λ d. eqb-false k j e (sym d))
 
   -- a value of the changed function is x, at k, or a value of f elsewhere
-  abbrev pub AtCases : ℕ → A → Type 0
-  AtCases j y = ((j ≡ k) × (x ≡ y)) ⊎ ((j ≢ k) × (f j ≡ y))
+  abbrev pub OverrideCases : ℕ → A → Type 0
+  OverrideCases j y = ((j ≡ k) × (x ≡ y)) ⊎ ((j ≢ k) × (f j ≡ y))
 
-  pub at-cases : (j : ℕ) (y : A) → at f k x j ≡ y → AtCases j y
-  at-cases j y = at-all (λ i a. a ≡ y → AtCases i y) (λ e. inl (refl, e)) (λ i ne e. inr (ne, e)) j
+  pub override-cases : (j : ℕ) (y : A) → override f k x j ≡ y → OverrideCases j y
+  override-cases j y = override-all (λ i a. a ≡ y → OverrideCases i y) (λ e. inl (refl, e)) (λ i ne e. inr (ne, e)) j

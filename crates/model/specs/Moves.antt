@@ -5,7 +5,7 @@ use Prim.Native.Nat.{ℕ, suc, _+_, _*_}
 use lib.Dec.{leb, ltb}
 use Rattle.history.specs.Event.{Event, enqueueStarted, enqueueEnded, dequeueStarted, gaveItem, gaveEmpty}
 use Rattle.history.specs.Linearization.{Item}
-use Rattle.model.specs.State.{Entry, put, gone, Producer, idle, started, seeking, ahead, shifting, behind, writing, setting, done, Consumer, resting, front, State, at}
+use Rattle.model.specs.State.{Entry, put, gone, Producer, idle, started, seeking, ahead, shifting, behind, writing, setting, done, Consumer, resting, front, State, override}
 
 -- the state with thread t's producer, or with the consumer, changed
 abbrev pub withProducer : State → ℕ → Producer → State
@@ -20,7 +20,7 @@ withProducer s t x =
       entry = s .entry;
       owner = s .owner;
       content = s .content;
-      producer = at (s .producer) t x;
+      producer = override (s .producer) t x;
       consumer = s .consumer;
       history = s .history;
     }
@@ -69,7 +69,7 @@ withEntry s p e =
       tp = s .tp;
       hi = s .hi;
       starts = s .starts;
-      entry = at (s .entry) p e;
+      entry = override (s .entry) p e;
       owner = s .owner;
       content = s .content;
       producer = s .producer;
@@ -108,7 +108,7 @@ beginEnqueue s t v =
       entry = s .entry;
       owner = s .owner;
       content = s .content;
-      producer = at (s .producer) t (started (suc (s .starts)) v);
+      producer = override (s .producer) t (started (suc (s .starts)) v);
       consumer = s .consumer;
       history = enqueueStarted t (suc (s .starts)) v ∷ s .history;
     }
@@ -124,9 +124,9 @@ takePosition s t n v =
       hi = s .hi;
       starts = s .starts;
       entry = s .entry;
-      owner = at (s .owner) (s .tail) n;
+      owner = override (s .owner) (s .tail) n;
       content = s .content;
-      producer = at (s .producer) t (seeking n v (s .tail));
+      producer = override (s .producer) t (seeking n v (s .tail));
       consumer = s .consumer;
       history = s .history;
     }
@@ -170,8 +170,8 @@ writeEntry s t n v L k =
       starts = s .starts;
       entry = s .entry;
       owner = s .owner;
-      content = at (s .content) L (record { number = n; value = v });
-      producer = at (s .producer) t (setting n v L k);
+      content = override (s .content) L (record { number = n; value = v });
+      producer = override (s .producer) t (setting n v L k);
       consumer = s .consumer;
       history = s .history;
     }

@@ -7,10 +7,10 @@ use native.Mathlib.Nat.{mul-le-mul-left}
 use native.Mathlib.Omega.{arith}
 use Rattle.history.specs.Linearization.{Item}
 use Rattle.criterion.specs.Explained.{Started, Begun, Ended, EndedBefore, EndedBeforeDequeue}
-use Rattle.model.specs.State.{Entry, put, gone, started, seeking, writing, setting, done, State, at, callOf}
+use Rattle.model.specs.State.{Entry, put, gone, started, seeking, writing, setting, done, State, override, callOf}
 use Rattle.model.specs.Invariant.{Has, Owners, ProducerOk, Invariant}
 use Rattle.model.specs.Moves.{takePosition, writeEntry, setEntry}
-use Rattle.model.specs.Facts.{started-begun, ended-before-ended, ended-before-dequeue-ended, put-not-blank, gone-not-blank, at-same, at-other, at-all, AtCases, at-cases}
+use Rattle.model.specs.Facts.{started-begun, ended-before-ended, ended-before-dequeue-ended, put-not-blank, gone-not-blank, override-same, override-other, override-all, OverrideCases, override-cases}
 use Rattle.model.specs.Frame.{Kept, same-call, same-entry, kept-elsewhere, Watched, consumer-kept}
 use Rattle.model.specs.Threads.{calls-same, producers-after}
 use Rattle.model.specs.Known.{put-below-tail, has-kept}
@@ -20,40 +20,40 @@ module _ (B : ℕ) (s : State) (i : Invariant B s) (t n v : ℕ) (e : s .produce
   open State s using (tail, entry, owner, content, history)
 
   -- earlier positions keep their owners
-  still-owner : (p : ℕ) → p < tail → at owner tail n p ≡ owner p
-  still-owner p l = at-other owner tail n p (omega arith)
+  still-owner : (p : ℕ) → p < tail → override owner tail n p ≡ owner p
+  still-owner p l = override-other owner tail n p (omega arith)
 
   -- the call had no position, so that owners stay apart
-  apart-take : (p q : ℕ) → p < suc tail → q < suc tail → at owner tail n p ≡ at owner tail n q → p ≡ q
-  apart-take p q lp lq d = go (at-cases owner tail n p _ d) (at-cases owner tail n q _ refl)
+  apart-take : (p q : ℕ) → p < suc tail → q < suc tail → override owner tail n p ≡ override owner tail n q → p ≡ q
+  apart-take p q lp lq d = go (override-cases owner tail n p _ d) (override-cases owner tail n q _ refl)
     where
       fresh : (r : ℕ) → r < tail → owner r ≢ n
       fresh = producer-clause B s i t _ e .1
 
-      go : AtCases owner tail n p (at owner tail n q) → AtCases owner tail n q (at owner tail n q) → p ≡ q
+      go : OverrideCases owner tail n p (override owner tail n q) → OverrideCases owner tail n q (override owner tail n q) → p ≡ q
       go (inl c) (inl d) = c .0 ∙ sym (d .0)
       go (inl c) (inr d) = absurd (fresh q (omega arith) (d .1 ∙ sym (c .1)))
       go (inr c) (inl d) = absurd (fresh p (omega arith) (c .1 ∙ sym (d .1)))
       go (inr c) (inr d) = i .owners .apart p q (omega arith) (omega arith) (c .1 ∙ sym (d .1))
 
   -- it has not ended, so that it ended before no other call started
-  in-order-take : (p q : ℕ) → p ≤ q → q < suc tail → EndedBefore (at owner tail n q) (at owner tail n p) history → ⊥
+  in-order-take : (p q : ℕ) → p ≤ q → q < suc tail → EndedBefore (override owner tail n q) (override owner tail n p) history → ⊥
   in-order-take p =
-      at-all owner tail n (λ q a. p ≤ q → q < suc tail → EndedBefore a (at owner tail n p) history → ⊥)
+      override-all owner tail n (λ q a. p ≤ q → q < suc tail → EndedBefore a (override owner tail n p) history → ⊥)
       (λ le l d. open-call (ended-before-ended n _ history d))
       (λ q ne le l d. i .owners .in-order p q le (omega arith) (same-p q (omega arith) d))
     where
       open-call : Ended n history → ⊥
       open-call = producer-clause B s i t _ e .0 .not-ended
 
-      same-p : (q : ℕ) → p < tail → EndedBefore (owner q) (at owner tail n p) history → EndedBefore (owner q) (owner p) history
+      same-p : (q : ℕ) → p < tail → EndedBefore (owner q) (override owner tail n p) history → EndedBefore (owner q) (owner p) history
       same-p q l d = subst (λ (b : ℕ). EndedBefore (owner q) b history) (still-owner p l) d
 
-  owners-take : Owners (suc tail) (at owner tail n) history
+  owners-take : Owners (suc tail) (override owner tail n) history
   owners-take =
       record {
         begun =
-            at-all owner tail n (λ p a. p < suc tail → Begun a history)
+            override-all owner tail n (λ p a. p < suc tail → Begun a history)
             (λ l. started-begun n v history (producer-clause B s i t _ e .0 .is-started))
             (λ p ne l. i .owners .begun p (omega arith));
         apart = apart-take;
@@ -68,7 +68,7 @@ module _ (B : ℕ) (s : State) (i : Invariant B s) (t n v : ℕ) (e : s .produce
         position =
             record {
               stays-owner = λ p l d. still-owner p l ∙ d;
-              was-owner = λ p l d. ⊎-elim (λ c. absurd (ne (sym (c .1)))) (λ c. (omega arith, c .1)) (at-cases owner tail n p m d);
+              was-owner = λ p l d. ⊎-elim (λ c. absurd (ne (sym (c .1)))) (λ c. (omega arith, c .1)) (override-cases owner tail n p m d);
             };
         state = same-entry m owner entry content history;
       }
@@ -85,9 +85,9 @@ module _ (B : ℕ) (s : State) (i : Invariant B s) (t n v : ℕ) (e : s .produce
             (d, subst₂ (λ (a b : ℕ). EndedBefore a b history) (still-owner p (put-below-tail B s i p d)) (still-owner f l) b);
       }
 
-  has-take : (x : Entry) (m : ℕ) → Has tail entry owner x m → Has (suc tail) entry (at owner tail n) x m
+  has-take : (x : Entry) (m : ℕ) → Has tail entry owner x m → Has (suc tail) entry (override owner tail n) x m
   has-take x m =
-      has-kept tail (suc tail) entry entry owner (at owner tail n) x m (λ p l d is-x. (omega arith, still-owner p l ∙ d, is-x))
+      has-kept tail (suc tail) entry entry owner (override owner tail n) x m (λ p l d is-x. (omega arith, still-owner p l ∙ d, is-x))
 
   pub take-position : Invariant B (takePosition s t n v)
   take-position =
@@ -121,7 +121,7 @@ module _ (B : ℕ) (s : State) (i : Invariant B s) (t n v : ℕ) (e : s .produce
               is-open = o .0;
               taken = omega arith;
               is-blank = i .entries .blank-past tail (omega arith);
-              owns = at-same owner tail n;
+              owns = override-same owner tail n;
             });
         consuming = consumer-kept B s (takePosition s t n v) watched-take (s .consumer) (i .consuming);
       }
@@ -143,15 +143,15 @@ module _ (B : ℕ) (s : State) (i : Invariant B s) (t n v L k : ℕ) where
         past = i .past;
         calls = calls-same (s .producer) t (setting n v L k) _ _ (sym (ap callOf e)) (i .calls);
         producers =
-            producers-after B s i (writeEntry s t n v L k) t _ (setting n v L k) _ e refl kept (o .0, o .1, o .2, at-same content L _);
+            producers-after B s i (writeEntry s t n v L k) t _ (setting n v L k) _ e refl kept (o .0, o .1, o .2, override-same content L _);
         consuming = consumer-kept B s (writeEntry s t n v L k) watched (s .consumer) (i .consuming);
       }
     where
       o : ProducerOk B s (writing n v L k)
       o = producer-clause B s i t _ e
 
-      same : (p : ℕ) → p ≢ L → at content L (record { number = n; value = v }) p ≡ content p
-      same = at-other content L (record { number = n; value = v })
+      same : (p : ℕ) → p ≢ L → override content L (record { number = n; value = v }) p ≡ content p
+      same = override-other content L (record { number = n; value = v })
 
       not-there : (p : ℕ) → entry p ≡ put → p ≢ L
       not-there p d q = put-not-blank _ d (ap entry q ∙ o .0 .is-blank)
@@ -183,10 +183,10 @@ module _ (B : ℕ) (s : State) (i : Invariant B s) (t n v L k : ℕ) where
         owners = i .owners;
         contents =
             record {
-              number-is = at-all entry L put (λ p a. a ≡ put → content p .number ≡ owner p)
+              number-is = override-all entry L put (λ p a. a ≡ put → content p .number ≡ owner p)
                   (λ d. ap (λ (x : Item). x .number) (o .3) ∙ sym (o .0 .owns))
                   (λ p ne d. i .contents .number-is p d);
-              value-is = at-all entry L put (λ p a. a ≡ put → Started (content p .number) (content p .value) history)
+              value-is = override-all entry L put (λ p a. a ≡ put → Started (content p .number) (content p .value) history)
                   (λ d. subst (λ (x : Item). Started (x .number) (x .value) history) (sym (o .3)) (o .0 .is-open .is-started))
                   (λ p ne d. i .contents .value-is p d);
             };
@@ -201,33 +201,33 @@ module _ (B : ℕ) (s : State) (i : Invariant B s) (t n v L k : ℕ) where
         calls = calls-same (s .producer) t (done n v L k) _ _ (sym (ap callOf e)) (i .calls);
         producers =
             producers-after B s i (setEntry s t n v L k) t _ (done n v L k) _ e refl kept
-            (o .0 .is-open, o .0 .taken, o .0 .owns, o .1, o .2, inr (at-same entry L put));
+            (o .0 .is-open, o .0 .taken, o .0 .owns, o .1, o .2, inr (override-same entry L put));
         consuming = consumer-kept B s (setEntry s t n v L k) watched (s .consumer) (i .consuming);
       }
     where
       o : ProducerOk B s (setting n v L k)
       o = producer-clause B s i t _ e
 
-      same : (p : ℕ) → p ≢ L → at entry L put p ≡ entry p
-      same = at-other entry L put
+      same : (p : ℕ) → p ≢ L → override entry L put p ≡ entry p
+      same = override-other entry L put
 
-      still-put : (p : ℕ) → entry p ≡ put → at entry L put p ≡ put
-      still-put = at-all entry L put (λ p a. entry p ≡ put → a ≡ put) (λ d. refl) (λ p ne d. d)
+      still-put : (p : ℕ) → entry p ≡ put → override entry L put p ≡ put
+      still-put = override-all entry L put (λ p a. entry p ≡ put → a ≡ put) (λ d. refl) (λ p ne d. d)
 
-      still-gone : (p : ℕ) → entry p ≡ gone → at entry L put p ≡ gone
+      still-gone : (p : ℕ) → entry p ≡ gone → override entry L put p ≡ gone
       still-gone p d = same p (λ q. gone-not-blank _ d (ap entry q ∙ o .0 .is-blank)) ∙ d
 
-      has : (m : ℕ) (x : Entry) → ((p : ℕ) → entry p ≡ x → at entry L put p ≡ x) → Has tail entry owner x m
-          → Has tail (at entry L put) owner x m
-      has m x still = has-kept tail tail entry (at entry L put) owner owner x m (λ p l d is-x. (l, d, still p is-x))
+      has : (m : ℕ) (x : Entry) → ((p : ℕ) → entry p ≡ x → override entry L put p ≡ x) → Has tail entry owner x m
+          → Has tail (override entry L put) owner x m
+      has m x still = has-kept tail tail entry (override entry L put) owner owner x m (λ p l d is-x. (l, d, still p is-x))
 
       kept : (m : ℕ) → m ≢ n → Kept s (setEntry s t n v L k) m
       kept m ne =
           kept-elsewhere s (setEntry s t n v L k) m refl refl (omega arith) refl L (λ d. ne (sym d ∙ o .0 .owns)) (λ p q. (same p q, refl))
 
       -- an entry set after the move was set before, or its call has not ended
-      was-put : (p : ℕ) → at entry L put p ≡ put → Ended (owner p) history → entry p ≡ put
-      was-put = at-all entry L put (λ p a. a ≡ put → Ended (owner p) history → entry p ≡ put)
+      was-put : (p : ℕ) → override entry L put p ≡ put → Ended (owner p) history → entry p ≡ put
+      was-put = override-all entry L put (λ p a. a ≡ put → Ended (owner p) history → entry p ≡ put)
           (λ d ended. absurd (o .0 .is-open .not-ended (subst (λ (m : ℕ). Ended m history) (o .0 .owns) ended)))
           (λ p ne d ended. d)
 

@@ -56,8 +56,8 @@ pub record State : Type 0 where
   pub history : History
 
 -- f, but x at k
-abbrev pub at {ℓ} : {A : Type ℓ} → (ℕ → A) → ℕ → A → ℕ → A
-at f k x j = cond (eqb k j) x (f j)
+abbrev pub override {ℓ} : {A : Type ℓ} → (ℕ → A) → ℕ → A → ℕ → A
+override f k x j = cond (eqb k j) x (f j)
 
 -- The call that a producer has under way, and its number (0 for none).
 abbrev pub callOf : Producer → Option Item

@@ -12,10 +12,10 @@ use lib.Dec.{eqb}
 use Rattle.history.specs.Event.{History, enqueueStarted, enqueueEnded}
 use Rattle.history.specs.Linearization.{Item}
 use Rattle.criterion.specs.Explained.{current}
-use Rattle.model.specs.State.{gone, Producer, idle, started, seeking, ahead, shifting, behind, writing, setting, done, Consumer, State, at, callOf}
+use Rattle.model.specs.State.{gone, Producer, idle, started, seeking, ahead, shifting, behind, writing, setting, done, Consumer, State, override, callOf}
 use Rattle.model.specs.Invariant.{Open, Calls, ProducerOk, ConsumerOk, Invariant, isBusy}
 use Rattle.model.specs.Moves.{withProducer, withConsumer}
-use Rattle.model.specs.Facts.{at-all}
+use Rattle.model.specs.Facts.{override-all}
 use Rattle.model.specs.Frame.{Kept, same-call, producer-kept, Watched, consumer-kept, kept-call}
 
 -- no two producers have calls of one number
@@ -24,24 +24,24 @@ Apart f = (t u : ℕ) (x y : Item) → callOf (f t) ≡ some x → callOf (f u) 
 
 pub apart-at : (f : ℕ → Producer) (t : ℕ) (z : Producer) → Apart f
     → ((u : ℕ) (x y : Item) → u ≢ t → callOf z ≡ some x → callOf (f u) ≡ some y → x .number ≡ y .number → ⊥)
-    → Apart (at f t z)
-apart-at f t z old new a b x y ex ey n = at-all f t z (λ c p. callOf p ≡ some x → c ≡ b) changed unchanged a ex
+    → Apart (override f t z)
+apart-at f t z old new a b x y ex ey n = override-all f t z (λ c p. callOf p ≡ some x → c ≡ b) changed unchanged a ex
   where
     changed : callOf z ≡ some x → t ≡ b
     changed ex′ =
-        at-all f t z (λ d q. callOf q ≡ some y → t ≡ d) (λ ey′. refl) (λ d ne ey′. absurd (new d x y ne ex′ ey′ n)) b ey
+        override-all f t z (λ d q. callOf q ≡ some y → t ≡ d) (λ ey′. refl) (λ d ne ey′. absurd (new d x y ne ex′ ey′ n)) b ey
 
     unchanged : (c : ℕ) → c ≢ t → callOf (f c) ≡ some x → c ≡ b
     unchanged c ne ex′ =
-        at-all f t z (λ d q. callOf q ≡ some y → c ≡ d) (λ ey′. absurd (new c y x ne ey′ ex′ (sym n)))
+        override-all f t z (λ d q. callOf q ≡ some y → c ≡ d) (λ ey′. absurd (new c y x ne ey′ ex′ (sym n)))
         (λ d ne′ ey′. old c d x y ex′ ey′ n) b ey
 
 -- a producer goes on with its call
 pub calls-same : (f : ℕ → Producer) (t : ℕ) (z : Producer) (b : Bool) (h : History) → callOf z ≡ callOf (f t) → Calls f b h
-    → Calls (at f t z) b h
+    → Calls (override f t z) b h
 calls-same f t z b h e c =
     record {
-      of-producers = at-all f t z (λ u p. current u h ≡ callOf p) (c .of-producers t ∙ sym e) (λ u ne. c .of-producers u);
+      of-producers = override-all f t z (λ u p. current u h ≡ callOf p) (c .of-producers t ∙ sym e) (λ u ne. c .of-producers u);
       of-consumer = c .of-consumer;
       apart = apart-at f t z (c .apart) (λ u x y ne ex ey n. ne (sym (c .apart t u x y (sym e ∙ ex) ey n)));
     }
@@ -53,7 +53,7 @@ call-at false z p o e = e
 -- it begins one with a new number
 pub calls-begin : (f : ℕ → Producer) (t n v : ℕ) (b : Bool) (h : History)
     → ((u : ℕ) (y : Item) → callOf (f u) ≡ some y → n ≢ y .number)
-    → Calls f b h → Calls (at f t (started n v)) b (enqueueStarted t n v ∷ h)
+    → Calls f b h → Calls (override f t (started n v)) b (enqueueStarted t n v ∷ h)
 calls-begin f t n v b h new c =
     record {
       of-producers = λ u. call-at (eqb t u) (started n v) (f u) (current u h) (c .of-producers u);
@@ -64,7 +64,7 @@ calls-begin f t n v b h new c =
 
 -- it ends its call
 pub calls-end : (f : ℕ → Producer) (t n v : ℕ) (b : Bool) (h : History) → Calls f b h
-    → Calls (at f t idle) b (enqueueEnded t n v ∷ h)
+    → Calls (override f t idle) b (enqueueEnded t n v ∷ h)
 calls-end f t n v b h c =
     record {
       of-producers = λ u. call-at (eqb t u) idle (f u) (current u h) (c .of-producers u);
@@ -95,9 +95,9 @@ module _ (B : ℕ) (s : State) where
 
   -- the producers after a move of thread t that loses nothing of the calls of other numbers than its own
   pub producers-after : Invariant B s → (s′ : State) (t : ℕ) (x z : Producer) (y : Item) → s .producer t ≡ x → callOf x ≡ some y
-      → ((m : ℕ) → m ≢ y .number → Kept s s′ m) → ProducerOk B s′ z → (u : ℕ) → ProducerOk B s′ (at (s .producer) t z u)
+      → ((m : ℕ) → m ≢ y .number → Kept s s′ m) → ProducerOk B s′ z → (u : ℕ) → ProducerOk B s′ (override (s .producer) t z u)
   producers-after i s′ t x z y is-x has-y kept ok =
-      at-all (s .producer) t z (λ u p. ProducerOk B s′ p) ok
+      override-all (s .producer) t z (λ u p. ProducerOk B s′ p) ok
       (λ u ne. producer-kept B s s′ (s .producer u)
       (λ w has-w. kept (w .number) (λ e. ne (i .calls .apart u t w y has-w (ap callOf is-x ∙ has-y) e)))
       (i .producers u))
@@ -165,10 +165,10 @@ module _ (B : ℕ) (s : State) (i : Invariant B s) where
   pub producer-goes-on : (t : ℕ) (x z : Producer) (y : Item) → s .producer t ≡ x → callOf x ≡ some y → callOf z ≡ some y
       → ProducerOk B (withProducer s t z) z → Invariant B (withProducer s t z)
   producer-goes-on t x z y is-x x-has z-has ok =
-      producer-moves (s .tp) (s .hi) (omega arith) (omega arith) (omega (arith, i .places)) (at (s .producer) t z)
+      producer-moves (s .tp) (s .hi) (omega arith) (omega arith) (omega (arith, i .places)) (override (s .producer) t z)
       (calls-same (s .producer) t z _ _ (z-has ∙ sym (ap callOf is-x ∙ x-has)) (i .calls))
       (producers-after B s i (withProducer s t z) t x z y is-x x-has
-      (λ m ne. kept-moved s (s .hp) (s .lo) (s .tp) (s .hi) (at (s .producer) t z) (s .consumer) (omega arith) (omega arith) m)
+      (λ m ne. kept-moved s (s .hp) (s .lo) (s .tp) (s .hi) (override (s .producer) t z) (s .consumer) (omega arith) (omega arith) m)
       ok)
 
   -- the consumer goes on, and the head or the head record may move on

@@ -6,7 +6,7 @@ use Prim.Native.Nat.{ℕ, suc, _+_, _*_, _≤_, _<_}
 use native.Mathlib.Omega.{arith}
 use lib.Dec.{leb, ltb}
 use borrow.Author.Tests.{leb-true, leb-false, ltb-true, ltb-false}
-use Rattle.model.specs.State.{Producer, seeking, ahead, shifting, behind, writing, State, at, callOf}
+use Rattle.model.specs.State.{Producer, seeking, ahead, shifting, behind, writing, State, override, callOf}
 use Rattle.model.specs.Invariant.{AtPosition, ProducerOk, Invariant}
 use Rattle.model.specs.Moves.{withProducer, chosen, loadTail, passOn, linkLast, shiftTail, leaveTail, goBack}
 use Rattle.model.specs.Frame.{producer-kept}
@@ -53,10 +53,10 @@ module _ (B : ℕ) (s : State) (i : Invariant B s) (t : ℕ) where
   pub shift-tail : (n v L k : ℕ) → s .producer t ≡ shifting n v L k → k ≡ s .tp → Invariant B (shiftTail s t n v L k)
   shift-tail n v L k e last =
       let o = producer-clause _ e in
-      producer-moves B s i (suc k) (s .hi) (omega arith) (omega arith) (omega arith) (at (s .producer) t (seeking n v L))
+      producer-moves B s i (suc k) (s .hi) (omega arith) (omega arith) (omega arith) (override (s .producer) t (seeking n v L))
       (calls-same (s .producer) t (seeking n v L) _ _ (sym (ap callOf e)) (i .calls))
       (producers-after B s i (shiftTail s t n v L k) t _ (seeking n v L) _ e refl
-      (λ m ne. kept-moved s (s .hp) (s .lo) (suc k) (s .hi) (at (s .producer) t (seeking n v L)) (s .consumer) (omega arith)
+      (λ m ne. kept-moved s (s .hp) (s .lo) (suc k) (s .hi) (override (s .producer) t (seeking n v L)) (s .consumer) (omega arith)
       (omega arith) m)
       (o .0))
 

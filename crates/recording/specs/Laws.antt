@@ -9,7 +9,7 @@ use Rattle.history.specs.Form.{mostEvents, Reading, refused, history, read}
 use Rattle.criterion.specs.Pass.{explains}
 use Rattle.judge.specs.declared.Verdict.{Verdict}
 use Rattle.judge.specs.declared.Verdict.the-variants.{Refused, Explained, Unexplained}
-use Rattle.judge.specs.Answer.{reply}
+use Rattle.judge.specs.Contract.{reply}
 use Rattle.lines.specs.declared.Parsed.{Parsed}
 use Rattle.lines.specs.declared.Parsed.the-variants.{TooLong, BadLine, Numbers}
 use Rattle.lines.specs.Lines.{reading, Parses}

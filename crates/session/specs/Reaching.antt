@@ -1,21 +1,21 @@
 -- The history that any lines leave is well-formed, explained and linearizable, by demand 3, and its enqueues have a producer's thread
 -- and a call number.
 use mathlib.Core.Path.{_≡_, refl, ap, sym, _∙_, subst}
-use mathlib.Core.Bool.{Bool, true, false, _&&_, _||_, not, cond, true≢false}
+use mathlib.Core.Bool.{Bool, true, false, _||_, not, cond}
 use mathlib.Core.List.{List, [], _∷_, _++_}
 use Prim.Native.Nat.{ℕ, zero, suc, _+_, _≤_}
 use native.Mathlib.Omega.{arith}
 use lib.Dec.{leb, ltb, eqb}
 use lib.ListN.{length, getD, length-replicate}
-use borrow.Author.Tests.{le-ltb, le-leb, ltb-false, leb-true, eqb-false, not-false}
+use borrow.Author.Tests.{le-ltb, le-leb, ltb-false, eqb-false, not-false}
 use Rattle.history.specs.Event.{History, isProducer, enqueueStarted, enqueueEnded, dequeueStarted, gaveItem, gaveEmpty}
 use Rattle.history.specs.Form.{wellFormed}
 use Rattle.history.specs.Linearization.{Linearizable}
 use Rattle.criterion.specs.Explained.{Explained}
 use Rattle.criterion.specs.Criterion.{criterion}
-use Rattle.rules.specs.Sizes.{Sizes, between, sizesInRange, storeWords}
+use Rattle.rules.specs.Sizes.{Sizes, sizesInRange, storeWords}
 use Rattle.rules.specs.Cell.{Reader, reader, starts, phase}
-use Rattle.rules.specs.Update.{both, neither}
+use Rattle.rules.specs.Update.{neither}
 use Rattle.rules.specs.Range.{inRange}
 use Rattle.rules.specs.Free.{Picker, lowestFree}
 use Rattle.rules.specs.Pick.{lowest-free-picks}
@@ -24,6 +24,7 @@ use Rattle.rules.specs.Refusal.{accepted-not-refused}
 use Rattle.rules.specs.Request.{Result, Request, startEnqueue, startDequeue, step, applied, open-store, opened, startingEnqueue, effect, sizesOf, admitted, result}
 use Rattle.rules.specs.Play.{Played, events, endOfEnqueue, playOne, play, threadOf}
 use Rattle.simulation.specs.Good.{by-cond}
+use Rattle.simulation.specs.Limits.{limits}
 use Rattle.ordering.specs.Theorem.{demand-3}
 use Rattle.protocol.specs.declared.Line.{Line}
 use Rattle.protocol.specs.declared.Line.the-variants.{Open, Enqueue, Dequeue, Step, Bad}
@@ -43,9 +44,9 @@ abbrev after : Sizes → List ℕ → List Request → Played
 after z m qs = play picks qs (from z m)
 
 -- What stands: nothing was opened yet, or some calls followed an accepted open.
-data Past : Session → Type 0 where
-  unopened : {x : Session} → x .words ≡ blank → x .history ≡ [] → Past x
-  played : {x : Session} (z : Sizes) (m : List ℕ) (qs : List Request) → open-store z m .reply ≡ accepted ok → x .words ≡ after z m qs .words → x .history ≡ after z m qs .history → Past x
+data Reachable : Session → Type 0 where
+  unopened : {x : Session} → x .words ≡ blank → x .history ≡ [] → Reachable x
+  played : {x : Session} (z : Sizes) (m : List ℕ) (qs : List Request) → open-store z m .reply ≡ accepted ok → x .words ≡ after z m qs .words → x .history ≡ after z m qs .history → Reachable x
 
 -- one call more
 play-more : (qs : List Request) (q : Request) (p : Played) → play picks (qs ++ (q ∷ [])) p ≡ playOne lowestFree q (play picks qs p)
@@ -66,27 +67,27 @@ blank-first : getD blank 0 0 ≡ 0
 unfolding blank
 blank-first = refl
 
-call-past : (q : Request) (x : Session) → Past x → Past (calling q x .session)
+call-reachable : (q : Request) (x : Session) → Reachable x → Reachable (calling q x .session)
 unfolding calling
-call-past q x (unopened w e) =
+call-reachable q x (unopened w e) =
     let f = unopened-refused q (x .words) (rw w blank-length) (rw w blank-first) in
-    subst (λ (r : Result). Past (callTurn q r (x .history) .session)) (sym f) (unopened w e)
-call-past q x (played z m qs o w e) =
+    subst (λ (r : Result). Reachable (callTurn q r (x .history) .session)) (sym f) (unopened w e)
+call-reachable q x (played z m qs o w e) =
     let f = play-more qs q (from z m) in
     played {x = calling q x .session} z m (qs ++ (q ∷ [])) o
     (ap (λ (y : List ℕ). result lowestFree q y .words) w ∙ ap (λ (p : Played). p .words) (sym f))
     (rw (w, e) (ap (λ (p : Played). p .history) (sym f)))
 
-open-past : (z : Sizes) (x : Session) → Past x → Past (opening z x .session)
+open-reachable : (z : Sizes) (x : Session) → Reachable x → Reachable (opening z x .session)
 unfolding opening open-store play
-open-past z x p = go (sizesInRange z) refl (ltb (length (x .words)) 16 || ltb (length (x .words)) (storeWords z)) refl
+open-reachable z x p = go (sizesInRange z) refl (ltb (length (x .words)) 16 || ltb (length (x .words)) (storeWords z)) refl
   where
     answered : Bool → Bool → Result
     answered a b =
         cond (not a) (record { reply = refused 1; words = x .words })
         (cond b (record { reply = refused 2; words = x .words }) (record { reply = accepted ok; words = opened z (x .words) }))
 
-    go : (a : Bool) → sizesInRange z ≡ a → (b : Bool) → (ltb (length (x .words)) 16 || ltb (length (x .words)) (storeWords z)) ≡ b → Past (openTurn (answered a b) (x .history) .session)
+    go : (a : Bool) → sizesInRange z ≡ a → (b : Bool) → (ltb (length (x .words)) 16 || ltb (length (x .words)) (storeWords z)) ≡ b → Reachable (openTurn (answered a b) (x .history) .session)
     go false e b f = p
     go true e true f = p
     go true e false f =
@@ -108,14 +109,14 @@ module _ (P : Session → Type 0) (opens : (z : Sizes) (x : Session) → P x →
       go Bad f = h
 
 -- Demand 3.
-past-formed : (x : Session) → Past x → (wellFormed (x .history) ≡ true) × Explained (x .history)
-past-formed x (unopened w e) = rw e (refl, tt)
-past-formed x (played z m qs o w e) =
+reachable-formed : (x : Session) → Reachable x → (wellFormed (x .history) ≡ true) × Explained (x .history)
+reachable-formed x (unopened w e) = rw e (refl, tt)
+reachable-formed x (played z m qs o w e) =
     let d = demand-3 z m qs picks o (λ k. lowest-free-picks) in
     rw e (d .formed, criterion (after z m qs .history) (d .formed) .1 (d .linearizable))
 
 pub lines-formed : (ls : List (List ℕ)) → (wellFormed (runLines ls start .session .history) ≡ true) × Explained (runLines ls start .session .history)
-lines-formed ls = past-formed (runLines ls start .session) (after-lines Past open-past call-past ls start (unopened refl refl))
+lines-formed ls = reachable-formed (runLines ls start .session) (after-lines Reachable open-reachable call-reachable ls start (unopened refl refl))
 
 -- The history that the lines leave is linearizable.
 pub lines-linearizable : (ls : List (List ℕ)) → Linearizable (runLines ls start .session .history)
@@ -124,12 +125,6 @@ lines-linearizable ls = let f = lines-formed ls in criterion (runLines ls start 
 positive : (t : ℕ) → (t ≡ 0 → ⊥) → 1 ≤ t
 positive zero f = absurd (f refl)
 positive (suc t) f = omega arith
-
-most-producers : (z : Sizes) → sizesInRange z ≡ true → z .P ≤ 16
-most-producers z e =
-    let p = both (between 2 64 (z .B) && between 2 64 (z .N) && between 1 16 (z .P)) (between 1 1000000 (z .M)) e in
-    let q = both (between 2 64 (z .B) && between 2 64 (z .N)) (between 1 16 (z .P)) (p .0) in
-    leb-true (z .P) 16 (both (leb 1 (z .P)) (leb (z .P) 16) (q .1) .1)
 
 -- An accepted start enqueue has a producer's thread, and gives a call number.
 module _ (t v n : ℕ) (m : List ℕ) where
@@ -147,7 +142,7 @@ module _ (t v n : ℕ) (m : List ℕ) where
 
   producer : sizesInRange z ≡ true → (eqb t 0 ≡ false) × (ltb (z .P) t ≡ false) → isProducer t ≡ true
   producer s b =
-      let l = most-producers z s in
+      let l = limits z s .most-producers in
       let g = ltb-false (z .P) t (b .1) in
       simp (le-leb 1 t (positive t (eqb-false t 0 (b .0))), le-leb t 16 (omega arith))
 

@@ -3,6 +3,7 @@ use protocol::Line;
 use reading::MOST_EVENTS;
 use store::Reply;
 use store::Shape;
+use store::size::MOST_WORDS;
 ghost use mathlib.Core.Path.{_≡_};
 ghost use mathlib.Core.List.{List, [], _∷_};
 ghost use Prim.Native.Nat.{ℕ, _+_, _*_, _≤_};
@@ -250,7 +251,7 @@ pub fn run(input: &[u8], out: &mut [u8; 110_617]) -> usize
     if 8192 < input.len() {
         return text::write_bytes(out, 0, b"too long\n");
     }
-    let mut store = [0u32; 12696];
+    let mut store = [0u32; MOST_WORDS];
     let mut history = [0u32; 4 * MOST_EVENTS];
     let next = run_lines(input, &mut store, &mut history, out);
     match next {

@@ -18,8 +18,8 @@ use Rattle.rules.specs.Rule.{Effect, goes, item, reply, need, upTo, index, insi
 use Rattle.rules.specs.Consumer.{readItem, markHandled}
 use Rattle.rules.specs.Request.{step}
 use Rattle.model.specs.State
-use Rattle.model.specs.State.{gone, at}
-use Rattle.model.specs.Facts.{at-same, at-other}
+use Rattle.model.specs.State.{gone, override}
+use Rattle.model.specs.Facts.{override-same, override-other}
 use Rattle.model.specs.Invariant.{Inside, Found, isBusy}
 use Rattle.model.specs.Scanning.{read-item}
 use Rattle.model.specs.Dequeues.{take-item, take-front}
@@ -103,12 +103,12 @@ module _ (z : Sizes) (σ : Reader) (γ : Ghost) (good : Good z σ γ) where
     seen = consumer-at z σ γ good 7 e
 
     -- the entry is handled, and nothing else of the entries changes
-    marked : AgreesWith (z .B) (update σ (state r i := 2)) (record { shape = γ .shape; entry = at (γ .entry) (σ foundPosition) gone; owner = γ .owner; content = γ .content; history = γ .history })
+    marked : AgreesWith (z .B) (update σ (state r i := 2)) (record { shape = γ .shape; entry = override (γ .entry) (σ foundPosition) gone; owner = γ .owner; content = γ .content; history = γ .history })
     marked =
-        slot-changes z σ (update σ (state r i := 2)) (γ .shape) (m .chain) r (σ foundPosition) s (γ .entry) (at (γ .entry) (σ foundPosition) gone) (γ .content) (γ .content)
-        (λ p n. (at-other (γ .entry) (σ foundPosition) gone p n, refl))
+        slot-changes z σ (update σ (state r i := 2)) (γ .shape) (m .chain) r (σ foundPosition) s (γ .entry) (override (γ .entry) (σ foundPosition) gone) (γ .content) (γ .content)
+        (λ p n. (override-other (γ .entry) (σ foundPosition) gone p n, refl))
         (λ y a k n. rw (other-entry r i y a n, and-false (eqb 0 k)) refl)
-        (rw (at-same (γ .entry) (σ foundPosition) gone, eq-eqb r r refl, eq-eqb i i refl) refl)
+        (rw (override-same (γ .entry) (σ foundPosition) gone, eq-eqb r r refl, eq-eqb i i refl) refl)
         (slot-number z σ γ r (σ foundPosition) s (good .agrees))
         (slot-value z σ γ r (σ foundPosition) s (good .agrees))
         (good .agrees)
@@ -121,7 +121,7 @@ module _ (z : Sizes) (σ : Reader) (γ : Ghost) (good : Good z σ γ) where
 
     takes-item : Goes z σ γ (step 0) (item (σ itemNumber) (σ itemValue)) (state r i := 2 ∷ clearConsumer ∷ [])
     takes-item =
-        consumer-light z σ γ good (item (σ itemNumber) (σ itemValue)) (state r i := 2 ∷ clearConsumer ∷ []) (at (γ .entry) (σ foundPosition) gone)
+        consumer-light z σ γ good (item (σ itemNumber) (σ itemValue)) (state r i := 2 ∷ clearConsumer ∷ []) (override (γ .entry) (σ foundPosition) gone)
         (gaveItem (σ itemNumber) (σ itemValue) ∷ γ .history)
         (refl, (refl, tt))
         ((s .fits, s .here .below, omega arith), (tt, tt))
@@ -140,7 +140,7 @@ module _ (z : Sizes) (σ : Reader) (γ : Ghost) (good : Good z σ γ) where
         → Goes z σ γ (step 0) (item (σ itemNumber) (σ itemValue)) (state r i := 2 ∷ headPosition := suc (σ headPosition) ∷ clearConsumer ∷ [])
     takes-front f room =
         consumer-light z σ γ good (item (σ itemNumber) (σ itemValue)) (state r i := 2 ∷ headPosition := suc (σ headPosition) ∷ clearConsumer ∷ [])
-        (at (γ .entry) (σ foundPosition) gone)
+        (override (γ .entry) (σ foundPosition) gone)
         (gaveItem (σ itemNumber) (σ itemValue) ∷ γ .history)
         (refl, (of-sort z number (suc (σ headPosition)) room, (refl, tt)))
         ((s .fits, s .here .below, omega arith), (omega arith, (tt, tt)))

@@ -6,25 +6,31 @@ use native.Mathlib.Nat.{mul-le-mul-right}
 use native.Mathlib.Omega.{arith}
 use lib.Dec.{leb}
 use borrow.Author.Tests.{leb-true}
-use Rattle.rules.specs.Sizes.{Sizes, between, sizesInRange, mostPlace}
+use Rattle.history.specs.Event.{mostProducers}
+use Rattle.rules.specs.Sizes.{Sizes, between, mostEntries, mostRecords, mostStarts, sizesInRange, mostPlace}
 use Rattle.rules.specs.Update.{both}
 
 pub record Limits (z : Sizes) : Type 0 where
   pub two-entries : 2 ≤ z .B
   pub two-records : 2 ≤ z .N
   pub one-producer : 1 ≤ z .P
-  pub most-starts : z .M ≤ 1000000
+  pub most-producers : z .P ≤ mostProducers
+  pub most-starts : z .M ≤ mostStarts
 
 pub limits : (z : Sizes) → sizesInRange z ≡ true → Limits z
 limits z e =
-    let p = both (between 2 64 (z .B) && between 2 64 (z .N) && between 1 16 (z .P)) (between 1 1000000 (z .M)) e in
-    let q = both (between 2 64 (z .B) && between 2 64 (z .N)) (between 1 16 (z .P)) (p .0) in
-    let r = both (between 2 64 (z .B)) (between 2 64 (z .N)) (q .0) in
+    let entries = between 2 mostEntries (z .B) in
+    let records = between 2 mostRecords (z .N) in
+    let producers = between 1 mostProducers (z .P) in
+    let m = both (entries && records && producers) (between 1 mostStarts (z .M)) e in
+    let p = both (entries && records) producers (m .0) in
+    let r = both entries records (p .0) in
     record {
-      two-entries = leb-true 2 (z .B) (both (leb 2 (z .B)) (leb (z .B) 64) (r .0) .0);
-      two-records = leb-true 2 (z .N) (both (leb 2 (z .N)) (leb (z .N) 64) (r .1) .0);
-      one-producer = leb-true 1 (z .P) (both (leb 1 (z .P)) (leb (z .P) 16) (q .1) .0);
-      most-starts = leb-true (z .M) 1000000 (both (leb 1 (z .M)) (leb (z .M) 1000000) (p .1) .1);
+      two-entries = leb-true 2 (z .B) (both (leb 2 (z .B)) (leb (z .B) mostEntries) (r .0) .0);
+      two-records = leb-true 2 (z .N) (both (leb 2 (z .N)) (leb (z .N) mostRecords) (r .1) .0);
+      one-producer = leb-true 1 (z .P) (both (leb 1 (z .P)) (leb (z .P) mostProducers) (p .1) .0);
+      most-producers = leb-true (z .P) mostProducers (both (leb 1 (z .P)) (leb (z .P) mostProducers) (p .1) .1);
+      most-starts = leb-true (z .M) mostStarts (both (leb 1 (z .M)) (leb (z .M) mostStarts) (m .1) .1);
     }
 
 -- A record up to whose end a taken position reaches has a place below the limit, and so has the next.

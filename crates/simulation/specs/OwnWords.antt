@@ -17,7 +17,7 @@ use Rattle.rules.specs.Request.{Request, step}
 use Rattle.rules.specs.Play.{threadOf, replyEvents}
 use Rattle.rules.specs.Readback.{WriteThere}
 use Rattle.rules.specs.InRange.{InSort, writes-keep-range}
-use Rattle.model.specs.State.{Producer, Consumer, State, at}
+use Rattle.model.specs.State.{Producer, Consumer, State, override}
 use Rattle.model.specs.Invariant.{Invariant}
 use Rattle.model.specs.Moves.{withProducer, withConsumer}
 use Rattle.memory.specs.Memory.{ThreadOk, rowOf, Linked}

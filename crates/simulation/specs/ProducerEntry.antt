@@ -22,9 +22,9 @@ use Rattle.rules.specs.Request.{step}
 use Rattle.rules.specs.Play.{replyEvents}
 use Rattle.rules.specs.InRange.{InSort}
 use Rattle.rules.specs.Readback.{WriteThere}
-use Rattle.model.specs.State.{put, Producer, started, writing, setting, idle, callOf, at}
+use Rattle.model.specs.State.{put, Producer, started, writing, setting, idle, callOf, override}
 use Rattle.model.specs.Invariant.{Invariant, Inside}
-use Rattle.model.specs.Facts.{at-same, at-other}
+use Rattle.model.specs.Facts.{override-same, override-other}
 use Rattle.model.specs.Moves.{withProducer, withEntry, setEntry as setEntered}
 use Rattle.model.specs.Positions.{take-position, write-entry, set-entry}
 use Rattle.model.specs.Enqueues.{finish-keeps}
@@ -53,7 +53,7 @@ module _ (z : Sizes) (σ : Reader) (γ : Ghost) (good : Good z σ γ) (t : ℕ) 
   unfolding takePosition
   take-position-fine e =
       by-up-to (Fine z σ γ (step t)) (z .M) (suc (σ tail)) _ room
-      (producer-goes z σ γ good t a-producer going takeWrites (γ .shape .tp) (γ .entry) (at (γ .owner) (σ tail) (σ (call t))) (γ .content) (γ .history)
+      (producer-goes z σ γ good t a-producer going takeWrites (γ .shape .tp) (γ .entry) (override (γ .owner) (σ tail) (σ (call t))) (γ .content) (γ .history)
       in-sort
       ((a-producer .0, a-producer .1, omega arith), (omega arith, ((a-producer .0, a-producer .1, omega arith), tt)))
       (record { parts = λ x j. refl; entries = λ x u i j. refl })
@@ -125,7 +125,7 @@ module _ (z : Sizes) (σ : Reader) (γ : Ghost) (good : Good z σ γ) (t : ℕ) 
 
       writes : (h : ℕ) → Slot z σ (γ .shape) h (σ (position t)) → Goes z σ γ (step t) going (writeWrites h (index z σ h (σ (position t))))
       writes h s =
-          producer-goes z σ γ good t a-producer going ws (γ .shape .tp) (γ .entry) (γ .owner) (at (γ .content) (σ (position t)) what) (γ .history)
+          producer-goes z σ γ good t a-producer going ws (γ .shape .tp) (γ .entry) (γ .owner) (override (γ .content) (σ (position t)) what) (γ .history)
           in-sort
           ((s .fits, s .here .below, omega arith), ((s .fits, s .here .below, omega arith), ((a-producer .0, a-producer .1, omega arith), tt)))
           (record { parts = λ x j. refl; entries = λ x n b j. rw (other-record σ h (s .linked) x n, and-false (eqb (index z σ h (σ (position t))) b), and-false (eqb 2 j), and-false (eqb 1 j)) refl })
@@ -135,12 +135,12 @@ module _ (z : Sizes) (σ : Reader) (γ : Ghost) (good : Good z σ γ) (t : ℕ) 
           (λ l. good .memory .threads t .has-held (omega arith)) (λ x. omega (arith, nine)) (λ x. omega (arith, nine)))
           (old .claimed)
           (good .memory .head-tail, good .memory .tail-last, good .memory .tail-is)
-          (slot-changes z σ σ′ (γ .shape) (good .memory .chain) h (σ (position t)) s (γ .entry) (γ .entry) (γ .content) (at (γ .content) (σ (position t)) what)
-          (λ p n. (refl, at-other (γ .content) (σ (position t)) what p n))
+          (slot-changes z σ σ′ (γ .shape) (good .memory .chain) h (σ (position t)) s (γ .entry) (γ .entry) (γ .content) (override (γ .content) (σ (position t)) what)
+          (λ p n. (refl, override-other (γ .content) (σ (position t)) what p n))
           (λ y a j n. rw (other-entry h i y a n, and-false (eqb 2 j), and-false (eqb 1 j)) refl)
           (slot-state z σ γ h (σ (position t)) s (good .agrees))
-          (rw (at-same (γ .content) (σ (position t)) what, eq-eqb h h refl, eq-eqb i i refl) refl)
-          (rw (at-same (γ .content) (σ (position t)) what, eq-eqb h h refl, eq-eqb i i refl) refl)
+          (rw (override-same (γ .content) (σ (position t)) what, eq-eqb h h refl, eq-eqb i i refl) refl)
+          (rw (override-same (γ .content) (σ (position t)) what, eq-eqb h h refl, eq-eqb i i refl) refl)
           (good .agrees))
           (as-seen (write-entry (z .B) (view σ γ) (good .model) t _ _ _ _ seen)
           (producers-after t σ σ′ (others-kept z t σ ws in-sort) (λ u x. refl) _ (rw self refl)))
@@ -189,7 +189,7 @@ module _ (z : Sizes) (σ : Reader) (γ : Ghost) (good : Good z σ γ) (t : ℕ) 
         → Goes z σ γ (step t) r (state h i := 1 ∷ rest)
     unfolding i
     sets rest r x H own in-row thread none seen model formed grown =
-        producer-goes z σ γ good t a-producer r ws (γ .shape .tp) (at (γ .entry) (σ (position t)) put) (γ .owner) (γ .content) H
+        producer-goes z σ γ good t a-producer r ws (γ .shape .tp) (override (γ .entry) (σ (position t)) put) (γ .owner) (γ .content) H
         in-sort
         ((s .fits, s .here .below, omega arith), own-there z t (ofProducer t) (of-producer z t a-producer) rest own)
         (record {
@@ -201,10 +201,10 @@ module _ (z : Sizes) (σ : Reader) (γ : Ghost) (good : Good z σ γ) (t : ℕ) 
         thread
         none
         (good .memory .head-tail, good .memory .tail-last, same tailRecord refl ∙ good .memory .tail-is)
-        (slot-changes z σ σ′ (γ .shape) (good .memory .chain) h (σ (position t)) s (γ .entry) (at (γ .entry) (σ (position t)) put) (γ .content) (γ .content)
-        (λ p n. (at-other (γ .entry) (σ (position t)) put p n, refl))
+        (slot-changes z σ σ′ (γ .shape) (good .memory .chain) h (σ (position t)) s (γ .entry) (override (γ .entry) (σ (position t)) put) (γ .content) (γ .content)
+        (λ p n. (override-other (γ .entry) (σ (position t)) put p n, refl))
         (λ y a j n. same (entry y a j) refl ∙ rw (other-entry h i y a n, and-false (eqb 0 j)) refl)
-        (same (entry h i 0) refl ∙ rw (at-same (γ .entry) (σ (position t)) put, eq-eqb h h refl, eq-eqb i i refl) refl)
+        (same (entry h i 0) refl ∙ rw (override-same (γ .entry) (σ (position t)) put, eq-eqb h h refl, eq-eqb i i refl) refl)
         (same (entry h i 1) refl ∙ slot-number z σ γ h (σ (position t)) s (good .agrees))
         (same (entry h i 2) refl ∙ slot-value z σ γ h (σ (position t)) s (good .agrees))
         (good .agrees))
@@ -261,7 +261,7 @@ module _ (z : Sizes) (σ : Reader) (γ : Ghost) (good : Good z σ γ) (t : ℕ) 
         (row 5)
         (idle-seen z (γ .shape .lo) σ (rowOf σ′ t) row (placesOf σ))
         (as-seen
-        (finish-keeps (z .B) (setEntered (view σ γ) t _ _ _ _) (set-entry (z .B) (view σ γ) (good .model) t _ _ _ _ seen-setting) t _ _ _ _ (at-same (producersOf σ) t _))
+        (finish-keeps (z .B) (setEntered (view σ γ) t _ _ _ _) (set-entry (z .B) (view σ γ) (good .model) t _ _ _ _ seen-setting) t _ _ _ _ (override-same (producersOf σ) t _))
         (at-twice (producersOf σ) t _ idle))
         (end-formed z σ γ good t _ is)
         (end-adds z σ γ good t _ is)

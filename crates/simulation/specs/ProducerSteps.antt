@@ -22,7 +22,7 @@ use Rattle.rules.specs.Request.{step}
 use Rattle.rules.specs.Play.{replyEvents}
 use Rattle.rules.specs.Readback.{WriteThere}
 use Rattle.rules.specs.InRange.{InSort, writes-keep-range}
-use Rattle.model.specs.State.{Entry, Producer, State, at}
+use Rattle.model.specs.State.{Entry, Producer, State, override}
 use Rattle.model.specs.Invariant.{Invariant}
 use Rattle.model.specs.Moves.{withProducer}
 use Rattle.memory.specs.Memory.{ChainShape, Held, ThreadOk, rowOf}
@@ -60,10 +60,10 @@ PlacesKept t σ σ′ = (u : ℕ) → (t ≡ u → ⊥) → placeOf (placesOf σ
 
 -- The producers after a call of thread t: only t's is another one.
 pub producers-after : (t : ℕ) (σ σ′ : Reader) → OthersKept t σ σ′ → PlacesKept t σ σ′ → (x : Producer) → producersOf σ′ t ≡ x
-    → at (producersOf σ) t x ≡ producersOf σ′
+    → override (producersOf σ) t x ≡ producersOf σ′
 producers-after t σ σ′ kept places x e = fun-ext (λ u. go u (ℕ-discrete t u))
   where
-    go : (u : ℕ) → Dec (t ≡ u) → at (producersOf σ) t x u ≡ producersOf σ′ u
+    go : (u : ℕ) → Dec (t ≡ u) → override (producersOf σ) t x u ≡ producersOf σ′ u
     go u (yes q) = rw (eq-eqb t u q) (sym e ∙ ap (producersOf σ′) q)
     go u (no n) =
         rw (ne-eqb t u n)
@@ -72,15 +72,15 @@ producers-after t σ σ′ kept places x e = fun-ext (λ u. go u (ℕ-discrete t
         ∙ ap (λ (k : ℕ). producerAt (rowOf σ u 0) (rowOf σ u 1) (rowOf σ u 2) (rowOf σ u 3) k) (places u n)))
 
 -- Where t's is the same, none is another one.
-at-itself : {A : Type 0} (f : ℕ → A) (k : ℕ) → at f k (f k) ≡ f
+at-itself : {A : Type 0} (f : ℕ → A) (k : ℕ) → override f k (f k) ≡ f
 at-itself {A} f k = fun-ext (λ j. go j (ℕ-discrete k j))
   where
-    go : (j : ℕ) → Dec (k ≡ j) → at f k (f k) j ≡ f j
+    go : (j : ℕ) → Dec (k ≡ j) → override f k (f k) j ≡ f j
     go j (yes q) = rw (eq-eqb k j q) (ap f q)
     go j (no n) = rw (ne-eqb k j n) refl
 
 -- The later of two changes of t's is the one that is seen.
-pub at-twice : {A : Type 0} (f : ℕ → A) (k : ℕ) (x y : A) → at (at f k x) k y ≡ at f k y
+pub at-twice : {A : Type 0} (f : ℕ → A) (k : ℕ) (x y : A) → override (override f k x) k y ≡ override f k y
 at-twice {A} f k x y = fun-ext (λ j. go j (eqb k j))
   where
     go : (j : ℕ) (b : Bool) → cond b y (cond b x (f j)) ≡ cond b y (f j)
@@ -90,7 +90,7 @@ at-twice {A} f k x y = fun-ext (λ j. go j (eqb k j))
 -- A producer that goes on as it was.
 pub goes-on-same : (B : ℕ) (s : State) (t : ℕ) (x : Producer) → s .producer t ≡ x → Invariant B s → Invariant B (withProducer s t x)
 goes-on-same B s t x e i =
-    as-seen i (sym (at-itself (s .producer) t) ∙ ap (at (s .producer) t) e)
+    as-seen i (sym (at-itself (s .producer) t) ∙ ap (override (s .producer) t) e)
 
 -- A producer's clause, where it claims nothing.
 pub unclaimed : (N lo : ℕ) (σ : Reader) (row : ℕ → ℕ) → Held lo σ (row 4) → row 5 ≡ 0 → (3 ≤ row 0 → row 4 ≢ 0)

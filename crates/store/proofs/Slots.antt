@@ -26,6 +26,10 @@ module _ {z : Sizes} {m : List ℕ} {l p : ℕ} {x : Slot} (s : Slotted z m l p 
   pub at-there : {r i : ℕ} → x ≡ At r i → (r < z .N) × (i < z .B)
   at-there e = let at = rw e at (s .stands) in (at .below, at .index-below)
 
+-- the slot of one position is that of an equal one
+pub slot-of : {z : Sizes} {m : List ℕ} {l p : ℕ} {x : Slot} → Slotted z m l p x → (q : ℕ) → p ≡ q → Slotted z m l q x
+slot-of s q e = rw (← e) s
+
 module _ {z : Sizes} {m : List ℕ} {l p link position : ℕ} (a : link ≡ l) (b : position ≡ p) where
   pub stands-end : {x : Slot} {r : ℕ} → Slotted z m l p x → x ≡ End r → StandsEnd z (reader z m) link position r
   stands-end s e = rw (a, b) (rw e at (s .stands))

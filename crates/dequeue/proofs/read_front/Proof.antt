@@ -9,7 +9,7 @@ use Rattle.rules.specs.Cell.{writes}
 use Rattle.rules.specs.Consumer.{front}
 use Rattle.rules.specs.Request.{applied}
 use Rattle.store.specs.Branches.{handled}
-use Rattle.store.proofs.Slots.{end-there, at-there, stands-end, stands-at, nowhere}
+use Rattle.store.proofs.Slots.{slot-of, end-there, at-there, stands-end, stands-at, nowhere}
 use Rattle.dequeue.proofs.read_front.Statement.{statement}
 use Rattle.dequeue.proofs.read_front.Tie as tie
 
@@ -32,7 +32,7 @@ returns : tie.Need-returns
 unfolding front applied writes
 returns c =
     let q = c .before .before .before .before .before .before .before .before .before .before .before .read-contents .ensures in
-    let end = stands-end (q .head-record) (q .head-position) (c .before .before .before .before .before .before .before .before .before .slot-in .ensures) (c .before .before .before .before .before .before .before .slot .given .1) in
+    let end = stands-end (q .head-record) (q .head-position) (slot-of (c .before .before .before .before .before .before .before .before .before .slot-in .ensures) (c .before .before .before .before .before .before .before .before .before .before .before .read-contents .result .«head_position») (omega arith)) (c .before .before .before .before .before .before .before .slot .given .1) in
     rw (end .link, end .ends, q .tail-record, eq-eqb _ _ (c .before .before .before .before .if1 .taken ∙ sym (q .head-record) ∙ end .link), c .before .before .clear-consumer .ensures) refl
 
 move-head-requires : tie.Need-move-head-requires

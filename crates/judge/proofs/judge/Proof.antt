@@ -47,7 +47,7 @@ use Rattle.marking.proofs.Marked.Laws as marked-laws
 use Rattle.judge.proofs.Verdict as verdict
 use Rattle.judge.proofs.Verdict.Laws as verdict-laws
 use Rattle.judge.proofs.MirWalks.{Entry, Working, Flags, typeOf, span, allocates, frees-all, By, calls-by}
-use Rattle.judge.proofs.Lending.{at, slice, lends-own, own-back, shares-own, own-room, lends-slice, slice-back, shares-slice}
+use Rattle.judge.proofs.Lending.{blockRef, slice, lends-own, own-back, shares-own, own-room, lends-slice, slice-back, shares-slice}
 use Rattle.judge.proofs.Taken.{Given-both, After, exits, meets}
 use Rattle.reading.proofs.read as read
 use Rattle.reading.proofs.read.Symbol as read-def
@@ -83,7 +83,7 @@ zeros n = replicate n 0
 
 -- what the memory's shared reference owns
 abbrev Shared : (α l : ℕ) → GName → List ℕ → Fml
-Shared α l γ m = ShrRef (named 1) (α ∷ []) Working .own (at l γ m) (vptr l 0 ∷ [])
+Shared α l γ m = ShrRef (named 1) (α ∷ []) Working .own (blockRef l γ m) (vptr l 0 ∷ [])
 
 -- what the proof knows of the functions that are called
 pub record Known {M : Type 1} (𝓤 : URA M) (H : Heap 𝓤) (A : Atoms 𝓤) (mem : Memory → SProp 𝓤) (run : Routine → Fun 𝓤) (𝓣 : Tables 𝓤 H) : Type 1 where
@@ -129,7 +129,7 @@ module _ {M : Type 1} (𝓤 : URA M) (H : Heap 𝓤) (A : Atoms 𝓤) (W : Given
         -- the memory is lent to `read`
         move ! (8 ∷ 0 ∷ []) $ lends-own ! tt Working refl (named 1) (zeros 28672) (l 3) (λ α γ₁.
         owned ! usize (Is usize) (uint-makes 𝓤 H A W w64) (length ys) _ (refl, room .0) $ move ! (6 ∷ 1 ∷ 5 ∷ 0 ∷ 2 ∷ []) $
-        calls-by 𝓤 H A read.ended (read.clauses 𝓤 H A mem run) (((κ, (α ∷ [], tt)), (q, (fullShare, tt)), tt, (h, (length ys, (at (l 3) γ₁ (zeros 28672), tt))), (slice-vals h, (vint w64 (length ys) ∷ [], (vptr (l 3) 0 ∷ [], tt)))), tt)
+        calls-by 𝓤 H A read.ended (read.clauses 𝓤 H A mem run) (((κ, (α ∷ [], tt)), (q, (fullShare, tt)), tt, (h, (length ys, (blockRef (l 3) γ₁ (zeros 28672), tt))), (slice-vals h, (vint w64 (length ys) ∷ [], (vptr (l 3) 0 ∷ [], tt)))), tt)
         W fm (known .reads) (factI 𝓤 _ (emp 𝓤) (no-calls 28672 refl)) ! (and-then ! (load ! (from ! (stop !)) (look ! 5 refl)) (and-then ! (load ! (from ! (stop !)) (look ! 12 refl)) (and-then ! (load ! (from ! (stop !)) (look ! 13 refl)) (no-more !)))) (λ u e lasts.
         let m : List ℕ = lasts .1 .1 .0 in heard ! (Read (reading (length ys) hs) (length hs / 4) m e) (λ is-read.
         peeks ! entered.the-row (Is entered.the-row) (shows 𝓤 H A entered.the-row) e (u ∷ []) (λ is.
@@ -147,9 +147,9 @@ module _ {M : Type 1} (𝓤 : URA M) (H : Heap 𝓤) (A : Atoms 𝓤) (W : Given
         assigns ! (addr ! (from ! (stop !))) (from ! (stop !)) (init ! 15 refl (tt, tt)) $ assigns ! (addr ! (from ! (stop !))) (from ! (stop !)) (init ! 16 refl (tt, tt)) $
         -- the flags are lent to `marks`, and the memory is shared with it and with `fill_calls`
         move ! (10 ∷ 0 ∷ []) $ lends-own ! tt Flags refl (named 1) (zeros 4096) (l 6) (λ ε γ₄. move ! (3 ∷ []) $ shares-own ! tt Working (named 1) m (l 3) (λ β γ₂.
-        move ! (1 ∷ []) $ use1 W (‵ (Shared β (l 3) γ₂ m) ⊛ ‵ (Shared β (l 3) γ₂ m)) (shr-copy 𝓤 H A W (named 1) (β ∷ []) Working .twice (at (l 3) γ₂ m) (vptr (l 3) 0 ∷ [])) $ split ! $
+        move ! (1 ∷ []) $ use1 W (‵ (Shared β (l 3) γ₂ m) ⊛ ‵ (Shared β (l 3) γ₂ m)) (shr-copy 𝓤 H A W (named 1) (β ∷ []) Working .twice (blockRef (l 3) γ₂ m) (vptr (l 3) 0 ∷ [])) $ split ! $
         owned ! usize (Is usize) (uint-makes 𝓤 H A W w64) n _ (refl, is₁ .1) $ move ! (3 ∷ 5 ∷ 1 ∷ 6 ∷ 0 ∷ []) $
-        calls-by 𝓤 H A marks.ended (marks.clauses 𝓤 H A mem run) (((β ∷ [], (ε ∷ [], tt)), (fullShare, (fullShare, tt)), tt, (at (l 3) γ₂ m, (at (l 6) γ₄ (zeros 4096), (n, tt))), (vptr (l 3) 0 ∷ [], (vptr (l 6) 0 ∷ [], (vint w64 n ∷ [], tt)))), tt)
+        calls-by 𝓤 H A marks.ended (marks.clauses 𝓤 H A mem run) (((β ∷ [], (ε ∷ [], tt)), (fullShare, (fullShare, tt)), tt, (blockRef (l 3) γ₂ m, (blockRef (l 6) γ₄ (zeros 4096), (n, tt))), (vptr (l 3) 0 ∷ [], (vptr (l 6) 0 ∷ [], (vint w64 n ∷ [], tt)))), tt)
         W fm (known .marks) (factI 𝓤 _ (emp 𝓤) (may-mark hs ys m e n is-read count (zeros 4096) refl)) ! (and-then ! (load ! (from ! (stop !)) (look ! 16 refl)) (and-then ! (load ! (from ! (stop !)) (look ! 17 refl)) (and-then ! (load ! (from ! (stop !)) (look ! 11 refl)) (no-more !)))) (λ v₂ r lasts₂.
         let f : List ℕ = lasts₂ .1 .0 in heard ! (Marks m n f r) (λ is-marked.
         peeks ! marked.the-row (Is marked.the-row) (shows 𝓤 H A marked.the-row) r (v₂ ∷ []) (λ is₃.
@@ -162,7 +162,7 @@ module _ {M : Type 1} (𝓤 : URA M) (H : Heap 𝓤) (A : Atoms 𝓤) (W : Given
         -- the table is lent on to `fill_calls`
         move ! (5 ∷ 6 ∷ []) $ lends-slice Entry (named 1) (named 0) κ′ q′ (ptr x .0) (ptr x .1) (name x) ! tt ys (λ δ γ₃.
         owned ! usize (Is usize) (uint-makes 𝓤 H A W w64) n _ (refl, is₁ .1) $ move ! (1 ∷ 5 ∷ 2 ∷ 6 ∷ 0 ∷ []) $
-        calls-by 𝓤 H A fill.ended (fill.clauses 𝓤 H A mem run) (((δ ∷ [], (β ∷ [], tt)), (fullShare, (fullShare, tt)), tt, (slice (ptr x .0) (ptr x .1) γ₃ ys, (at (l 3) γ₂ m, (n, tt))), (s ∷ [], (vptr (l 3) 0 ∷ [], (vint w64 n ∷ [], tt)))), tt)
+        calls-by 𝓤 H A fill.ended (fill.clauses 𝓤 H A mem run) (((δ ∷ [], (β ∷ [], tt)), (fullShare, (fullShare, tt)), tt, (slice (ptr x .0) (ptr x .1) γ₃ ys, (blockRef (l 3) γ₂ m, (n, tt))), (s ∷ [], (vptr (l 3) 0 ∷ [], (vint w64 n ∷ [], tt)))), tt)
         W fm (known .fills) (factI 𝓤 _ (emp 𝓤) (few hs ys m e n is-read count)) ! (and-then ! (load ! (from ! (stop !)) (look ! 18 refl)) (and-then ! (load ! (from ! (stop !)) (look ! 19 refl)) (and-then ! (load ! (from ! (stop !)) (look ! 9 refl)) (no-more !)))) (λ v₃ u₃ lasts₃.
         let zs : List Call = lasts₃ .0 in heard ! (zs ≡ filled m n ys) (λ is-filled. facts ! Nothing (Is Nothing) (shows 𝓤 H A Nothing) u₃ (v₃ ∷ []) (λ is₄.
         land ! (from ! (stop !)) (init ! 18 refl (nothing-lawful 𝓤 H A W .typed u₃ _ is₄ .0)) $ fsplit ! $ fsplit ! $
@@ -183,7 +183,7 @@ module _ {M : Type 1} (𝓤 : URA M) (H : Heap 𝓤) (A : Atoms 𝓤) (W : Given
         -- the table and the flags are shared with `all_stay`
         move ! (1 ∷ 2 ∷ []) $ shares-slice Entry (named 1) (named 0) κ′ q′ (ptr x .0) (ptr x .1) (name x) ! tt zs (λ γ₅. move ! (4 ∷ []) $ shares-own ! tt Flags (named 1) f (l 6) (λ ε γ₆.
         owned ! u32 (Is u32) (uint-makes 𝓤 H A W w32) k _ (refl, is₆ .1) $ owned ! usize (Is usize) (uint-makes 𝓤 H A W w64) i _ (refl, is₅ .1) $ move ! (5 ∷ 2 ∷ 6 ∷ 3 ∷ 0 ∷ 1 ∷ []) $
-        calls-by 𝓤 H A test.ended (test.clauses 𝓤 H A mem run) (((κ′, (ε ∷ [], tt)), (q′, (fullShare, tt)), tt, (slice (ptr x .0) (ptr x .1) γ₅ zs, (at (l 6) γ₆ f, (i, (k, tt)))), (sliceVal (ptr x) (length zs) ∷ [], (vptr (l 6) 0 ∷ [], (vint w64 i ∷ [], (vint w32 k ∷ [], tt))))), tt)
+        calls-by 𝓤 H A test.ended (test.clauses 𝓤 H A mem run) (((κ′, (ε ∷ [], tt)), (q′, (fullShare, tt)), tt, (slice (ptr x .0) (ptr x .1) γ₅ zs, (blockRef (l 6) γ₆ f, (i, (k, tt)))), (sliceVal (ptr x) (length zs) ∷ [], (vptr (l 6) 0 ∷ [], (vint w64 i ∷ [], (vint w32 k ∷ [], tt))))), tt)
         W fm (known .tests) (factI 𝓤 _ (emp 𝓤) (tested-few hs ys m e n is-read count f r is-marked zs is-filled i tested-is)) ! (and-then ! (load ! (from ! (stop !)) (look ! 21 refl)) (and-then ! (load ! (from ! (stop !)) (look ! 22 refl)) (and-then ! (load ! (from ! (stop !)) (look ! 12 refl)) (and-then ! (load ! (from ! (stop !)) (look ! 23 refl)) (no-more !))))) (λ v₆ t lasts₆.
         heard ! (t ≡ allStay zs f k i) (λ test-is. facts ! Boolean (Is Boolean) (shows 𝓤 H A Boolean) t (v₆ ∷ []) (λ is₇. drop ! $
         land ! (from ! (stop !)) (init ! 12 refl (bool-lawful 𝓤 H A W .typed t _ is₇ .0)) $ rewrite ! 12 (λ (y : Val). ‵ (fat fullShare tyBool (l 8) 0 y)) (ap only is₇) refl $ move ! (1 ∷ 2 ∷ []) $ own-room ! tt Flags refl f (l 6) $

@@ -48,7 +48,7 @@ use borrow.Table.OneValue.{part-in, part-out}
 use Rattle.history.specs.Form.{read}
 use Rattle.judge.specs.declared.Call.{Call}
 use Rattle.judge.specs.declared.Verdict.{Verdict}
-use Rattle.judge.specs.Answer.{reply, Judges}
+use Rattle.judge.specs.Contract.{reply, Judges}
 use Rattle.judge.specs.Working.{noCall}
 use Rattle.judge.proofs.Call as call
 use Rattle.judge.proofs.Call.Laws as call-laws

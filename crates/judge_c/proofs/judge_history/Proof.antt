@@ -29,7 +29,7 @@ use denote.Enum.Laws as EL
 use denote.Triple.Statement.{Triple}
 use denote.Triple.Table.{cited}
 use Rattle.judge.specs.declared.Call.{Call}
-use Rattle.judge.specs.Answer.{Judges}
+use Rattle.judge.specs.Contract.{Judges}
 use Rattle.judge.proofs.Verdict as verdict
 use Rattle.judge.proofs.Verdict.Laws as verdict-laws
 use Rattle.judge.proofs.MirWalks.{Entry, span, allocates, frees-all, By, calls-by}

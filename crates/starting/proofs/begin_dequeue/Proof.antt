@@ -1,5 +1,5 @@
 -- `starting::begin_dequeue` meets its contract.
-use mathlib.Core.Path.{refl}
+use mathlib.Core.Path.{_≡_, refl}
 use native.Mathlib.Omega.{arith}
 use borrow.Author.Needs.{needs}
 use borrow.Author.Tests.{ne-eqb}
@@ -26,7 +26,9 @@ same-length-2 c = search needs
 
 returns-2 : tie.Need-returns-2
 unfolding startingDequeue applied writes
-returns-2 c = rw (c .before .before .before .before .before .before .read-consumer .ensures .phase, c .before .before .before .before .if1 .left, c .before .before .put-consumer .ensures) refl
+returns-2 c =
+    let idle : c .before .before .before .before .before .before .read-consumer .result .phase ≡ 0 = omega (arith, c .before .before .before .before .if1) in
+    rw (c .before .before .before .before .before .before .read-consumer .ensures .phase, idle, c .before .before .put-consumer .ensures) refl
 
 pub begin-dequeue-spec : {M : Type 1} → statement M
 begin-dequeue-spec =

@@ -1,5 +1,5 @@
 -- `starting::begin_enqueue` meets its contract.
-use mathlib.Core.Path.{refl}
+use mathlib.Core.Path.{_≡_, refl}
 use native.Mathlib.Numerals.{add-one}
 use native.Mathlib.Omega.{arith}
 use borrow.Author.Needs.{needs}
@@ -35,7 +35,9 @@ same-length-2 c = search needs
 
 returns-4 : tie.Need-returns-4
 unfolding startingEnqueue applied
-returns-4 c = rw (le-ltb (c .before .before .before .before .before .before .before .before .before .before .before .before .args .z .producers) (c .before .before .before .before .before .before .before .before .before .before .before .before .args .t) (c .before .before .before .before .before .before .before .before .if2 .left), ne-eqb (c .before .before .before .before .before .before .before .before .before .before .before .before .args .t) 0 (c .before .before .before .before .before .before .before .before .before .before .if1 .left), c .before .before .before .before .before .before .read-producer .ensures .phase, c .before .before .before .before .if3 .left, c .before .before .read-contents .ensures .starts, eq-eqb _ _ (c .if4 .taken)) refl
+returns-4 c =
+    let idle : c .before .before .before .before .before .before .read-producer .result .phase ≡ 0 = omega (arith, c .before .before .before .before .if3) in
+    rw (le-ltb (c .before .before .before .before .before .before .before .before .before .before .before .before .args .z .producers) (c .before .before .before .before .before .before .before .before .before .before .before .before .args .t) (c .before .before .before .before .before .before .before .before .if2 .left), ne-eqb (c .before .before .before .before .before .before .before .before .before .before .before .before .args .t) 0 (c .before .before .before .before .before .before .before .before .before .before .if1 .left), c .before .before .before .before .before .before .read-producer .ensures .phase, idle, c .before .before .read-contents .ensures .starts, eq-eqb _ _ (c .if4 .taken)) refl
 
 add-put-content : tie.Need-add-put-content
 add-put-content c = search needs
@@ -65,7 +67,8 @@ returns-5 : tie.Need-returns-5
 unfolding startingEnqueue applied writes
 returns-5 c =
     let a = c .before .before .before .before .before .before .before .before .before .before .before .before .before .before .before .before .before .before .before .before .before .before .before .before .before .before .before .before .args in
-    rw (le-ltb (a .z .producers) (a .t) (c .before .before .before .before .before .before .before .before .before .before .before .before .before .before .before .before .before .before .before .before .before .before .before .before .if2 .left), ne-eqb (a .t) 0 (c .before .before .before .before .before .before .before .before .before .before .before .before .before .before .before .before .before .before .before .before .before .before .before .before .before .before .if1 .left), c .before .before .before .before .before .before .before .before .before .before .before .before .before .before .before .before .before .before .before .before .before .before .read-producer .ensures .phase, c .before .before .before .before .before .before .before .before .before .before .before .before .before .before .before .before .before .before .before .before .if3 .left, c .before .before .before .before .before .before .before .before .before .before .before .before .before .before .before .before .before .before .read-contents .ensures .starts, ne-eqb _ _ (c .before .before .before .before .before .before .before .before .before .before .before .before .before .before .before .before .if4 .left), c .before .before .put-producer3 .ensures, c .before .before .before .before .before .before .put-producer2 .ensures, c .before .before .before .before .before .before .before .before .before .before .put-producer .ensures, c .before .before .before .before .before .before .before .before .before .before .before .before .before .before .put-content .ensures, add-one (c .before .before .before .before .before .before .before .before .before .before .before .before .before .before .before .before .before .before .read-contents .result .starts)) refl
+    let idle : c .before .before .before .before .before .before .before .before .before .before .before .before .before .before .before .before .before .before .before .before .before .before .read-producer .result .phase ≡ 0 = omega (arith, c .before .before .before .before .before .before .before .before .before .before .before .before .before .before .before .before .before .before .before .before .if3) in
+    rw (le-ltb (a .z .producers) (a .t) (c .before .before .before .before .before .before .before .before .before .before .before .before .before .before .before .before .before .before .before .before .before .before .before .before .if2 .left), ne-eqb (a .t) 0 (c .before .before .before .before .before .before .before .before .before .before .before .before .before .before .before .before .before .before .before .before .before .before .before .before .before .before .if1 .left), c .before .before .before .before .before .before .before .before .before .before .before .before .before .before .before .before .before .before .before .before .before .before .read-producer .ensures .phase, idle, c .before .before .before .before .before .before .before .before .before .before .before .before .before .before .before .before .before .before .read-contents .ensures .starts, ne-eqb _ _ (c .before .before .before .before .before .before .before .before .before .before .before .before .before .before .before .before .if4 .left), c .before .before .put-producer3 .ensures, c .before .before .before .before .before .before .put-producer2 .ensures, c .before .before .before .before .before .before .before .before .before .before .put-producer .ensures, c .before .before .before .before .before .before .before .before .before .before .before .before .before .before .put-content .ensures, add-one (c .before .before .before .before .before .before .before .before .before .before .before .before .before .before .before .before .before .before .read-contents .result .starts)) refl
 
 pub begin-enqueue-spec : {M : Type 1} → statement M
 begin-enqueue-spec =
