@@ -245,7 +245,10 @@ fn threads_in_range(s: &[u32], z: Shape) -> bool
     requires { ⌜ sizes z ≡ sizesOf (now s) ⌝ }
     ensures { λ ok. ⌜ threadsInRange (sizes z) (reader (sizes z) (now (s .entry))) ≡ ok ⌝ }
 {
-    contents_in_range(s, z) & consumer_in_range(s, z) & producers_in_range(s, z)
+    if !contents_in_range(s, z) {
+        return false;
+    }
+    consumer_in_range(s, z) & producers_in_range(s, z)
 }
 
 // Every word is in its range.
