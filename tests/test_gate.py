@@ -46,7 +46,7 @@ class Gate(unittest.TestCase):
 
     def gate(self, **settings):
         """The gate's exit status and lines; the stand-ins hide the tools of the machine."""
-        for tool in ('bash', 'env', 'sh', 'mktemp', 'mkdir', 'rm', 'mv', 'grep', 'find', 'wc', 'tail', 'cut'):
+        for tool in ('bash', 'env', 'sh', 'mktemp', 'mkdir', 'rm', 'mv', 'grep', 'find', 'wc', 'tail', 'cut', 'nproc'):
             if not (self.tools / tool).exists():
                 (self.tools / tool).symlink_to(shutil.which(tool))
         done = subprocess.run([self.top / '.ci' / 'run'], env={'PATH': str(self.tools), **PASSING, **settings}, capture_output=True, text=True)
