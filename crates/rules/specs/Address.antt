@@ -7,27 +7,33 @@ use native.Mathlib.Omega.{arith}
 use lib.Arith.{digits-div, digits-mod}
 use lib.Dec.{leb, ltb}
 use borrow.Author.Tests.{lt-ltb, le-ltb, ltb-true, le-leb, leb-true}
-use Rattle.rules.specs.Sizes.{Sizes, contentWords, threadWords, recordWords, firstRecord, storeWords}
-use Rattle.rules.specs.Cell.{Cell, content, consumer, producer, part, entry, address, there, Area, contents, ofConsumer, ofProducer, ofRecord, areaStart, areaWords}
+use Rattle.rules.specs.Sizes.{Sizes, contentWords, lastClaimedWord, firstSpare, threadWords, recordWords, firstRecord, storeWords}
+use Rattle.rules.specs.Cell.{Cell, content, lastClaimed, spare, consumer, producer, part, entry, address, there, Area, contents, ofConsumer, ofProducer, ofRecord, areaStart, areaWords}
 use Rattle.rules.specs.Update.{areaOf, both, and-true}
 
 -- A store of these sizes has the cell.
 abbrev pub There : Sizes → Cell → Type 0
-There z (content k) = k < contentWords
+There z (content k) = k < lastClaimedWord
+There z lastClaimed = Unit
+There z (spare k) = firstSpare + k < contentWords
 There z (consumer k) = k < threadWords
 There z (producer t k) = (1 ≤ t) × (t ≤ z .P) × (k < threadWords)
 There z (part r k) = (r < z .N) × (k < 4)
 There z (entry r i k) = (r < z .N) × (i < z .B) × (k < 3)
 
 pub there-is : (z : Sizes) (c : Cell) → There z c → there z c ≡ true
-there-is z (content k) h = lt-ltb k contentWords h
+there-is z (content k) h = lt-ltb k lastClaimedWord h
+there-is z lastClaimed h = refl
+there-is z (spare k) h = lt-ltb (firstSpare + k) contentWords h
 there-is z (consumer k) h = lt-ltb k threadWords h
 there-is z (producer t k) h = and-true (and-true (le-leb 1 t (h .0)) (le-leb t (z .P) (h .1))) (lt-ltb k threadWords (h .2))
 there-is z (part r k) h = and-true (lt-ltb r (z .N) (h .0)) (lt-ltb k 4 (h .1))
 there-is z (entry r i k) h = and-true (and-true (lt-ltb r (z .N) (h .0)) (lt-ltb i (z .B) (h .1))) (lt-ltb k 3 (h .2))
 
 pub there-has : (z : Sizes) (c : Cell) → there z c ≡ true → There z c
-there-has z (content k) e = ltb-true k contentWords e
+there-has z (content k) e = ltb-true k lastClaimedWord e
+there-has z lastClaimed e = tt
+there-has z (spare k) e = ltb-true (firstSpare + k) contentWords e
 there-has z (consumer k) e = ltb-true k threadWords e
 there-has z (producer t k) e =
     let p = both (leb 1 t && leb t (z .P)) (ltb k threadWords) e in
@@ -48,6 +54,8 @@ AreaThere z (ofRecord r) = r < z .N
 
 pub area-there : (z : Sizes) (c : Cell) → There z c → AreaThere z (areaOf c)
 area-there z (content k) h = tt
+area-there z lastClaimed h = tt
+area-there z (spare k) h = tt
 area-there z (consumer k) h = tt
 area-there z (producer t k) h = (h .0, h .1)
 area-there z (part r k) h = h .0
@@ -57,6 +65,8 @@ area-there z (entry r i k) h = h .0
 pub address-in : (z : Sizes) (c : Cell) → There z c
     → (areaStart z (areaOf c) ≤ address z c) × (address z c < areaStart z (areaOf c) + areaWords z (areaOf c))
 address-in z (content k) h = omega arith
+address-in z lastClaimed h = omega arith
+address-in z (spare k) h = omega arith
 address-in z (consumer k) h = omega arith
 address-in z (producer t k) h = omega arith
 address-in z (part r k) h = omega arith
@@ -75,18 +85,21 @@ address-below z c h = omega (arith, address-in z c h, area-below z (areaOf c) (a
 inRecord : (r offset : ℕ) → Cell
 inRecord r o = cond (ltb o 4) (part r o) (entry r ((o - 4) / 3) ((o - 4) % 3))
 
+inContents : (offset : ℕ) → Cell
+inContents o = cond (ltb o lastClaimedWord) (content o) (cond (ltb o firstSpare) lastClaimed (spare (o - firstSpare)))
+
 cellAt : Sizes → ℕ → Cell
 cellAt z n =
-    cond (ltb n contentWords) (content n)
+    cond (ltb n contentWords) (inContents n)
     (cond (ltb n (contentWords + threadWords)) (consumer (n - contentWords))
     (cond (ltb n (firstRecord z)) (producer ((n - contentWords) / threadWords) ((n - contentWords) % threadWords))
     (inRecord ((n - firstRecord z) / recordWords z) ((n - firstRecord z) % recordWords z))))
 
 module _ (z : Sizes) where
   -- the cell k words into an area
-  at-content : (k : ℕ) → k < contentWords → cellAt z k ≡ content k
+  at-contents : (o : ℕ) → o < contentWords → cellAt z o ≡ inContents o
   unfolding cellAt
-  at-content k h = rw (lt-ltb k contentWords h)
+  at-contents o h = rw (lt-ltb o contentWords h)
 
   at-consumer : (k : ℕ) → k < threadWords → cellAt z (contentWords + k) ≡ consumer k
   unfolding cellAt
@@ -112,8 +125,13 @@ module _ (z : Sizes) where
 
   -- Every cell that is there is the cell at its address.
   cell-at : (c : Cell) → There z c → cellAt z (address z c) ≡ c
-  unfolding inRecord
-  cell-at (content k) h = at-content k h
+  unfolding inRecord inContents
+  cell-at (content k) h = at-contents k (omega arith) ∙ rw (lt-ltb k lastClaimedWord h) refl
+  cell-at lastClaimed h = at-contents lastClaimedWord (omega arith)
+  cell-at (spare k) h =
+      at-contents (firstSpare + k) h
+      ∙ rw (le-ltb (firstSpare + k) lastClaimedWord (omega arith), le-ltb (firstSpare + k) firstSpare (omega arith))
+      (ap spare (omega arith))
   cell-at (consumer k) h = at-consumer k h
   cell-at (producer t k) h = at-producer t k (h .0) (h .1) (h .2)
   cell-at (part r k) h = at-record r k (omega arith) ∙ rw (lt-ltb k 4 (h .1)) refl
@@ -131,10 +149,18 @@ module _ (z : Sizes) where
   in-record-area r o true = refl
   in-record-area r o false = refl
 
+  in-contents-area : (o : ℕ) (b c : Bool) → areaOf (cond b (content o) (cond c lastClaimed (spare (o - firstSpare)))) ≡ contents
+  in-contents-area o true c = refl
+  in-contents-area o false true = refl
+  in-contents-area o false false = refl
+
   -- Every address in an area is that of one of its cells.
   area-at : (a : Area) → AreaThere z a → (o : ℕ) → o < areaWords z a → areaOf (cellAt z (areaStart z a + o)) ≡ a
-  unfolding inRecord
-  area-at contents h o l = ap (λ (x : ℕ). areaOf (cellAt z x)) (omega arith) ∙ ap areaOf (at-content o l)
+  unfolding inRecord inContents
+  area-at contents h o l =
+      ap (λ (x : ℕ). areaOf (cellAt z x)) (omega arith)
+      ∙ ap areaOf (at-contents o l)
+      ∙ in-contents-area o (ltb o lastClaimedWord) (ltb o firstSpare)
   area-at ofConsumer h o l = ap areaOf (at-consumer o l)
   area-at (ofProducer t) h o l = ap areaOf (at-producer t o (h .0) (h .1) l)
   area-at (ofRecord r) h o l = ap areaOf (at-record r o l) ∙ in-record-area r o (ltb o 4)

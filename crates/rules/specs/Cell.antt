@@ -1,16 +1,18 @@
 -- The words of a store under their names, how they are read off the lent words, and writes (document 01, "Store").
-use mathlib.Core.Bool.{Bool, _&&_, cond}
+use mathlib.Core.Bool.{Bool, true, _&&_, cond}
 use mathlib.Core.List.{List, [], _∷_}
 use Prim.Native.Nat.{ℕ, _+_, _*_}
 use lib.Dec.{leb, ltb}
 use lib.ListN.{getD, set, replicate}
 use lib.Seq.{sets}
-use Rattle.rules.specs.Sizes.{Sizes, contentWords, threadWords, recordWords, firstRecord}
+use Rattle.rules.specs.Sizes.{Sizes, contentWords, lastClaimedWord, firstSpare, threadWords, recordWords, firstRecord}
 
--- A cell is a word with a name: a word of the contents, of the consumer (thread 0), of a producer (threads 1 to P), of a record
--- before its entries, of an entry.
+-- A cell is a word with a name: a word of the contents (0 to 10), the record claimed last (word 11), a spare word (12 to 15), a word
+-- of the consumer (thread 0), of a producer (threads 1 to P), of a record before its entries, of an entry.
 pub data Cell : Type 0 where
   content : (k : ℕ) → Cell
+  lastClaimed : Cell
+  spare : (k : ℕ) → Cell
   consumer : (k : ℕ) → Cell
   producer : (t k : ℕ) → Cell
   part : (r k : ℕ) → Cell
@@ -102,6 +104,8 @@ entryValue r i = entry r i 2
 -- Where a cell is.
 abbrev pub address : Sizes → Cell → ℕ
 address z (content k) = k
+address z lastClaimed = lastClaimedWord
+address z (spare k) = firstSpare + k
 address z (consumer k) = contentWords + k
 address z (producer t k) = contentWords + threadWords * t + k
 address z (part r k) = firstRecord z + r * recordWords z + k
@@ -109,7 +113,9 @@ address z (entry r i k) = firstRecord z + r * recordWords z + (4 + 3 * i + k)
 
 -- Whether a store of these sizes has the cell.
 abbrev pub there : Sizes → Cell → Bool
-there z (content k) = ltb k contentWords
+there z (content k) = ltb k lastClaimedWord
+there z lastClaimed = true
+there z (spare k) = ltb (firstSpare + k) contentWords
 there z (consumer k) = ltb k threadWords
 there z (producer t k) = leb 1 t && leb t (z .P) && ltb k threadWords
 there z (part r k) = ltb r (z .N) && ltb k 4
@@ -123,7 +129,7 @@ Reader = Cell → ℕ
 unfoldable pub reader : Sizes → List ℕ → Reader
 reader z m c = cond (there z c) (getD m (address z c) 0) 0
 
--- The words that belong together: the contents, the consumer's, a producer's, a record's.
+-- The words that belong together: the contents (words 0 to 15), the consumer's, a producer's, a record's.
 pub data Area : Type 0 where
   contents : Area
   ofConsumer : Area

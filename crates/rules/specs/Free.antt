@@ -1,10 +1,9 @@
--- Holding, free records, and the record that a claim takes (document 01, "Store" and "Calls").
-use mathlib.Core.Path.{_≡_}
-use mathlib.Core.Bool.{Bool, true, false, _&&_, _||_, not, cond}
-use Prim.Native.Nat.{ℕ, zero, suc, _<_}
+-- Holding and free records (document 01, "Store" and "Calls"), and the record that a claim takes (document 02, U1).
+use mathlib.Core.Bool.{Bool, true, false, _&&_, _||_, not}
+use Prim.Native.Nat.{ℕ, zero, suc, _-_}
 use lib.Dec.{eqb}
 use Rattle.rules.specs.Sizes.{Sizes}
-use Rattle.rules.specs.Cell.{Reader, held, claimed, used}
+use Rattle.rules.specs.Cell.{Reader, lastClaimed, held, claimed, used}
 use Rattle.rules.specs.Range.{every}
 
 -- Holds: producer t holds the record it last loaded or went back to, and the one it has claimed.
@@ -19,25 +18,14 @@ letGo z σ r = eqb (σ (used r)) 3 && every (z .P) (λ t. not (holds σ (suc t) 
 unfoldable pub free : Sizes → Reader → ℕ → Bool
 free z σ r = eqb (σ (used r)) 0 || letGo z σ r
 
--- Which free record is claimed is left open. A choice is a record number plus one, or zero for none; it is right when it is a
--- free record, and none only if none is free.
-abbrev pub Choice : Sizes → Reader → ℕ → Type 0
-Choice z σ zero = (r : ℕ) → r < z .N → free z σ r ≡ false
-Choice z σ (suc r) = (r < z .N) × (free z σ r ≡ true)
+-- The first of n records from record k on that passes the test. (Plus one, as record numbers are stored; zero is none.)
+abbrev pub firstFrom : (k n : ℕ) → (ℕ → Bool) → ℕ
+firstFrom k zero p = 0
+firstFrom k (suc n) p = elim (p k) [ true ↦ suc k | false ↦ firstFrom (suc k) n p ]
 
--- What makes every choice of a run: for each store, the record that a claim takes then.
-abbrev pub Picker : Type 0
-Picker = Sizes → Reader → ℕ
-
--- One that is right on every store. This leaves out no choice: a record that is right on one store is taken there by the picker that
--- takes it where it is free and the lowest elsewhere.
-abbrev pub Picks : Picker → Type 0
-Picks pick = (z : Sizes) (σ : Reader) → Choice z σ (pick z σ)
-
--- The lowest free record, one right choice.
-abbrev pub firstFree : (below : ℕ) → (ℕ → Bool) → ℕ
-firstFree zero p = 0
-firstFree (suc n) p = elim (firstFree n p) [ zero ↦ cond (p n) (suc n) 0 | suc r ↦ suc r ]
-
-unfoldable pub lowestFree : Picker
-lowestFree z σ = firstFree (z .N) (free z σ)
+-- A claim takes the first free record after the one claimed last, counting upward and past the end to record 0. So the one claimed last
+-- comes last of all. (Its number is stored plus one: it is the number of the record after it.)
+unfoldable pub nextFree : Sizes → Reader → ℕ
+nextFree z σ =
+    elim (firstFrom (σ lastClaimed) (z .N - σ lastClaimed) (free z σ))
+    [ zero ↦ firstFrom 0 (σ lastClaimed) (free z σ) | suc r ↦ suc r ]

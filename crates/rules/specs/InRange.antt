@@ -10,8 +10,8 @@ use lib.ListN.{length, getD}
 use borrow.Author.Tests.{le-leb}
 use Rattle.history.specs.Lists.{All}
 use Rattle.rules.specs.Sizes.{Sizes}
-use Rattle.rules.specs.Cell.{Cell, content, consumer, producer, part, entry, Reader, Area, contents, ofConsumer, ofProducer, ofRecord, Write, _:=_, clear}
-use Rattle.rules.specs.Range.{Sort, any, ofSort, contentSorts, partSorts, entrySorts, consumerSorts, producerSorts, lastConsumerPhase, lastProducerPhase, ofSorts, every, threadInRange, consumerInRange, producerInRange, recordInRange, threadsInRange, recordsInRange, inRange}
+use Rattle.rules.specs.Cell.{Cell, content, lastClaimed, spare, consumer, producer, part, entry, Reader, Area, contents, ofConsumer, ofProducer, ofRecord, Write, _:=_, clear}
+use Rattle.rules.specs.Range.{Sort, any, ofSort, contentSorts, lastClaimedSort, spareSorts, partSorts, entrySorts, consumerSorts, producerSorts, lastConsumerPhase, lastProducerPhase, ofSorts, every, threadInRange, consumerInRange, producerInRange, recordInRange, threadsInRange, recordsInRange, inRange}
 use Rattle.rules.specs.Update.{areaOf, touches, valueLeft, update, after, areaTouched, same-eq, same-area-eq, other-area, both, and-true}
 use Rattle.rules.specs.Address.{There}
 
@@ -57,6 +57,8 @@ row-of z row ss h =
 -- The sort of a word outside the threads; a thread's words go by its phase.
 abbrev pub sortOf : Sizes → Cell → Sort
 sortOf z (content k) = getD (contentSorts z) k any
+sortOf z lastClaimed = lastClaimedSort
+sortOf z (spare k) = getD spareSorts k any
 sortOf z (consumer k) = any
 sortOf z (producer t k) = any
 sortOf z (part r k) = getD partSorts k any
@@ -69,9 +71,15 @@ pub record InRange (z : Sizes) (σ : Reader) : Type 0 where
   pub producing : (t : ℕ) → 1 ≤ t → t ≤ z .P → producerInRange z σ t ≡ true
 
 module _ (z : Sizes) (σ : Reader) where
-  -- the three parts of the test
+  -- the parts of the test
   contentsTest : Bool
   contentsTest = ofSorts z (λ k. σ (content k)) 0 (contentSorts z)
+
+  lastTest : Bool
+  lastTest = ofSort z lastClaimedSort (σ lastClaimed)
+
+  spareTest : Bool
+  spareTest = ofSorts z (λ k. σ (spare k)) 0 spareSorts
 
   partsTest : ℕ → Bool
   partsTest r = ofSorts z (λ k. σ (part r k)) 0 partSorts
@@ -88,30 +96,37 @@ module _ (z : Sizes) (σ : Reader) where
   one-producer e (suc p) h l = every-at (z .P) (λ p. producerInRange z σ (suc p)) e p l
 
   pub range-has : inRange z σ ≡ true → InRange z σ
-  unfolding inRange contentsTest partsTest entryTest producersTest
+  unfolding inRange contentsTest lastTest spareTest partsTest entryTest producersTest
   range-has e =
-      let p = both (contentsTest && consumerInRange z σ && producersTest) (every (z .N) (recordInRange z σ)) e in
-      let q = both (contentsTest && consumerInRange z σ) producersTest (p .0) in
-      let c = both contentsTest (consumerInRange z σ) (q .0) in
-      record { words = words (c .0) (every-at (z .N) (recordInRange z σ) (p .1)); consuming = c .1; producing = one-producer (q .1) }
+      let p = both (contentsTest && (lastTest && spareTest) && consumerInRange z σ && producersTest) (every (z .N) (recordInRange z σ)) e in
+      let q = both (contentsTest && (lastTest && spareTest) && consumerInRange z σ) producersTest (p .0) in
+      let c = both (contentsTest && (lastTest && spareTest)) (consumerInRange z σ) (q .0) in
+      let d = both contentsTest (lastTest && spareTest) (c .0) in
+      let l = both lastTest spareTest (d .1) in
+      record { words = words (d .0) (l .0) (l .1) (every-at (z .N) (recordInRange z σ) (p .1)); consuming = c .1; producing = one-producer (q .1) }
     where
-      words : contentsTest ≡ true → ((r : ℕ) → r < z .N → recordInRange z σ r ≡ true) → (c : Cell) → There z c
-          → ofSort z (sortOf z c) (σ c) ≡ true
-      words q p (content k) h = row-at z (λ j. σ (content j)) (contentSorts z) q k h
-      words q p (consumer k) h = refl
-      words q p (producer t k) h = refl
-      words q p (part r k) h =
+      words : contentsTest ≡ true → lastTest ≡ true → spareTest ≡ true → ((r : ℕ) → r < z .N → recordInRange z σ r ≡ true)
+          → (c : Cell) → There z c → ofSort z (sortOf z c) (σ c) ≡ true
+      words q l s p (content k) h = row-at z (λ j. σ (content j)) (contentSorts z) q k h
+      words q l s p lastClaimed h = l
+      words q l s p (spare k) h = row-at z (λ j. σ (spare j)) spareSorts s k (omega arith)
+      words q l s p (consumer k) h = refl
+      words q l s p (producer t k) h = refl
+      words q l s p (part r k) h =
           row-at z (λ j. σ (part r j)) partSorts (both (partsTest r) (every (z .B) (entryTest r)) (p r (h .0)) .0) k (h .1)
-      words q p (entry r i k) h =
+      words q l s p (entry r i k) h =
           row-at z (λ j. σ (entry r i j)) entrySorts
           (every-at (z .B) (entryTest r) (both (partsTest r) (every (z .B) (entryTest r)) (p r (h .0)) .1) i (h .1)) k (h .2)
 
   pub range-of : InRange z σ → inRange z σ ≡ true
-  unfolding inRange contentsTest partsTest entryTest producersTest
+  unfolding inRange contentsTest lastTest spareTest partsTest entryTest producersTest
   range-of i =
       and-true
       (and-true
-      (and-true (row-of z (λ k. σ (content k)) (contentSorts z) (λ k h. i .words (content k) h)) (i .consuming))
+      (and-true
+      (and-true (row-of z (λ k. σ (content k)) (contentSorts z) (λ k h. i .words (content k) h))
+      (and-true (i .words lastClaimed tt) (row-of z (λ k. σ (spare k)) spareSorts (λ k h. i .words (spare k) (omega arith)))))
+      (i .consuming))
       (every-of (z .P) (λ p. producerInRange z σ (suc p)) (λ p l. i .producing (suc p) (omega arith) l)))
       (every-of (z .N) (recordInRange z σ)
       (λ r h.
@@ -121,6 +136,8 @@ module _ (z : Sizes) (σ : Reader) where
 -- A write in range of a call of thread t: that thread's words, which go by its phase, and any other word within its sort.
 abbrev pub InSort : Sizes → ℕ → Write → Type 0
 InSort z t (content k := v) = ofSort z (sortOf z (content k)) v ≡ true
+InSort z t (lastClaimed := v) = ofSort z lastClaimedSort v ≡ true
+InSort z t (spare k := v) = ofSort z (sortOf z (spare k)) v ≡ true
 InSort z t (consumer k := v) = t ≡ 0
 InSort z t (producer u k := v) = t ≡ u
 InSort z t (part r k := v) = ofSort z (sortOf z (part r k)) v ≡ true
@@ -158,6 +175,8 @@ module _ (z : Sizes) (t : ℕ) where
 
   put-in-sort : (c : Cell) (v : ℕ) → InSort z t (c := v) → ofSort z (sortOf z c) v ≡ true
   put-in-sort (content k) v h = h
+  put-in-sort lastClaimed v h = h
+  put-in-sort (spare k) v h = h
   put-in-sort (consumer k) v h = refl
   put-in-sort (producer u k) v h = refl
   put-in-sort (part r k) v h = h
@@ -165,6 +184,8 @@ module _ (z : Sizes) (t : ℕ) where
 
   zero-in-sort : (a : Area) → InSort z t (clear a) → (d : Cell) → a ≡ areaOf d → ofSort z (sortOf z d) 0 ≡ true
   zero-in-sort a h (content k) e = absurd (subst (λ (b : Area). InSort z t (clear b)) e h)
+  zero-in-sort a h lastClaimed e = absurd (subst (λ (b : Area). InSort z t (clear b)) e h)
+  zero-in-sort a h (spare k) e = absurd (subst (λ (b : Area). InSort z t (clear b)) e h)
   zero-in-sort a h (consumer k) e = refl
   zero-in-sort a h (producer u k) e = refl
   zero-in-sort a h (part r k) e = zero-part z k
@@ -188,6 +209,8 @@ module _ (z : Sizes) (t : ℕ) where
   -- no other thread's words are valueLeft
   writes-own : (w : Write) → InSort z t w → OtherThread t (areaTouched w) → ⊥
   writes-own (content k := v) h o = o
+  writes-own (lastClaimed := v) h o = o
+  writes-own (spare k := v) h o = o
   writes-own (consumer k := v) h o = o h
   writes-own (producer u k := v) h o = o h
   writes-own (part r k := v) h o = o

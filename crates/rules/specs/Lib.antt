@@ -14,4 +14,4 @@ pub mod Address
 pub mod Readback
 pub mod Refusal
 pub mod InRange
-pub mod Pick
+pub mod NextFree

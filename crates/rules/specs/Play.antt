@@ -3,12 +3,10 @@ use mathlib.Core.Bool.{true, false}
 use mathlib.Core.List.{List, [], _∷_, _++_}
 use Prim.Native.Nat.{ℕ, zero, suc, _+_, _*_}
 use lib.Dec.{leb, eqb}
-use lib.ListN.{length}
 use Rattle.history.specs.Event.{History, enqueueStarted, enqueueEnded, dequeueStarted, gaveItem, gaveEmpty}
 use Rattle.history.specs.Linearization.{Item, Queue}
 use Rattle.rules.specs.Sizes.{Sizes}
 use Rattle.rules.specs.Cell.{Reader, place, state, entryNumber, entryValue}
-use Rattle.rules.specs.Free.{Picker}
 use Rattle.rules.specs.Rule.{Reply, Response, refused, accepted, ok, started, going, ended, empty, item}
 use Rattle.rules.specs.Request.{Result, Request, startEnqueue, startDequeue, step, result}
 
@@ -54,15 +52,15 @@ pub record Played : Type 0 where
   pub replies : List Response
   pub history : History
 
--- Each call gets the store as the one before left it. The picker of a call may be another one each time.
-abbrev pub playOne : Picker → Request → Played → Played
-playOne pick q p =
-    let r : Result = result pick q (p .words) in
+-- Each call gets the store as the one before left it.
+abbrev pub playOne : Request → Played → Played
+playOne q p =
+    let r : Result = result q (p .words) in
     record { words = r .words; replies = r .reply ∷ p .replies; history = events q (p .history) (r .reply) ++ p .history }
 
-unfoldable pub play : (ℕ → Picker) → List Request → Played → Played
-play picks [] p = p
-play picks (q ∷ qs) p = play picks qs (playOne (picks (length (p .replies))) q p)
+unfoldable pub play : List Request → Played → Played
+play [] p = p
+play (q ∷ qs) p = play qs (playOne q p)
 
 -- an item with its position
 pub record Placed : Type 0 where

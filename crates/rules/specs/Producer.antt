@@ -5,7 +5,7 @@ use Prim.Native.Nat.{ℕ, zero, suc, _+_, _*_}
 use lib.Dec.{leb, ltb, eqb}
 use lib.ListN.{getD}
 use Rattle.rules.specs.Sizes.{Sizes, mostPlace}
-use Rattle.rules.specs.Cell.{Reader, Write, _:=_, clearProducer, wipe, tail, tailRecord, phase, call, value, position, held, claimed, backed, place, next, prev, used, state, entryNumber, entryValue}
+use Rattle.rules.specs.Cell.{Reader, Write, _:=_, clearProducer, wipe, lastClaimed, tail, tailRecord, phase, call, value, position, held, claimed, backed, place, next, prev, used, state, entryNumber, entryValue}
 use Rattle.rules.specs.Rule.{Effect, refuse, reply, ended, goes, need, upTo, inside}
 
 module _ (z : Sizes) (σ : Reader) (t : ℕ) where
@@ -27,9 +27,9 @@ module _ (z : Sizes) (σ : Reader) (t : ℕ) where
   unfoldable pub lookNext : Effect
   lookNext = need (σ (held t)) λ r. goes (phase t := cond (eqb (σ (next r)) 0) 4 6 ∷ [])
 
-  -- Claiming picks a free one, zeroes it and gives it use 1. Then to phase p.
+  -- Claiming zeroes the record that it takes and gives it use 1; word 11 holds it. Then to phase p.
   abbrev pub claim : (r p : ℕ) → Effect
-  claim r p = goes (wipe r ∷ used r := 1 ∷ claimed t := suc r ∷ phase t := p ∷ [])
+  claim r p = goes (wipe r ∷ used r := 1 ∷ lastClaimed := suc r ∷ claimed t := suc r ∷ phase t := p ∷ [])
 
   -- 4. Claim a record; to 5. Refusal 8: no record free.
   unfoldable pub claimRecord : (choice : ℕ) → Effect
@@ -89,7 +89,7 @@ module _ (z : Sizes) (σ : Reader) (t : ℕ) where
   unfoldable pub linkAhead : Effect
   linkAhead = linked λ ws. reply ended (ws ++ (clearProducer t ∷ []))
 
--- A producer's rule in each phase; refusal 7 while it is idle.
+-- A producer's rule in each phase, where a claim takes this record (plus one; zero for none); refusal 7 while it is idle.
 abbrev pub producerRules : (choice : ℕ) → List (Sizes → Reader → ℕ → Effect)
 producerRules choice =
     (λ z σ t. refuse 7)

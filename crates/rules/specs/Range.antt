@@ -5,7 +5,7 @@ use Prim.Native.Nat.{ℕ, zero, suc}
 use lib.Dec.{leb, eqb}
 use lib.ListN.{getD}
 use Rattle.rules.specs.Sizes.{Sizes, between, mostPlace, contentWords, firstRecord}
-use Rattle.rules.specs.Cell.{Reader, content, consumer, producer, part, entry}
+use Rattle.rules.specs.Cell.{Reader, content, lastClaimed, spare, consumer, producer, part, entry}
 
 -- What a word may hold: zero alone (a spare word, or one not in use); one number; a position, call number or count, 0 to M; a
 -- record number, 0 to N; the same with none left out, 1 to N; a number up to another; anything.
@@ -27,8 +27,8 @@ ofSort z record-number x = between 1 (z .N) x
 ofSort z (most n) x = leb x n
 ofSort z any x = true
 
--- Contents as *open* writes them (of words 0 to 3, the sizes, the limits are looked at before): sizes, first words; tail, tail
--- record, head record, head position, starts; spare words.
+-- Words 0 to 10. Contents as *open* writes them (of words 0 to 3, the sizes, the limits are looked at before): sizes, first words;
+-- tail, tail record, head record, head position, starts.
 abbrev pub contentSorts : Sizes → List Sort
 contentSorts z =
     exactly (z .B)
@@ -42,12 +42,15 @@ contentSorts z =
     ∷ record-number
     ∷ number
     ∷ number
-    ∷ unused
-    ∷ unused
-    ∷ unused
-    ∷ unused
-    ∷ unused
     ∷ []
+
+-- The record claimed last, 1 to N.
+abbrev pub lastClaimedSort : Sort
+lastClaimedSort = record-number
+
+-- Spare words.
+abbrev pub spareSorts : List Sort
+spareSorts = unused ∷ unused ∷ unused ∷ unused ∷ []
 
 -- Place, next, prev, use.
 abbrev pub partSorts : List Sort
@@ -142,10 +145,13 @@ abbrev pub recordInRange : Sizes → Reader → ℕ → Bool
 recordInRange z σ r =
     ofSorts z (λ k. σ (part r k)) 0 partSorts && every (z .B) (λ i. ofSorts z (λ k. σ (entry r i k)) 0 entrySorts)
 
+abbrev pub contentsInRange : Sizes → Reader → Bool
+contentsInRange z σ =
+    ofSorts z (λ k. σ (content k)) 0 (contentSorts z) && (ofSort z lastClaimedSort (σ lastClaimed) && ofSorts z (λ k. σ (spare k)) 0 spareSorts)
+
 -- Every word is in its range: those of the contents and threads, and those of the records.
 abbrev pub threadsInRange : Sizes → Reader → Bool
-threadsInRange z σ =
-    ofSorts z (λ k. σ (content k)) 0 (contentSorts z) && consumerInRange z σ && every (z .P) (λ p. producerInRange z σ (suc p))
+threadsInRange z σ = contentsInRange z σ && consumerInRange z σ && every (z .P) (λ p. producerInRange z σ (suc p))
 
 abbrev pub recordsInRange : Sizes → Reader → Bool
 recordsInRange z σ = every (z .N) (recordInRange z σ)

@@ -8,7 +8,6 @@ use lib.Dec.{ltb}
 use lib.ListN.{length}
 use borrow.Author.Tests.{ltb-false}
 use Rattle.rules.specs.Sizes.{Sizes, sizesInRange, storeWords}
-use Rattle.rules.specs.Free.{Picker}
 use Rattle.rules.specs.Rule.{Effect, refuse, reply, refused, accepted, ok}
 use Rattle.rules.specs.Request.{Request, Result, applied, admitted, effect, result, sizesOf, opened, open-store}
 use Rattle.rules.specs.Update.{neither}
@@ -22,9 +21,9 @@ unfolding applied
 applied-refused z m (refuse k) n e = refl
 applied-refused z m (reply r ws) n e = absurd (accepted-not-refused e)
 
-pub refused-changes-nothing : (pick : Picker) (q : Request) (m : List ℕ) (n : ℕ) → result pick q m .reply ≡ refused n → result pick q m .words ≡ m
+pub refused-changes-nothing : (q : Request) (m : List ℕ) (n : ℕ) → result q m .reply ≡ refused n → result q m .words ≡ m
 unfolding result
-refused-changes-nothing pick q m n e = applied-refused (sizesOf m) m (admitted m (effect pick q)) n e
+refused-changes-nothing q m n e = applied-refused (sizesOf m) m (admitted m (effect q)) n e
 
 -- To show something of what *open* leaves, show it of a refusal, which changes no word, and of an opened store.
 pub by-open : (P : Result → Type 0) (z : Sizes) (m : List ℕ)

@@ -6,9 +6,9 @@ use Prim.Native.Nat.{ℕ, suc}
 use lib.Dec.{ltb, eqb}
 use lib.ListN.{length, getD, drop, replicate}
 use Rattle.rules.specs.Sizes.{Sizes, sizesInRange, firstRecord, storeWords}
-use Rattle.rules.specs.Cell.{Reader, Write, reader, writes, _:=_, content, tailRecord, headRecord, starts, consumerPhase, phase, call, value, place, used}
+use Rattle.rules.specs.Cell.{Reader, Write, reader, writes, _:=_, content, lastClaimed, tailRecord, headRecord, starts, consumerPhase, phase, call, value, place, used}
 use Rattle.rules.specs.Range.{inRange}
-use Rattle.rules.specs.Free.{Picker}
+use Rattle.rules.specs.Free.{nextFree}
 use Rattle.rules.specs.Rule.{Effect, Response, refused, accepted, ok, started, refuse, reply}
 use Rattle.rules.specs.Producer.{producerStep}
 use Rattle.rules.specs.Consumer.{consumerStep}
@@ -23,8 +23,8 @@ unfoldable pub applied : Sizes → List ℕ → Effect → Result
 applied z m (refuse n) = record { reply = refused n; words = m }
 applied z m (reply r ws) = record { reply = accepted r; words = writes z m ws }
 
--- *Open* zeroes the store, writes the contents, and links record 0 with place 1 as head and tail record. Words past the store
--- are never written.
+-- *Open* zeroes the store, writes the contents, and links record 0 with place 1 as head and tail record. After opening, the last one
+-- claimed is record 0. Words past the store are never written.
 abbrev pub openWrites : Sizes → List Write
 openWrites z =
     content 0 := z .B
@@ -35,6 +35,7 @@ openWrites z =
     ∷ content 5 := firstRecord z
     ∷ tailRecord := 1
     ∷ headRecord := 1
+    ∷ lastClaimed := 1
     ∷ place 0 := 1
     ∷ used 0 := 2
     ∷ []
@@ -69,18 +70,20 @@ startingEnqueue t v z σ =
 unfoldable pub startingDequeue : Sizes → Reader → Effect
 startingDequeue z σ = cond (not (eqb (σ consumerPhase) 0)) (refuse 5) (reply ok (consumerPhase := 1 ∷ []))
 
--- *Step* (thread) does one phase. 4: a thread above P. 7: thread idle. 8 and 9 are the phases' own.
-unfoldable pub stepping : Picker → ℕ → Sizes → Reader → Effect
-stepping pick t z σ =
+-- *Step* (thread) does one phase, where a claim takes this record (plus one; zero for none). 4: a thread above P. 7: thread idle. 8 and 9
+-- are the phases' own.
+unfoldable pub stepping : (choice : ℕ) → ℕ → Sizes → Reader → Effect
+stepping choice t z σ =
     cond (ltb (z .P) t) (refuse 4)
     (cond (eqb t 0)
     (cond (eqb (σ consumerPhase) 0) (refuse 7) (consumerStep z σ))
-    (cond (eqb (σ (phase t)) 0) (refuse 7) (producerStep (pick z σ) z σ t)))
+    (cond (eqb (σ (phase t)) 0) (refuse 7) (producerStep choice z σ t)))
 
-unfoldable pub effect : Picker → Request → Sizes → Reader → Effect
-effect pick (startEnqueue t v) z σ = startingEnqueue t v z σ
-effect pick startDequeue z σ = startingDequeue z σ
-effect pick (step t) z σ = stepping pick t z σ
+-- What each call does. A claim takes the next free record.
+unfoldable pub effect : Request → Sizes → Reader → Effect
+effect (startEnqueue t v) z σ = startingEnqueue t v z σ
+effect startDequeue z σ = startingDequeue z σ
+effect (step t) z σ = stepping (nextFree z σ) t z σ
 
 -- the sizes that words 0 to 3 give
 abbrev pub sizesOf : List ℕ → Sizes
@@ -95,5 +98,5 @@ admitted m f =
     (cond (ltb (length m) (storeWords (sizesOf m))) (refuse 2)
     (cond (not (inRange (sizesOf m) (reader (sizesOf m) m))) (refuse 3) (f (sizesOf m) (reader (sizesOf m) m)))))
 
-unfoldable pub result : Picker → Request → List ℕ → Result
-result pick q m = applied (sizesOf m) m (admitted m (effect pick q))
+unfoldable pub result : Request → List ℕ → Result
+result q m = applied (sizesOf m) m (admitted m (effect q))

@@ -7,12 +7,12 @@ use lib.ListN.{replicate}
 use Rattle.rules.specs.Sizes.{Sizes}
 use Rattle.rules.specs.Cell.{reader, writes}
 use Rattle.rules.specs.Range.{inRange}
-use Rattle.rules.specs.Free.{free, lowestFree}
+use Rattle.rules.specs.Free.{free, nextFree}
 use Rattle.rules.specs.Rule.{Reply, Response, refused, accepted, ok, started, going, ended, empty, item}
 use Rattle.rules.specs.Producer.{takePosition, loadTail, lookNext, claimRecord, linkClaimed, shiftTail, goBack, writeEntry, setEntry, claimAhead, linkAhead, producerStep}
 use Rattle.rules.specs.Consumer.{front, readTail, scan, readEntry, rescan, readItem, markHandled, consumerStep}
 use Rattle.rules.specs.Request.{Request, startEnqueue, startDequeue, step, applied, opened, open-store, startingEnqueue, startingDequeue, stepping, effect, admitted, result}
-use Rattle.rules.specs.Play.{play}
+use Rattle.rules.specs.Play.{Played, play}
 
 -- An open of a store of so many zero words, the calls after it, and the replies of all of them, in order.
 pub record Trial : Type 0 where
@@ -37,10 +37,14 @@ abbrev pub goings : ℕ → List Reply
 goings zero = []
 goings (suc n) = going ∷ goings n
 
--- The replies that the rules give to some calls on these words, and to an open and the calls after it.
+-- What the rules make of some calls on these words, the replies that they give to them, and to an open and the calls after it.
+unfoldable pub playedOn : List Request → List ℕ → Played
+unfolding play result admitted applied effect startingEnqueue startingDequeue stepping reader writes inRange free nextFree takePosition loadTail lookNext claimRecord linkClaimed shiftTail goBack writeEntry setEntry claimAhead linkAhead producerStep front readTail scan readEntry rescan readItem markHandled consumerStep
+playedOn qs m = play qs (record { words = m; replies = []; history = [] })
+
 unfoldable pub repliesTo : List Request → List ℕ → List Response
-unfolding play result admitted applied effect startingEnqueue startingDequeue stepping reader writes inRange free lowestFree takePosition loadTail lookNext claimRecord linkClaimed shiftTail goBack writeEntry setEntry claimAhead linkAhead producerStep front readTail scan readEntry rescan readItem markHandled consumerStep
-repliesTo qs m = reverse (play (λ k. lowestFree) qs (record { words = m; replies = []; history = [] }) .replies)
+unfolding playedOn
+repliesTo qs m = reverse (playedOn qs m .replies)
 
 unfoldable pub replay : Trial → List Response
 unfolding repliesTo open-store opened writes

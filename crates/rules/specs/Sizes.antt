@@ -36,6 +36,13 @@ mostPlace = 500002
 abbrev pub contentWords : ℕ
 contentWords = 16
 
+-- of the contents, the word that holds the record claimed last, and the first spare one
+abbrev pub lastClaimedWord : ℕ
+lastClaimedWord = 11
+
+abbrev pub firstSpare : ℕ
+firstSpare = 12
+
 abbrev pub threadWords : ℕ
 threadWords = 8
 

@@ -10,11 +10,13 @@ use lib.ListN.{getD}
 use borrow.Author.Tests.{eq-eqb, eqb-true}
 use Rattle.history.specs.Lists.{All}
 use Rattle.rules.specs.Sizes.{threadWords}
-use Rattle.rules.specs.Cell.{Cell, content, consumer, producer, part, entry, Reader, Area, contents, ofConsumer, ofProducer, ofRecord, Write, _:=_, clear}
+use Rattle.rules.specs.Cell.{Cell, content, lastClaimed, spare, consumer, producer, part, entry, Reader, Area, contents, ofConsumer, ofProducer, ofRecord, Write, _:=_, clear}
 
 -- The area of a cell.
 abbrev pub areaOf : Cell → Area
 areaOf (content k) = contents
+areaOf lastClaimed = contents
+areaOf (spare k) = contents
 areaOf (consumer k) = ofConsumer
 areaOf (producer t k) = ofProducer t
 areaOf (part r k) = ofRecord r
@@ -43,9 +45,13 @@ cellKind (consumer k) = 1
 cellKind (producer t k) = 2
 cellKind (part r k) = 3
 cellKind (entry r i k) = 4
+cellKind lastClaimed = 5
+cellKind (spare k) = 6
 
 abbrev pub cellField : Cell → ℕ
 cellField (content k) = k
+cellField lastClaimed = 0
+cellField (spare k) = k
 cellField (consumer k) = k
 cellField (producer t k) = k
 cellField (part r k) = k
@@ -53,6 +59,8 @@ cellField (entry r i k) = k
 
 abbrev pub cellEntry : Cell → ℕ
 cellEntry (content k) = 0
+cellEntry lastClaimed = 0
+cellEntry (spare k) = 0
 cellEntry (consumer k) = 0
 cellEntry (producer t k) = 0
 cellEntry (part r k) = 0
@@ -107,11 +115,13 @@ area-from (ofProducer t) = refl
 area-from (ofRecord r) = refl
 
 cellFrom : (cellKind cellField cellEntry number : ℕ) → Cell
-cellFrom x k i n = getD (content k ∷ consumer k ∷ producer n k ∷ part n k ∷ entry n i k ∷ []) x (content k)
+cellFrom x k i n = getD (content k ∷ consumer k ∷ producer n k ∷ part n k ∷ entry n i k ∷ lastClaimed ∷ spare k ∷ []) x (content k)
 
 cell-from : (c : Cell) → cellFrom (cellKind c) (cellField c) (cellEntry c) (areaNumber (areaOf c)) ≡ c
 unfolding cellFrom
 cell-from (content k) = refl
+cell-from lastClaimed = refl
+cell-from (spare k) = refl
 cell-from (consumer k) = refl
 cell-from (producer t k) = refl
 cell-from (part r k) = refl

@@ -1,12 +1,13 @@
 -- Further runs, computed: that the rules do all that the theorems speak of, and what the traps of document 01 would get wrong.
 use mathlib.Core.Path.{_≡_, refl}
 use mathlib.Core.List.{List, [], _∷_, _++_, map}
+use Prim.Native.Nat.{ℕ, suc}
 use lib.ListN.{replicate}
 use Rattle.rules.specs.Sizes.{Sizes, storeWords}
-use Rattle.rules.specs.Cell.{Write, writes, _:=_, phase, held, claimed, used}
+use Rattle.rules.specs.Cell.{Write, reader, writes, _:=_, lastClaimed, phase, held, claimed, used}
 use Rattle.rules.specs.Rule.{Response, refused, accepted, ok, started, going, ended, empty, item}
 use Rattle.rules.specs.Request.{Request, startEnqueue, startDequeue, step, opened}
-use Rattle.rules.specs.Runs.{Trial, sized, times, all, goings, repliesTo, replay}
+use Rattle.rules.specs.Runs.{Trial, sized, times, all, goings, playedOn, repliesTo, replay}
 
 abbrev pub witnesses : List Trial
 witnesses =
@@ -260,3 +261,50 @@ probes =
 pub probes-as-written : map probe probes ≡ map (λ p. p .replies) probes
 unfolding probe
 probes-as-written = refl
+
+-- A claim on a store of four records (document 02, U1): the record claimed last (word 11), the use of each record, and what the producer's
+-- claimed word and word 11 hold afterwards. All record numbers as stored, plus one.
+pub record Claim : Type 0 where
+  pub last : ℕ
+  pub uses : List ℕ
+  pub leaves : List ℕ
+
+abbrev pub useWrites : (r : ℕ) → List ℕ → List Write
+useWrites r [] = []
+useWrites r (u ∷ us) = used r := u ∷ useWrites (suc r) us
+
+unfoldable pub claimedWords : Claim → List ℕ
+unfolding playedOn opened writes reader
+claimedWords c =
+    let z = sized 2 4 1 9 in
+    let before = lastClaimed := c .last ∷ phase 1 := 4 ∷ held 1 := 1 ∷ useWrites 0 (c .uses) in
+    let m = playedOn (step 1 ∷ []) (writes z (opened z (replicate (storeWords z) 0)) before) .words in
+    reader z m (claimed 1) ∷ reader z m lastClaimed ∷ []
+
+-- a claim that takes r, and one that finds no record free
+abbrev pub takes : (last : ℕ) → List ℕ → (r : ℕ) → Claim
+takes last uses r = record { last = last; uses = uses; leaves = r ∷ r ∷ [] }
+
+abbrev pub findsNone : (last : ℕ) → List ℕ → Claim
+findsNone last uses = record { last = last; uses = uses; leaves = 0 ∷ last ∷ [] }
+
+abbrev pub claims : List Claim
+claims =
+    -- the first free one after it
+    takes 1 (2 ∷ 0 ∷ 0 ∷ 0 ∷ []) 2
+    ∷ takes 1 (2 ∷ 2 ∷ 1 ∷ 0 ∷ []) 4
+    -- not the one claimed last, nor a lower one, though they are free
+    ∷ takes 2 (0 ∷ 0 ∷ 0 ∷ 2 ∷ []) 3
+    -- past the end to record 0
+    ∷ takes 4 (0 ∷ 2 ∷ 2 ∷ 0 ∷ []) 1
+    ∷ takes 3 (2 ∷ 3 ∷ 0 ∷ 2 ∷ []) 2
+    -- the one claimed last, last of all
+    ∷ takes 4 (2 ∷ 2 ∷ 2 ∷ 0 ∷ []) 4
+    ∷ takes 2 (2 ∷ 3 ∷ 2 ∷ 2 ∷ []) 2
+    -- none is free: word 11 stays
+    ∷ findsNone 3 (2 ∷ 2 ∷ 1 ∷ 2 ∷ [])
+    ∷ []
+
+pub claims-as-written : map claimedWords claims ≡ map (λ c. c .leaves) claims
+unfolding claimedWords
+claims-as-written = refl
