@@ -7,9 +7,9 @@ use native.Mathlib.Omega.{arith}
 use lib.Dec.{leb, eqb}
 use lib.ListN.{length, getD, drop}
 use borrow.Author.Tests.{eq-eqb, ne-eqb, le-leb, lt-leb}
-use Rattle.rules.specs.Sizes.{Sizes, contentWords, threadWords}
-use Rattle.rules.specs.Cell.{reader, content, consumer, producer}
-use Rattle.rules.specs.Range.{Sort, unused, exactly, number, link, record-number, most, any, ofSort, ofSorts, every, threadInRange, producerInRange, consumerInRange, contentSorts, producerSorts, consumerSorts, idleSorts, placedSorts, cursorSorts, lastProducerPhase, lastConsumerPhase}
+use Rattle.rules.specs.Sizes.{Sizes, contentWords, lastClaimedWord, firstSpare, threadWords}
+use Rattle.rules.specs.Cell.{reader, content, lastClaimed, spare, consumer, producer}
+use Rattle.rules.specs.Range.{Sort, unused, exactly, number, link, record-number, most, any, ofSort, ofSorts, every, threadInRange, producerInRange, consumerInRange, contentsInRange, contentSorts, lastClaimedSort, spareSorts, producerSorts, consumerSorts, idleSorts, placedSorts, cursorSorts, lastProducerPhase, lastConsumerPhase}
 use Rattle.rules.specs.Update.{both, true-false}
 use Rattle.rules.specs.Request.{sizesOf}
 use Rattle.store.specs.Caps.{cap, mostWord}
@@ -135,9 +135,13 @@ every-same (suc n) p q h = ap₂ _&&_ (every-same n p q (λ i l. h i (omega arit
 
 -- contents word by word, words 0 to 3 being the sizes
 pub contents-test : (z : Sizes) (m : List ℕ) → z ≡ sizesOf m
-    → ofSorts z (λ k. reader z m (content k)) 0 (contentSorts z) ≡ ofSorts z (λ k. getD m k 0) 4 (drop 4 (contentSorts z))
+    → contentsInRange z (reader z m)
+    ≡ (ofSorts z (λ k. getD m k 0) 4 (drop 4 (contentSorts z)) && (ofSort z lastClaimedSort (getD m lastClaimedWord 0) && ofSorts z (λ k. getD m (firstSpare + k) 0) 0 spareSorts))
 contents-test z m e =
-    rw (word 0 (omega arith), word 1 (omega arith), word 2 (omega arith), word 3 (omega arith), word 4 (omega arith), word 5 (omega arith), word 6 (omega arith), word 7 (omega arith), word 8 (omega arith), word 9 (omega arith), word 10 (omega arith), word 11 (omega arith), word 12 (omega arith), word 13 (omega arith), word 14 (omega arith), word 15 (omega arith), eq-eqb (getD m 0 0) (z .B) (sym (ap (λ (y : Sizes). y .B) e)), eq-eqb (getD m 1 0) (z .N) (sym (ap (λ (y : Sizes). y .N) e)), eq-eqb (getD m 2 0) (z .P) (sym (ap (λ (y : Sizes). y .P) e)), eq-eqb (getD m 3 0) (z .M) (sym (ap (λ (y : Sizes). y .M) e))) refl
+    rw (word 0 (omega arith), word 1 (omega arith), word 2 (omega arith), word 3 (omega arith), word 4 (omega arith), word 5 (omega arith), word 6 (omega arith), word 7 (omega arith), word 8 (omega arith), word 9 (omega arith), word 10 (omega arith), word-at z m lastClaimed tt, spared 0 (omega arith), spared 1 (omega arith), spared 2 (omega arith), spared 3 (omega arith), eq-eqb (getD m 0 0) (z .B) (sym (ap (λ (y : Sizes). y .B) e)), eq-eqb (getD m 1 0) (z .N) (sym (ap (λ (y : Sizes). y .N) e)), eq-eqb (getD m 2 0) (z .P) (sym (ap (λ (y : Sizes). y .P) e)), eq-eqb (getD m 3 0) (z .M) (sym (ap (λ (y : Sizes). y .M) e))) refl
   where
-    word : (k : ℕ) → k < contentWords → reader z m (content k) ≡ getD m k 0
+    word : (k : ℕ) → k < lastClaimedWord → reader z m (content k) ≡ getD m k 0
     word k h = word-at z m (content k) h
+
+    spared : (k : ℕ) → firstSpare + k < contentWords → reader z m (spare k) ≡ getD m (firstSpare + k) 0
+    spared k h = word-at z m (spare k) h

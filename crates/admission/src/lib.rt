@@ -6,8 +6,8 @@ ghost use Prim.Native.Nat.{suc, _+_, _*_, _≤_, _<_};
 ghost use lib.ListN.{length};
 ghost use Rattle.history.specs.Event.{mostProducers};
 ghost use Rattle.rules.specs.Sizes.{sizesInRange, recordWords, storeWords, mostEntries, mostRecords, mostPlace, mostWords};
-ghost use Rattle.rules.specs.Cell.{reader, content};
-ghost use Rattle.rules.specs.Range.{ofSorts, contentSorts, every, consumerInRange, producerInRange, recordInRange, threadsInRange, recordsInRange, inRange};
+ghost use Rattle.rules.specs.Cell.{reader};
+ghost use Rattle.rules.specs.Range.{every, contentsInRange, consumerInRange, producerInRange, recordInRange, threadsInRange, recordsInRange, inRange};
 ghost use Rattle.rules.specs.Request.{sizesOf};
 ghost use Rattle.store.specs.Shape.{sizes};
 ghost use Rattle.store.specs.Store.{Room};
@@ -228,15 +228,16 @@ fn consumer_in_range(s: &[u32], z: Shape) -> bool
 fn contents_in_range(s: &[u32], z: Shape) -> bool
     requires { ⌜ Room (sizes z) (now s) ⌝ }
     requires { ⌜ sizes z ≡ sizesOf (now s) ⌝ }
-    ensures { λ ok. ⌜ ofSorts (sizes z) (λ k. reader (sizes z) (now (s .entry)) (content k)) 0 (contentSorts (sizes z)) ≡ ok ⌝ }
+    ensures { λ ok. ⌜ contentsInRange (sizes z) (reader (sizes z) (now (s .entry))) ≡ ok ⌝ }
 {
     let m = z.starts;
     let n = z.records;
     let first = record_at(z, 0);
-    let spare = (s[11] == 0) & ((s[12] == 0) & ((s[13] == 0) & ((s[14] == 0) & (s[15] == 0))));
-    let counts = (s[9] <= m) & ((s[10] <= m) & spare);
+    let counts = (s[9] <= m) & (s[10] <= m);
     let records = ((1 <= s[7]) & (s[7] <= n)) & (((1 <= s[8]) & (s[8] <= n)) & counts);
-    (s[4] == size::CONTENT_WORDS) & ((s[5] == first) & ((s[6] <= m) & records))
+    let contents = (s[4] == size::CONTENT_WORDS) & ((s[5] == first) & ((s[6] <= m) & records));
+    let spare = (s[12] == 0) & ((s[13] == 0) & ((s[14] == 0) & (s[15] == 0)));
+    contents & (((1 <= s[11]) & (s[11] <= n)) & spare)
 }
 
 // Every word of the contents and of the threads.

@@ -1,10 +1,10 @@
-// Free records, and the phases that claim one (document 01, "Store" and "Calls"). The words are admitted.
+// Free records, and the phases that claim one (document 01, "Store" and "Calls"; document 02, U1). The words are admitted.
 ghost use mathlib.Core.Path.{_≡_};
 ghost use mathlib.Core.Bool.{not};
-ghost use Prim.Native.Nat.{suc, _≤_, _<_};
+ghost use Prim.Native.Nat.{suc, _-_, _≤_, _<_};
 ghost use Rattle.rules.specs.Cell.{reader};
 ghost use Rattle.rules.specs.Range.{every};
-ghost use Rattle.rules.specs.Free.{holds, free, lowestFree};
+ghost use Rattle.rules.specs.Free.{holds, free, firstFrom, nextFree};
 ghost use Rattle.rules.specs.Producer.{claimRecord, claimAhead};
 ghost use Rattle.store.specs.Shape.{sizes};
 ghost use Rattle.store.specs.Outcome.{left, does};
@@ -13,7 +13,9 @@ ghost use Rattle.claim.specs.Claim.{Claimed};
 use store::Reply;
 use store::Shape;
 use store::clear_producer;
+use store::last_claimed;
 use store::phase;
+use store::put_last_claimed;
 use store::put_producer;
 use store::put_use;
 use store::read_producer;
@@ -55,13 +57,14 @@ fn is_free(s: &[u32], z: Shape, r: u32) -> bool
     held_by_none(s, z, r)
 }
 
-// The lowest free record, plus one; 0 where none is free.
-fn lowest_free(s: &[u32], z: Shape) -> u32
+// The first free record from record `from` on, before record `end`, plus one; 0 where none of them is free.
+fn first_free(s: &[u32], z: Shape, from: u32, end: u32) -> u32
     requires { ⌜ Admitted (sizes z) (now s) ⌝ }
-    ensures { λ r. ⌜ (lowestFree (sizes z) (reader (sizes z) (now (s .entry))) ≡ r) × (r ≤ z .records) ⌝ }
+    requires { ⌜ (from ≤ end) × (end ≤ z .records) ⌝ }
+    ensures { λ r. ⌜ (firstFrom from (end - from) (free (sizes z) (reader (sizes z) (now (s .entry)))) ≡ r) × (r ≤ z .records) ⌝ }
 {
-    let mut r: u32 = 0;
-    while r < z.records {
+    let mut r = from;
+    while r < end {
         if is_free(s, z, r) {
             return r + 1;
         }
@@ -70,19 +73,33 @@ fn lowest_free(s: &[u32], z: Shape) -> u32
     0
 }
 
-// Claiming picks a free record, zeroes it and gives it use 1; to phase p. The record plus one; 0, and nothing stored, where none
-// is free.
+// The first free record after the one claimed last, counting upward and past the end to record 0, plus one; 0 where none is free.
+fn next_free(s: &[u32], z: Shape) -> u32
+    requires { ⌜ Admitted (sizes z) (now s) ⌝ }
+    ensures { λ r. ⌜ (nextFree (sizes z) (reader (sizes z) (now (s .entry))) ≡ r) × (r ≤ z .records) ⌝ }
+{
+    let last = last_claimed(s, z);
+    let name = first_free(s, z, last, z.records);
+    if name != 0 {
+        return name;
+    }
+    first_free(s, z, 0, last)
+}
+
+// Claiming takes the next free record, zeroes it and gives it use 1, and word 11 holds it; to phase p. The record plus one; 0, and
+// nothing stored, where none is free.
 fn claim(s: &mut [u32], z: Shape, t: u32, p: u32) -> u32
     requires { ⌜ Admitted (sizes z) (now s) ⌝ }
     requires { ⌜ (1 ≤ t) × (t ≤ z .producers) ⌝ }
     ensures { λ k. ⌜ Claimed (sizes z) (now (s .entry)) t p k (now (s .exit)) ⌝ }
 {
-    let name = lowest_free(s, z);
+    let name = next_free(s, z);
     if name == 0 {
         return 0;
     }
     wipe_record(s, z, name - 1);
     put_use(s, z, name - 1, usage::CLAIMED);
+    put_last_claimed(s, z, name);
     put_producer(s, z, t, word::CLAIMED, name);
     put_producer(s, z, t, word::PHASE, p);
     name
@@ -92,7 +109,7 @@ fn claim(s: &mut [u32], z: Shape, t: u32, p: u32) -> u32
 pub fn claim_record(s: &mut [u32], z: Shape, t: u32) -> Reply
     requires { ⌜ Admitted (sizes z) (now s) ⌝ }
     requires { ⌜ (1 ≤ t) × (t ≤ z .producers) ⌝ }
-    ensures { λ r. ⌜ left r (now (s .exit)) ≡ does (λ z σ. claimRecord z σ t (lowestFree z σ)) z (now (s .entry)) ⌝ }
+    ensures { λ r. ⌜ left r (now (s .exit)) ≡ does (λ z σ. claimRecord z σ t (nextFree z σ)) z (now (s .entry)) ⌝ }
 {
     if claim(s, z, t, phase::LINK) == 0 {
         return Reply::Refused(8);
@@ -104,7 +121,7 @@ pub fn claim_record(s: &mut [u32], z: Shape, t: u32) -> Reply
 pub fn claim_ahead(s: &mut [u32], z: Shape, t: u32) -> Reply
     requires { ⌜ Admitted (sizes z) (now s) ⌝ }
     requires { ⌜ (1 ≤ t) × (t ≤ z .producers) ⌝ }
-    ensures { λ r. ⌜ left r (now (s .exit)) ≡ does (λ z σ. claimAhead z σ t (lowestFree z σ)) z (now (s .entry)) ⌝ }
+    ensures { λ r. ⌜ left r (now (s .exit)) ≡ does (λ z σ. claimAhead z σ t (nextFree z σ)) z (now (s .entry)) ⌝ }
 {
     if claim(s, z, t, phase::LINK_AHEAD) == 0 {
         clear_producer(s, z, t);

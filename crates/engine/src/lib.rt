@@ -1,7 +1,6 @@
 // The calls *start enqueue*, *start dequeue* and *step* on the lent words (document 01, "Calls"), and the C interface of all four.
 ghost use mathlib.Core.Path.{_≡_};
-ghost use Rattle.rules.specs.Free.{lowestFree};
-ghost use Rattle.rules.specs.Request.{startEnqueue, startDequeue, step, stepping, result, open-store};
+ghost use Rattle.rules.specs.Request.{startEnqueue, startDequeue, step, effect, result, open-store};
 ghost use Rattle.store.specs.Shape.{sizes};
 ghost use Rattle.store.specs.Outcome.{response, left, does};
 ghost use Rattle.store.specs.Store.{Admitted};
@@ -37,7 +36,7 @@ use store::read_producer;
 // *Step* (thread) on admitted words does one phase.
 fn step_thread(s: &mut [u32], z: Shape, t: u32) -> Reply
     requires { ⌜ Admitted (sizes z) (now s) ⌝ }
-    ensures { λ r. ⌜ left r (now (s .exit)) ≡ does (stepping lowestFree t) z (now (s .entry)) ⌝ }
+    ensures { λ r. ⌜ left r (now (s .exit)) ≡ does (effect (step t)) z (now (s .entry)) ⌝ }
 {
     if z.producers < t {
         return Reply::Refused(4);
@@ -74,7 +73,7 @@ fn step_thread(s: &mut [u32], z: Shape, t: u32) -> Reply
 
 // *Start enqueue* (producer, value): admission first, then its own rule.
 pub fn start_enqueue(s: &mut [u32], t: u32, v: u32) -> Reply
-    ensures { λ r. ⌜ left r (now (s .exit)) ≡ result lowestFree (startEnqueue t v) (now (s .entry)) ⌝ }
+    ensures { λ r. ⌜ left r (now (s .exit)) ≡ result (startEnqueue t v) (now (s .entry)) ⌝ }
 {
     let n = admit(s);
     if n != 0 {
@@ -85,7 +84,7 @@ pub fn start_enqueue(s: &mut [u32], t: u32, v: u32) -> Reply
 
 // *Start dequeue*.
 pub fn start_dequeue(s: &mut [u32]) -> Reply
-    ensures { λ r. ⌜ left r (now (s .exit)) ≡ result lowestFree startDequeue (now (s .entry)) ⌝ }
+    ensures { λ r. ⌜ left r (now (s .exit)) ≡ result startDequeue (now (s .entry)) ⌝ }
 {
     let n = admit(s);
     if n != 0 {
@@ -96,7 +95,7 @@ pub fn start_dequeue(s: &mut [u32]) -> Reply
 
 // *Step* (thread).
 pub fn step(s: &mut [u32], t: u32) -> Reply
-    ensures { λ r. ⌜ left r (now (s .exit)) ≡ result lowestFree (step t) (now (s .entry)) ⌝ }
+    ensures { λ r. ⌜ left r (now (s .exit)) ≡ result (step t) (now (s .entry)) ⌝ }
 {
     let n = admit(s);
     if n != 0 {
@@ -176,7 +175,7 @@ pub extern "C" fn intake_start_enqueue(
     value: u32,
     reply: &mut [u32; 4],
 ) -> u32
-    ensures { λ n. ⌜ record { number = n; store = now (store .exit); reply = now (reply .exit) } ≡ replied (result lowestFree (startEnqueue producer value) (now (store .entry))) (now (reply .entry)) ⌝ }
+    ensures { λ n. ⌜ record { number = n; store = now (store .exit); reply = now (reply .exit) } ≡ replied (result (startEnqueue producer value) (now (store .entry))) (now (reply .entry)) ⌝ }
 {
     deliver(start_enqueue(store, producer, value), reply)
 }
@@ -184,7 +183,7 @@ pub extern "C" fn intake_start_enqueue(
 // *Start dequeue*.
 #[no_mangle]
 pub extern "C" fn intake_start_dequeue(store: &mut [u32]) -> u32
-    ensures { λ n. ⌜ record { number = n; store = now (store .exit) } ≡ returned (result lowestFree startDequeue (now (store .entry))) ⌝ }
+    ensures { λ n. ⌜ record { number = n; store = now (store .exit) } ≡ returned (result startDequeue (now (store .entry))) ⌝ }
 {
     returned_code(start_dequeue(store))
 }
@@ -192,7 +191,7 @@ pub extern "C" fn intake_start_dequeue(store: &mut [u32]) -> u32
 // *Step*; an item's call number and value go to words 0 and 1 of the reply.
 #[no_mangle]
 pub extern "C" fn intake_step(store: &mut [u32], thread: u32, reply: &mut [u32; 4]) -> u32
-    ensures { λ n. ⌜ record { number = n; store = now (store .exit); reply = now (reply .exit) } ≡ replied (result lowestFree (step thread) (now (store .entry))) (now (reply .entry)) ⌝ }
+    ensures { λ n. ⌜ record { number = n; store = now (store .exit); reply = now (reply .exit) } ≡ replied (result (step thread) (now (store .entry))) (now (reply .entry)) ⌝ }
 {
     deliver(step(store, thread), reply)
 }

@@ -7,11 +7,11 @@ use Prim.Native.Nat.{ℕ, zero, suc, _≤_, _<_}
 use native.Mathlib.Decide.{ℕ-discrete}
 use native.Mathlib.Omega.{arith}
 use lib.Dec.{eqb}
-use borrow.Author.Tests.{eq-eqb, ne-eqb}
+use borrow.Author.Tests.{eq-eqb, ne-eqb, le-leb}
 use Rattle.history.specs.Lists.{All}
 use Rattle.rules.specs.Sizes.{Sizes}
-use Rattle.rules.specs.Cell.{Reader, Write, _:=_, wipe, cursorRecord, foundRecord, place, next, prev, used, claimed, phase, state, held}
-use Rattle.rules.specs.Update.{after}
+use Rattle.rules.specs.Cell.{Reader, Write, _:=_, wipe, lastClaimed, cursorRecord, foundRecord, place, next, prev, used, claimed, phase, state, held}
+use Rattle.rules.specs.Update.{after, and-true}
 use Rattle.rules.specs.InRange.{InSort}
 use Rattle.memory.specs.Memory.{ChainShape, Holdable, Blank, ThreadOk, rowOf, Linked, Memory, claimed-is, chain-stays}
 use Rattle.memory.specs.Loose.{Loose}
@@ -19,7 +19,10 @@ use Rattle.memory.specs.OtherThreads.{held-kept, thread-kept, Untouched,
 
 -- What a claim by thread t writes, on its way to phase p.
 abbrev pub claimWrites : (t r p : ℕ) → List Write
-claimWrites t r p = wipe r ∷ used r := 1 ∷ claimed t := suc r ∷ phase t := p ∷ []
+claimWrites t r p = wipe r ∷ used r := 1 ∷ lastClaimed := suc r ∷ claimed t := suc r ∷ phase t := p ∷ []
+
+pub claim-in-sort : (z : Sizes) (t r p : ℕ) → r < z .N → All (InSort z t) (claimWrites t r p)
+claim-in-sort z t r p fits = (tt, (refl, (and-true (le-leb 1 (suc r) (omega arith)) (le-leb (suc r) (z .N) fits), (refl, (refl, tt)))))
 
 module _ (z : Sizes) (σ : Reader) (g : ChainShape) (m : Memory z σ g) (t r p : ℕ)
     (a-producer : (1 ≤ t) × (t ≤ z .P)) (fits : r < z .N) (loose : Loose σ r)
@@ -30,11 +33,8 @@ module _ (z : Sizes) (σ : Reader) (g : ChainShape) (m : Memory z σ g) (t r p :
   others : (x : ℕ) → (r ≡ x → ⊥) → Untouched σ σ′ x
   others x n = ((λ k. rw (ne-eqb r x n, and-false (eqb 3 k)) refl), (λ i k. rw (ne-eqb r x n) refl))
 
-  in-sort : All (InSort z t) (claimWrites t r p)
-  in-sort = (tt, (refl, (refl, (refl, tt))))
-
   kept : OthersKept t σ σ′
-  kept = others-kept z t σ (claimWrites t r p) in-sort
+  kept = others-kept z t σ (claimWrites t r p) (claim-in-sort z t r p fits)
 
   held-others : (u x : ℕ) → σ (held u) ≡ suc x → Holdable (g .lo) σ x → Holdable (g .lo) σ′ x
   held-others u x e h = holdable-kept (g .lo) σ σ′ x (others x (λ q. loose .not-held u (rw q e)) .0) h

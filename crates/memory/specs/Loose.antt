@@ -1,18 +1,19 @@
--- A loose record: nobody can reach it. A free record is loose.
+-- A loose record: nobody can reach it. A free record is loose, and so is the one that a claim takes.
 use mathlib.Core.Path.{_≡_, refl}
 use mathlib.Core.Logic.{_⊎_, inl, inr, ⊎-elim}
 use mathlib.Core.Bool.{Bool, true, false, _||_, not, or-true}
-use Prim.Native.Nat.{ℕ, zero, suc, _≤_}
+use Prim.Native.Nat.{ℕ, zero, suc, _≤_, _<_}
 use native.Mathlib.Decide.{decLe}
 use native.Mathlib.Omega.{arith}
 use lib.Dec.{eqb}
 use borrow.Author.Tests.{eq-eqb, eqb-true}
 use Rattle.rules.specs.Sizes.{Sizes}
-use Rattle.rules.specs.Cell.{Reader, used, held, claimed}
+use Rattle.rules.specs.Cell.{Reader, lastClaimed, used, held, claimed}
 use Rattle.rules.specs.Range.{every}
-use Rattle.rules.specs.Free.{free, letGo, holds}
+use Rattle.rules.specs.Free.{free, letGo, holds, nextFree}
 use Rattle.rules.specs.Update.{both, true-false}
 use Rattle.rules.specs.InRange.{every-at}
+use Rattle.rules.specs.NextFree.{RightChoice, next-free-right}
 use Rattle.memory.specs.Memory.{ChainShape, Memory, held-is, claimed-is}
 
 -- It is not linked, not claimed, and no producer holds it or has claimed it.
@@ -21,6 +22,11 @@ pub record Loose (σ : Reader) (r : ℕ) : Type 0 where
   pub not-claimed : σ (used r) ≡ 1 → ⊥
   pub not-held : (u : ℕ) → σ (held u) ≡ suc r → ⊥
   pub nobodys-claim : (u : ℕ) → σ (claimed u) ≡ suc r → ⊥
+
+-- What a claim may take for the invariants' sake: none, or a loose record.
+abbrev pub LooseChoice : Sizes → Reader → ℕ → Type 0
+LooseChoice z σ zero = Unit
+LooseChoice z σ (suc r) = (r < z .N) × Loose σ r
 
 module _ (z : Sizes) (σ : Reader) (r : ℕ) where
   -- a record that was let go is retired, and no producer holds it or has claimed it
@@ -69,3 +75,11 @@ module _ (z : Sizes) (σ : Reader) (r : ℕ) where
 
       nobody : (u : ℕ) → (σ (held u) ≡ suc r → ⊥) × (σ (claimed u) ≡ suc r → ⊥)
       nobody u = go u (decLe 1 u) (decLe u (z .P)) (free-has e)
+
+-- The next free record is such a choice.
+pub next-free-loose : (z : Sizes) (σ : Reader) {g : ChainShape} → Memory z σ g → σ lastClaimed ≤ z .N → LooseChoice z σ (nextFree z σ)
+next-free-loose z σ m most = go (nextFree z σ) (next-free-right z σ most)
+  where
+    go : (c : ℕ) → RightChoice z σ c → LooseChoice z σ c
+    go zero h = tt
+    go (suc r) h = (h .0, free-loose z σ r m (h .1))

@@ -2,7 +2,7 @@
 ghost use mathlib.Core.Path.{_≡_};
 ghost use mathlib.Core.List.{[], _∷_};
 ghost use Rattle.rules.specs.Sizes.{firstRecord};
-ghost use Rattle.rules.specs.Cell.{writes, _:=_, content, tailRecord, headRecord, place, used};
+ghost use Rattle.rules.specs.Cell.{writes, _:=_, content, lastClaimed, tailRecord, headRecord, place, used};
 ghost use Rattle.rules.specs.Request.{open-store};
 ghost use Rattle.store.specs.Shape.{sizes};
 ghost use Rattle.store.specs.Outcome.{left};
@@ -13,6 +13,7 @@ use store::Reply;
 use store::Shape;
 use store::clear;
 use store::put_content;
+use store::put_last_claimed;
 use store::put_part;
 use store::put_use;
 use store::record_at;
@@ -33,13 +34,14 @@ fn write_contents(s: &mut [u32], z: Shape)
     put_content(s, z, word::FIRST_RECORD, record_at(z, 0));
 }
 
-// Record 0 linked with place 1 as head and tail record.
+// Record 0 linked with place 1 as head and tail record, and the last one claimed.
 fn link_first(s: &mut [u32], z: Shape)
     requires { ⌜ Room (sizes z) (now s) ⌝ }
-    ensures { λ _. ⌜ now (s .exit) ≡ writes (sizes z) (now (s .entry)) (tailRecord := 1 ∷ headRecord := 1 ∷ place 0 := 1 ∷ used 0 := 2 ∷ []) ⌝ }
+    ensures { λ _. ⌜ now (s .exit) ≡ writes (sizes z) (now (s .entry)) (tailRecord := 1 ∷ headRecord := 1 ∷ lastClaimed := 1 ∷ place 0 := 1 ∷ used 0 := 2 ∷ []) ⌝ }
 {
     put_content(s, z, word::TAIL_RECORD, 1);
     put_content(s, z, word::HEAD_RECORD, 1);
+    put_last_claimed(s, z, 1);
     put_part(s, z, 0, word::PLACE, 1);
     put_use(s, z, 0, usage::LINKED);
 }

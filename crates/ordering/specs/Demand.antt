@@ -11,7 +11,6 @@ use Rattle.history.specs.Form.{wellFormed}
 use Rattle.history.specs.Linearization.{Linearization, Linearizable, Settled}
 use Rattle.rules.specs.Sizes.{Sizes}
 use Rattle.rules.specs.Cell.{reader}
-use Rattle.rules.specs.Free.{Picker, Picks}
 use Rattle.rules.specs.Rule.{refused, accepted, ok}
 use Rattle.rules.specs.Request.{Request, open-store}
 use Rattle.rules.specs.Play.{Played, play, itemsLeft}
@@ -27,10 +26,9 @@ pub record Ordered (z : Sizes) (p : Played) : Type 0 where
   pub answered : All (λ r. (r ≢ refused 3) × (r ≢ refused 9)) (p .replies)
 
 -- For sizes z and any words m that an open accepts, whatever they held before; for every list of starts and steps, with any
--- arguments, refused ones included; whichever free record each claim takes. Each call gets the store as the one before left it.
+-- arguments, refused ones included. Each call gets the store as the one before left it.
 abbrev pub Demand-3 : Type 0
 Demand-3 =
-    (z : Sizes) (m : List ℕ) (requests : List Request) (picks : ℕ → Picker)
+    (z : Sizes) (m : List ℕ) (requests : List Request)
     → open-store z m .reply ≡ accepted ok
-    → ((k : ℕ) → Picks (picks k))
-    → Ordered z (play picks requests (record { words = open-store z m .words; replies = []; history = [] }))
+    → Ordered z (play requests (record { words = open-store z m .words; replies = []; history = [] }))

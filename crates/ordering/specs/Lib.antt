@@ -1,5 +1,4 @@
 pub mod Demand
 pub mod Theorem
 pub mod MarkedRuns
-pub mod Choice
-pub mod Choosing
+pub mod AnyClaims

@@ -13,7 +13,7 @@ use Rattle.criterion.specs.Criterion.{sound, criterion}
 use Rattle.criterion.specs.Order.{order}
 use Rattle.rules.specs.Sizes.{Sizes, sizesInRange, storeWords}
 use Rattle.rules.specs.Cell.{Reader, reader}
-use Rattle.rules.specs.Free.{Picker, Picks}
+use Rattle.rules.specs.Free.{nextFree}
 use Rattle.rules.specs.Rule.{Effect, refuse, reply, refused, accepted, ok}
 use Rattle.rules.specs.Request.{Request, Result, applied, effect, result, open-store, opened}
 use Rattle.rules.specs.Play.{Played, replyEvents, events, playOne, play}
@@ -23,7 +23,8 @@ use Rattle.model.specs.Items.{items, items-rest}
 use Rattle.model.specs.State.{State}
 use Rattle.simulation.specs.View.{Ghost, view}
 use Rattle.simulation.specs.Good.{Good, Fine}
-use Rattle.simulation.specs.Every.{effect-fine}
+use Rattle.memory.specs.Loose.{LooseChoice}
+use Rattle.simulation.specs.Every.{effectTaking, effect-is, effect-fine, next-choice}
 use Rattle.simulation.specs.Opened.{open-fits, openGhost, open-reads, open-good}
 use Rattle.simulation.specs.Left.{items-left}
 use Rattle.simulation.specs.Admission.{sizes-are, admitted-is}
@@ -57,19 +58,23 @@ owed {z} {p} k =
       answered = k .answered;
     }
 
+-- What stands after a call with this result, and after one whose claim takes this record (plus one; zero for none).
+abbrev pub played : Request → Played → Result → Played
+played q p r = record { words = r .words; replies = r .reply ∷ p .replies; history = events q (p .history) (r .reply) ++ p .history }
+
+abbrev pub playTaking : Sizes → (c : ℕ) → Request → Played → Played
+playTaking z c q p = played q p (applied z (p .words) (effectTaking c q z (reader z (p .words))))
+
 -- One call.
-module _ {z : Sizes} {p : Played} (k : Maintained z p) (pick : Picker) (right : Picks pick) (q : Request) where
-  pub result-is : result pick q (p .words) ≡ applied z (p .words) (effect pick q z (reader z (p .words)))
+module _ {z : Sizes} {p : Played} (k : Maintained z p) (q : Request) where
+  -- The rules' own takes the next free record.
+  pub play-is : playOne q p ≡ playTaking z (nextFree z (reader z (p .words))) q p
   unfolding result
-  result-is =
-      ap₂ (λ (y : Sizes) (a : Effect). applied y (p .words) a) (sizes-are z (p .words) (k .good .range))
-      (admitted-is z (p .words) (k .good .range) (k .good .sizes) (k .fits) (effect pick q))
+  play-is =
+      ap₂ (λ (y : Sizes) (a : Effect). played q p (applied y (p .words) a)) (sizes-are z (p .words) (k .good .range))
+      (admitted-is z (p .words) (k .good .range) (k .good .sizes) (k .fits) (effect q) ∙ effect-is q z (reader z (p .words)))
 
-  -- what stands after a call with this result
-  abbrev played : Result → Played
-  played r = record { words = r .words; replies = r .reply ∷ p .replies; history = events q (p .history) (r .reply) ++ p .history }
-
-  by-answer : (a : Effect) → Fine z (reader z (p .words)) (k .beside) q a → Maintained z (played (applied z (p .words) a))
+  by-answer : (a : Effect) → Fine z (reader z (p .words)) (k .beside) q a → Maintained z (played q p (applied z (p .words) a))
   unfolding applied
   by-answer (refuse n) f =
       record {
@@ -88,17 +93,20 @@ module _ {z : Sizes} {p : Played} (k : Maintained z p) (pick : Picker) (right : 
         answered = ((accepted-not-refused, accepted-not-refused), k .answered);
       }
 
-  pub keeps : Maintained z (playOne pick q p)
+  pub keeps-taking : (c : ℕ) → LooseChoice z (reader z (p .words)) c → Maintained z (playTaking z c q p)
+  keeps-taking c choice =
+      by-answer (effectTaking c q z (reader z (p .words))) (effect-fine z (reader z (p .words)) (k .beside) (k .good) c choice q)
+
+  keeps : Maintained z (playOne q p)
   keeps =
-      subst⁻¹ (λ (r : Result). Maintained z (played r)) result-is
-      (by-answer (effect pick q z (reader z (p .words))) (effect-fine z (reader z (p .words)) (k .beside) (k .good) pick right q))
+      subst⁻¹ (Maintained z) play-is
+      (keeps-taking (nextFree z (reader z (p .words))) (next-choice z (reader z (p .words)) (k .beside) (k .good)))
 
 -- All of them.
-plays : {z : Sizes} (picks : ℕ → Picker) → ((k : ℕ) → Picks (picks k)) → (qs : List Request) {p : Played} → Maintained z p → Maintained z (play picks qs p)
+plays : {z : Sizes} (qs : List Request) {p : Played} → Maintained z p → Maintained z (play qs p)
 unfolding play
-plays picks right [] k = k
-plays picks right (q ∷ qs) {p} k =
-    plays picks right qs (keeps k (picks (length (p .replies))) (right (length (p .replies))) q)
+plays [] k = k
+plays (q ∷ qs) k = plays qs (keeps k q)
 
 -- An accepted open.
 pub opened-kept : (z : Sizes) (m : List ℕ) → open-store z m .reply ≡ accepted ok → Maintained z (record { words = open-store z m .words; replies = []; history = [] })
@@ -125,4 +133,4 @@ opened-kept z m = go (sizesInRange z) refl (ltb (length m) 16 || ltb (length m) 
 
 -- Demand 3.
 pub demand-3 : Demand-3
-demand-3 z m requests picks opens right = owed (plays picks right requests (opened-kept z m opens))
+demand-3 z m requests opens = owed (plays requests (opened-kept z m opens))

@@ -11,7 +11,6 @@ use lib.Seq.{getD-drop, drop-at}
 use borrow.Author.Tests.{leb-true}
 use Rattle.history.specs.Lists.{All}
 use Rattle.rules.specs.Sizes.{Sizes, between, sizesInRange, storeWords}
-use Rattle.rules.specs.Free.{Picker, Picks}
 use Rattle.rules.specs.Rule.{Effect, refuse, reply}
 use Rattle.rules.specs.Request.{Request, applied, openWrites, opened, open-store, effect, sizesOf, admitted, result}
 use Rattle.rules.specs.Update.{both}
@@ -62,10 +61,10 @@ opened-beyond z m e l =
     (drop-writes z o (openWrites z) there ∙ drop-at (replicate n 0) (drop n m) n (length-replicate n 0))
 
 -- Every call, on any words m.
-pub words-beyond : (pick : Picker) → Picks pick → (m : List ℕ)
-    → ((z : Sizes) → Beyond z m (open-store z m .words)) × ((q : Request) → Beyond (sizesOf m) m (result pick q m .words))
+pub words-beyond : (m : List ℕ)
+    → ((z : Sizes) → Beyond z m (open-store z m .words)) × ((q : Request) → Beyond (sizesOf m) m (result q m .words))
 unfolding result
-words-beyond pick right m = (
+words-beyond m = (
   (λ z. by-open (λ r. Beyond z m (r .words)) z m (λ n h. unchanged z m) (opened-beyond z m)),
-  (λ q. applied-beyond (sizesOf m) q m (admitted m (effect pick q)) (admitted-sound pick right q m)),
+  (λ q. applied-beyond (sizesOf m) q m (admitted m (effect q)) (admitted-sound q m)),
 )

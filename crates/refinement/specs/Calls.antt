@@ -9,7 +9,6 @@ use lib.Dec.{eqb}
 use lib.ListN.{length, getD}
 use Rattle.history.specs.Lists.{All}
 use Rattle.rules.specs.Sizes.{Sizes}
-use Rattle.rules.specs.Free.{lowestFree}
 use Rattle.rules.specs.Rule.{Response, refused, accepted, ok, started, going, ended, empty, item}
 use Rattle.rules.specs.Request.{Request, startEnqueue, startDequeue, step, Result, open-store, result}
 use Rattle.rules.specs.Play.{Played, events, play}
@@ -24,7 +23,7 @@ pub record Made : Type 0 where
 
 -- The contract of `start_enqueue`, `start_dequeue` and `step` (crates/engine/src/lib.rt), m the words of the store before the call.
 abbrev pub Meets : List ℕ → Made → Type 0
-Meets m c = _≡_ {A = Result} (record { reply = c .response; words = c .words }) (result lowestFree (c .request) m)
+Meets m c = _≡_ {A = Result} (record { reply = c .response; words = c .words }) (result (c .request) m)
 
 -- Each call is made on the words that the one before left.
 abbrev pub Chain : List ℕ → List Made → Type 0
@@ -46,7 +45,7 @@ fresh m = record { words = m; replies = []; history = [] }
 
 -- The words, responses and history are those of the rules: `play`.
 abbrev pub Refines : Type 0
-Refines = (p : Played) (cs : List Made) → Chain (p .words) cs → recorded cs p ≡ play (λ k. lowestFree) (map (λ c. c .request) cs) p
+Refines = (p : Played) (cs : List Made) → Chain (p .words) cs → recorded cs p ≡ play (map (λ c. c .request) cs) p
 
 -- Demand 3 of any such calls after an open that was accepted, by its contract (`open_store`, crates/opening/src/lib.rt), whatever the store
 -- held before.
@@ -69,10 +68,10 @@ pub record Exchange : Type 0 where
 -- The contracts of `intake_start_enqueue`, `intake_start_dequeue`, which is lent no reply, and `intake_step` (crates/engine/src/lib.rt).
 abbrev pub Exports : Request → (m lent : List ℕ) → (number : ℕ) → (store reply : List ℕ) → Type 0
 Exports (startEnqueue t v) m lent n s w =
-    _≡_ {A = Replied} (record { number = n; store = s; reply = w }) (replied (result lowestFree (startEnqueue t v) m) lent)
-Exports startDequeue m lent n s w = _≡_ {A = Returned} (record { number = n; store = s }) (returned (result lowestFree startDequeue m))
+    _≡_ {A = Replied} (record { number = n; store = s; reply = w }) (replied (result (startEnqueue t v) m) lent)
+Exports startDequeue m lent n s w = _≡_ {A = Returned} (record { number = n; store = s }) (returned (result startDequeue m))
 Exports (step t) m lent n s w =
-    _≡_ {A = Replied} (record { number = n; store = s; reply = w }) (replied (result lowestFree (step t) m) lent)
+    _≡_ {A = Replied} (record { number = n; store = s; reply = w }) (replied (result (step t) m) lent)
 
 abbrev pub ExchangeChain : List ℕ → List Exchange → Type 0
 ExchangeChain m [] = Unit

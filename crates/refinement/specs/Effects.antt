@@ -12,7 +12,7 @@ use Rattle.history.specs.Lists.{All}
 use Rattle.rules.specs.Sizes.{Sizes, sizesInRange, mostPlace, storeWords}
 use Rattle.rules.specs.Cell.{Reader, reader, Write, tailRecord, headRecord, held, claimed, cursorRecord, foundRecord, cursorPosition, foundPosition, consumerPhase, headPosition, tail, starts, state, phase, position, backed, place, next, prev, _:=_, clearProducer}
 use Rattle.rules.specs.Range.{inRange}
-use Rattle.rules.specs.Free.{Picker, Picks, Choice}
+use Rattle.rules.specs.Free.{nextFree}
 use Rattle.rules.specs.Rule.{Reply, ok, started, going, ended, empty, item, Effect, refuse, reply, need, upTo, within, index, atEnd}
 use Rattle.rules.specs.Producer.{linked, takePosition, loadTail, lookNext, claimRecord, linkClaimed, shiftTail, goBack, writeEntry, setEntry, claimAhead, linkAhead, producerRules, producerStep}
 use Rattle.rules.specs.Consumer.{byState, front, readTail, scan, readEntry, rescan, readItem, markHandled, consumerRules, consumerStep}
@@ -20,7 +20,8 @@ use Rattle.rules.specs.Request.{Request, startEnqueue, startDequeue, step, star
 use Rattle.rules.specs.Update.{both, neither}
 use Rattle.rules.specs.Readback.{WriteThere}
 use Rattle.rules.specs.InRange.{InRange, range-has}
-use Rattle.refinement.specs.RecordNumbers.{isLink, links, consumer-link, producer-link, content-link, part-link}
+use Rattle.rules.specs.NextFree.{RightChoice, next-free-right}
+use Rattle.refinement.specs.RecordNumbers.{isLink, links, consumer-link, producer-link, content-link, last-claimed-link, part-link}
 
 -- The three kinds of replies: ok, a call number, a step's.
 abbrev pub kindOf : Reply → ℕ
@@ -185,10 +186,10 @@ module _ (z : Sizes) (σ : Reader) (range : InRange z σ) (t : ℕ) where
     unfolding lookNext
     look-sound = needs (σ (held t)) _ held-most λ r h. omega arith
 
-    claim-sound : (c : ℕ) → Choice z σ c → S (claimRecord z σ t c)
+    claim-sound : (c : ℕ) → c ≤ z .N → S (claimRecord z σ t c)
     unfolding claimRecord
     claim-sound zero h = omega arith
-    claim-sound (suc r) h = omega (arith, h .0)
+    claim-sound (suc r) h = omega arith
 
     linked-sound : (r : Reply) (vs : List Write) → kindOf r ≡ 2 → All (WriteThere z) vs → S (linked z σ t λ ws. reply r (ws ++ vs))
     linked-sound r vs e a =
@@ -229,16 +230,16 @@ module _ (z : Sizes) (σ : Reader) (range : InRange z σ) (t : ℕ) where
         λ h l. in-record h (σ (position t)) _
         λ b. either (eqb (index z σ h (σ (position t))) 1 && eqb (σ (backed t)) 0) _ _ (omega arith) (omega arith)
 
-    ahead-sound : (c : ℕ) → Choice z σ c → S (claimAhead z σ t c)
+    ahead-sound : (c : ℕ) → c ≤ z .N → S (claimAhead z σ t c)
     unfolding claimAhead
     ahead-sound zero h = omega arith
-    ahead-sound (suc r) h = omega (arith, h .0)
+    ahead-sound (suc r) h = omega arith
 
     link-ahead-sound : S (linkAhead z σ t)
     unfolding linkAhead
     link-ahead-sound = linked-sound ended (clearProducer t ∷ []) refl (omega arith)
 
-    pub producer-sound : (c : ℕ) → Choice z σ c → S (producerStep c z σ t)
+    pub producer-sound : (c : ℕ) → c ≤ z .N → S (producerStep c z σ t)
     unfolding producerStep
     producer-sound c h = by-phase (σ (phase t))
       where
@@ -271,29 +272,37 @@ module _ (z : Sizes) (σ : Reader) (range : InRange z σ) where
   unfolding startingDequeue
   start-dequeue-sound = by-cond z startDequeue (not (eqb (σ consumerPhase) 0)) _ _ (λ _. omega arith) (λ _. omega arith)
 
-  step-sound : (pick : Picker) → Picks pick → (t : ℕ) → Sound z (step t) (stepping pick t z σ)
+  -- the record that a claim takes is one of the N
+  next-most : nextFree z σ ≤ z .N
+  next-most = go (nextFree z σ) (next-free-right z σ (last-claimed-link range))
+    where
+      go : (c : ℕ) → RightChoice z σ c → c ≤ z .N
+      go zero h = omega arith
+      go (suc r) h = h .0
+
+  step-sound : (t : ℕ) → Sound z (step t) (stepping (nextFree z σ) t z σ)
   unfolding stepping
-  step-sound pick right t =
+  step-sound t =
       by-cond z (step t) (ltb (z .P) t) _ _ (λ _. omega arith)
       λ l. by-cond z (step t) (eqb t 0) _ _
       (λ _. either z σ range t (eqb (σ consumerPhase) 0) _ _ (omega arith) (consumer-sound z σ range t))
       λ n. either z σ range t (eqb (σ (phase t)) 0) _ _ (omega arith)
-      (producer-sound z σ range t (omega (arith, eqb-false t 0 n, ltb-false (z .P) t l)) (pick z σ) (right z σ))
+      (producer-sound z σ range t (omega (arith, eqb-false t 0 n, ltb-false (z .P) t l)) (nextFree z σ) next-most)
 
-  pub answer-sound : (pick : Picker) → Picks pick → (q : Request) → Sound z q (effect pick q z σ)
+  pub answer-sound : (q : Request) → Sound z q (effect q z σ)
   unfolding effect
-  answer-sound pick right (startEnqueue t v) = start-enqueue-sound t v
-  answer-sound pick right startDequeue = start-dequeue-sound
-  answer-sound pick right (step t) = step-sound pick right t
+  answer-sound (startEnqueue t v) = start-enqueue-sound t v
+  answer-sound startDequeue = start-dequeue-sound
+  answer-sound (step t) = step-sound t
 
 -- The same of a call on any words.
-pub admitted-sound : (pick : Picker) → Picks pick → (q : Request) (m : List ℕ) → Sound (sizesOf m) q (admitted m (effect pick q))
+pub admitted-sound : (q : Request) (m : List ℕ) → Sound (sizesOf m) q (admitted m (effect q))
 unfolding admitted
-admitted-sound pick right q m =
+admitted-sound q m =
     let z = sizesOf m in
     let σ = reader z m in
     by-cond z q (ltb (length m) 16) _ _ (λ _. omega arith)
     λ _. by-cond z q (not (sizesInRange z)) _ _ (λ _. omega arith)
     λ _. by-cond z q (ltb (length m) (storeWords z)) _ _ (λ _. omega arith)
     λ _. by-cond z q (not (inRange z σ)) _ _ (λ _. omega arith)
-    λ e. answer-sound z σ (range-has z σ (not-false (inRange z σ) e)) pick right q
+    λ e. answer-sound z σ (range-has z σ (not-false (inRange z σ) e)) q

@@ -7,9 +7,9 @@ use native.Mathlib.Omega.{arith}
 use lib.Dec.{leb}
 use lib.ListN.{length, getD}
 use borrow.Author.Tests.{leb-true, eqb-true}
-use Rattle.rules.specs.Sizes.{Sizes}
-use Rattle.rules.specs.Cell.{Reader, content, consumer, producer, part}
-use Rattle.rules.specs.Range.{Sort, unused, exactly, number, link, record-number, most, any, ofSort, ofSorts, threadInRange, consumerSorts, producerSorts}
+use Rattle.rules.specs.Sizes.{Sizes, lastClaimedWord}
+use Rattle.rules.specs.Cell.{Reader, content, lastClaimed, consumer, producer, part}
+use Rattle.rules.specs.Range.{Sort, unused, exactly, number, link, record-number, most, any, ofSort, ofSorts, threadInRange, lastClaimedSort, consumerSorts, producerSorts}
 use Rattle.rules.specs.Update.{both, true-false}
 use Rattle.rules.specs.InRange.{InRange, sortOf}
 
@@ -68,7 +68,11 @@ module _ {z : Sizes} {σ : Reader} (range : InRange z σ) where
   pub producer-link : (t : ℕ) → (1 ≤ t) × (t ≤ z .P) → (k : ℕ) → links k producerSorts ≡ true → σ (producer t (suc k)) ≤ z .N
   producer-link t a k l = thread-link z 11 producerSorts (λ j. σ (producer t j)) k l refl (range .producing t (a .0) (a .1))
 
-  pub content-link : (k : ℕ) → k < 16 → isLink (sortOf z (content k)) ≡ true → σ (content k) ≤ z .N
+  pub last-claimed-link : σ lastClaimed ≤ z .N
+  unfolding isLink
+  last-claimed-link = link-most z lastClaimedSort (σ lastClaimed) refl (range .words lastClaimed tt)
+
+  pub content-link : (k : ℕ) → k < lastClaimedWord → isLink (sortOf z (content k)) ≡ true → σ (content k) ≤ z .N
   content-link k h l = link-most z (sortOf z (content k)) (σ (content k)) l (range .words (content k) h)
 
   pub part-link : (r k : ℕ) → (r < z .N) × (k < 4) → isLink (sortOf z (part r k)) ≡ true → σ (part r k) ≤ z .N

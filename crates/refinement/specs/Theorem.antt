@@ -9,11 +9,9 @@ use lib.Seq.{getD-set-same, getD-set-other}
 use borrow.Author.Tests.{ne-eqb}
 use Rattle.history.specs.Lists.{All}
 use Rattle.rules.specs.Sizes.{Sizes}
-use Rattle.rules.specs.Free.{lowestFree}
 use Rattle.rules.specs.Rule.{Response, refused, accepted, ok, started, going, ended, empty, item, Effect, refuse, reply}
 use Rattle.rules.specs.Request.{Request, startEnqueue, startDequeue, step, Result, applied, effect, open-store, sizesOf, admitted, result}
 use Rattle.rules.specs.Play.{Played, playOne, play}
-use Rattle.rules.specs.Pick.{lowest-free-picks}
 use Rattle.rules.specs.Refusal.{by-open}
 use Rattle.ordering.specs.Demand.{Ordered}
 use Rattle.ordering.specs.Theorem.{demand-3}
@@ -22,7 +20,7 @@ use Rattle.refinement.specs.Calls.{Made, Meets, Chain, noted, recorded, 
 use Rattle.refinement.specs.Effects.{kindOf, kindFor, Sound, admitted-sound}
 
 -- One call is the rules' call.
-noted-is : (c : Made) (p : Played) → Meets (p .words) c → noted c p ≡ playOne lowestFree (c .request) p
+noted-is : (c : Made) (p : Played) → Meets (p .words) c → noted c p ≡ playOne (c .request) p
 noted-is c p e = ap (λ (r : Result). noted (record { request = c .request; response = r .reply; words = r .words }) p) e
 
 pub refines : Refines
@@ -30,13 +28,13 @@ unfolding recorded play
 refines p [] h = refl
 refines p (c ∷ cs) h =
     refines (noted c p) cs (h .1)
-    ∙ ap (play (λ k. lowestFree) (map (λ c. c .request) cs)) (noted-is c p (h .0))
+    ∙ ap (play (map (λ c. c .request) cs)) (noted-is c p (h .0))
 
 pub demand-3-of-calls : Demand-3-Of-Calls
 demand-3-of-calls z before m cs o h =
     let accepts : open-store z before .reply ≡ accepted ok = sym (ap (λ (r : Result). r .reply) o) in
     let words : open-store z before .words ≡ m = sym (ap (λ (r : Result). r .words) o) in
-    let d = demand-3 z before (map (λ c. c .request) cs) (λ k. lowestFree) accepts (λ k. lowest-free-picks) in
+    let d = demand-3 z before (map (λ c. c .request) cs) accepts in
     subst (Ordered z) (sym (refines (fresh m) cs h)) (rw words at d)
 
 -- A response that a call may have.
@@ -44,9 +42,9 @@ abbrev pub May : Request → Response → Type 0
 May q (refused n) = (1 ≤ n) × (n ≤ 9)
 May q (accepted r) = kindOf r ≡ kindFor q
 
-pub result-may : (q : Request) (m : List ℕ) → May q (result lowestFree q m .reply)
+pub result-may : (q : Request) (m : List ℕ) → May q (result q m .reply)
 unfolding result applied
-result-may q m = go (admitted m (effect lowestFree q)) (admitted-sound lowestFree lowest-free-picks q m)
+result-may q m = go (admitted m (effect q)) (admitted-sound q m)
   where
     go : (a : Effect) → Sound (sizesOf m) q a → May q (applied (sizesOf m) m a .reply)
     go (refuse n) s = s
@@ -91,7 +89,7 @@ module _ (w : List ℕ) (four : length w ≡ 4) where
 -- So an exchange that meets its export's contract is a call that meets the rules.
 module _ (q : Request) (m lent : List ℕ) (four : length lent ≡ 4) (n : ℕ) (s w : List ℕ) where
   abbrev r : Result
-  r = result lowestFree q m
+  r = result q m
 
   by-parts : n ≡ code (r .reply) → s ≡ r .words → says q n w ≡ says q (code (r .reply)) (replyWords (r .reply) lent)
       → Meets m (record { request = q; response = says q n w; words = s })

@@ -5,13 +5,15 @@ use mathlib.Core.Logic.{_⊎_, ⊎-elim}
 use mathlib.Core.Bool.{Bool, true, false, cond}
 use mathlib.Core.List.{List, [], _∷_}
 use Prim.Native.Nat.{ℕ, zero, suc}
-use Rattle.rules.specs.Cell.{Cell, content, consumer, producer, part, entry, Reader, Area, contents, ofConsumer, ofProducer, ofRecord, Write, _:=_, clear, place, next, used, held}
+use Rattle.rules.specs.Cell.{Cell, content, lastClaimed, spare, consumer, producer, part, entry, Reader, Area, contents, ofConsumer, ofProducer, ofRecord, Write, _:=_, clear, place, next, used, held}
 use Rattle.rules.specs.Update.{areaOf, sameArea, same, update, after, same-eq, same-cell, same-area, same-area-eq}
 use Rattle.renaming.specs.Renaming.{Renaming, renamed, isLink, seen, cellTo, areaTo, writeTo, writesTo}
 
--- Every cell but a record's.
+-- Every cell but a record's and the one that holds the record claimed last: which it is says nothing of what can be reached.
 abbrev pub NoRecord : Cell → Type 0
 NoRecord (content k) = Unit
+NoRecord lastClaimed = ⊥
+NoRecord (spare k) = Unit
 NoRecord (consumer k) = Unit
 NoRecord (producer u k) = Unit
 NoRecord (part r k) = ⊥
@@ -67,6 +69,8 @@ alike-itself σ =
 
     same-word : (c : Cell) → NoRecord c → Same (λ r. r) σ σ c
     same-word (content k) n = same-seen (isLink (content k)) (σ (content k))
+    same-word lastClaimed n = absurd n
+    same-word (spare k) n = same-seen (isLink (spare k)) (σ (spare k))
     same-word (consumer k) n = same-seen (isLink (consumer k)) (σ (consumer k))
     same-word (producer t k) n = same-seen (isLink (producer t k)) (σ (producer t k))
     same-word (part r k) n = absurd n
@@ -79,6 +83,8 @@ module _ {N : ℕ} (ρ : Renaming N) where
   -- a cell and an area are renamed back
   cell-back : (c : Cell) → cellTo (ρ .from) (cellTo f c) ≡ c
   cell-back (content k) = refl
+  cell-back lastClaimed = refl
+  cell-back (spare k) = refl
   cell-back (consumer k) = refl
   cell-back (producer t k) = refl
   cell-back (part r k) = ap (λ (x : ℕ). part x k) (ρ .from-to r)
@@ -92,6 +98,8 @@ module _ {N : ℕ} (ρ : Renaming N) where
 
   area-to : (d : Cell) → areaOf (cellTo f d) ≡ areaTo f (areaOf d)
   area-to (content k) = refl
+  area-to lastClaimed = refl
+  area-to (spare k) = refl
   area-to (consumer k) = refl
   area-to (producer t k) = refl
   area-to (part r k) = refl

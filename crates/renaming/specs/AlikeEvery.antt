@@ -1,5 +1,5 @@
--- Every request on two stores alike that only the engine has written is answered alike, whichever free record each claim takes.
--- From the phases, one by one.
+-- Every request on two stores alike that only the engine has written is answered alike, whichever loose record each claim takes, if both
+-- claims find one or neither does. From the phases, one by one.
 use mathlib.Core.Path.{_≡_, refl}
 use mathlib.Core.Logic.{_≢_}
 use mathlib.Core.Bool.{_||_, not}
@@ -11,15 +11,15 @@ use lib.ListN.{getD}
 use borrow.Author.Tests.{eqb-false, ltb-false}
 use Rattle.rules.specs.Sizes.{Sizes}
 use Rattle.rules.specs.Cell.{Reader, _:=_, starts, consumerPhase, phase, call, value}
-use Rattle.rules.specs.Free.{Picker, Picks, Choice}
 use Rattle.rules.specs.Rule.{refuse, ok, started}
 use Rattle.rules.specs.Producer.{producerRules, producerStep}
 use Rattle.rules.specs.Consumer.{consumerRules, consumerStep}
-use Rattle.rules.specs.Request.{Request, startEnqueue, startDequeue, step, startingEnqueue, startingDequeue, stepping, effect}
+use Rattle.rules.specs.Request.{Request, startEnqueue, startDequeue, step, startingEnqueue, startingDequeue, stepping}
+use Rattle.simulation.specs.Every.{effectTaking}
 use Rattle.renaming.specs.AlikeEffects.{Like, by-refusal, by-cond, by-plain}
 use Rattle.renaming.specs.AlikeRecords.{Twins}
 use Rattle.renaming.specs.AlikeProducer.{take-position-alike, load-tail-alike, look-next-alike, link-claimed-alike, link-ahead-alike, shift-tail-alike, go-back-alike, write-entry-alike, set-entry-alike}
-use Rattle.renaming.specs.AlikeClaims.{claim-record-alike, claim-ahead-alike}
+use Rattle.renaming.specs.AlikeClaims.{BothChoose, claim-record-alike, claim-ahead-alike}
 use Rattle.renaming.specs.AlikeConsumer.{front-alike, read-tail-alike, scan-alike, read-entry-alike, rescan-alike, read-item-alike, mark-handled-alike}
 
 module _ {z : Sizes} {σ τ : Reader} (pair : Twins z σ τ) where
@@ -47,9 +47,9 @@ module _ {z : Sizes} {σ τ : Reader} (pair : Twins z σ τ) where
       by-phase (suc (suc (suc (suc (suc (suc (suc zero))))))) = mark-handled-alike pair
       by-phase (suc (suc (suc (suc (suc (suc (suc (suc p)))))))) = idle-alike
 
-  producer-alike : (t : ℕ) → (1 ≤ t) × (t ≤ z .P) → (c d : ℕ) → Choice z σ c → Choice z τ d → Like z σ τ (producerStep c z σ t) (producerStep d z τ t)
+  producer-alike : (t : ℕ) → (1 ≤ t) × (t ≤ z .P) → (c d : ℕ) → BothChoose z σ τ c d → Like z σ τ (producerStep c z σ t) (producerStep d z τ t)
   unfolding producerStep
-  producer-alike t is c d left right = rw (phase-same t) (by-phase (σ (phase t)) refl)
+  producer-alike t is c d both = rw (phase-same t) (by-phase (σ (phase t)) refl)
     where
       by-phase : (p : ℕ) → σ (phase t) ≡ p
           → Like z σ τ (getD (producerRules c) p (λ z σ t. refuse 7) z σ t) (getD (producerRules d) p (λ z σ t. refuse 7) z τ t)
@@ -57,32 +57,32 @@ module _ {z : Sizes} {σ τ : Reader} (pair : Twins z σ τ) where
       by-phase (suc zero) e = take-position-alike pair t
       by-phase (suc (suc zero)) e = load-tail-alike pair t
       by-phase (suc (suc (suc zero))) e = look-next-alike pair t
-      by-phase (suc (suc (suc (suc zero)))) e = claim-record-alike pair t c d left right
+      by-phase (suc (suc (suc (suc zero)))) e = claim-record-alike pair t c d both
       by-phase (suc (suc (suc (suc (suc zero))))) e = link-claimed-alike pair t
       by-phase (suc (suc (suc (suc (suc (suc zero)))))) e = shift-tail-alike pair t
       by-phase (suc (suc (suc (suc (suc (suc (suc zero))))))) e = go-back-alike pair t is e
       by-phase (suc (suc (suc (suc (suc (suc (suc (suc zero)))))))) e = write-entry-alike pair t
       by-phase (suc (suc (suc (suc (suc (suc (suc (suc (suc zero))))))))) e = set-entry-alike pair t
-      by-phase (suc (suc (suc (suc (suc (suc (suc (suc (suc (suc zero)))))))))) e = claim-ahead-alike pair t c d left right
+      by-phase (suc (suc (suc (suc (suc (suc (suc (suc (suc (suc zero)))))))))) e = claim-ahead-alike pair t c d both
       by-phase (suc (suc (suc (suc (suc (suc (suc (suc (suc (suc (suc zero))))))))))) e = link-ahead-alike pair t
       by-phase (suc (suc (suc (suc (suc (suc (suc (suc (suc (suc (suc (suc p)))))))))))) e = idle-alike
 
-  step-alike : (pick pick′ : Picker) → Picks pick → Picks pick′ → (t : ℕ) → Like z σ τ (stepping pick t z σ) (stepping pick′ t z τ)
+  step-alike : (c d : ℕ) → BothChoose z σ τ c d → (t : ℕ) → Like z σ τ (stepping c t z σ) (stepping d t z τ)
   unfolding stepping
-  step-alike pick pick′ right right′ t =
+  step-alike c d both t =
       by-cond (ltb (z .P) t) (ltb (z .P) t) refl
       (λ b. by-refusal 4)
       (λ b.
       by-cond (eqb t 0) (eqb t 0) refl
-      (λ c.
+      (λ e.
       by-cond (eqb (σ consumerPhase) 0) (eqb (τ consumerPhase) 0) (rw consumer-phase refl)
-      (λ d. idle-alike)
-      (λ d. consumer-alike))
-      (λ c.
-      let n : t ≢ 0 = eqb-false t 0 c in
+      (λ i. idle-alike)
+      (λ i. consumer-alike))
+      (λ e.
+      let n : t ≢ 0 = eqb-false t 0 e in
       by-cond (eqb (σ (phase t)) 0) (eqb (τ (phase t)) 0) (rw (phase-same t) refl)
-      (λ d. idle-alike)
-      (λ d. producer-alike t (omega arith, ltb-false (z .P) t b) (pick z σ) (pick′ z τ) (right z σ) (right′ z τ))))
+      (λ i. idle-alike)
+      (λ i. producer-alike t (omega arith, ltb-false (z .P) t b) c d both)))
 
   start-enqueue-alike : (t v : ℕ) → Like z σ τ (startingEnqueue t v z σ) (startingEnqueue t v z τ)
   unfolding startingEnqueue
@@ -108,8 +108,7 @@ module _ {z : Sizes} {σ τ : Reader} (pair : Twins z σ τ) where
       (λ b. by-refusal 5)
       (λ b. by-plain (pair .stores) ok (consumerPhase := 1 ∷ []) _ refl (λ s u. u) (λ u s e. e))
 
-  pub answer-alike : (pick pick′ : Picker) → Picks pick → Picks pick′ → (q : Request) → Like z σ τ (effect pick q z σ) (effect pick′ q z τ)
-  unfolding effect
-  answer-alike pick pick′ right right′ (startEnqueue t v) = start-enqueue-alike t v
-  answer-alike pick pick′ right right′ startDequeue = start-dequeue-alike
-  answer-alike pick pick′ right right′ (step t) = step-alike pick pick′ right right′ t
+  pub answer-alike : (c d : ℕ) → BothChoose z σ τ c d → (q : Request) → Like z σ τ (effectTaking c q z σ) (effectTaking d q z τ)
+  answer-alike c d both (startEnqueue t v) = start-enqueue-alike t v
+  answer-alike c d both startDequeue = start-dequeue-alike
+  answer-alike c d both (step t) = step-alike c d both t

@@ -2,14 +2,14 @@
 -- differs from it by an exchange of two records.
 use mathlib.Core.Path.{_≡_, refl, ap, sym, _∙_}
 use mathlib.Core.Logic.{_≢_}
-use mathlib.Core.Bool.{Bool, false, _||_, cond}
+use mathlib.Core.Bool.{Bool, true, false, _||_, cond}
 use mathlib.Core.List.{List, [], _∷_}
 use Prim.Native.Nat.{ℕ, zero, suc, _<_}
 use native.Mathlib.Decide.{ℕ-discrete}
 use native.Mathlib.Omega.{arith}
 use lib.Dec.{eqb}
 use borrow.Author.Tests.{eq-eqb, ne-eqb}
-use Rattle.rules.specs.Cell.{Cell, content, consumer, producer, part, entry, Area, contents, ofConsumer, ofProducer, ofRecord, Write, _:=_, clear}
+use Rattle.rules.specs.Cell.{Cell, content, lastClaimed, spare, consumer, producer, part, entry, Area, contents, ofConsumer, ofProducer, ofRecord, Write, _:=_, clear}
 
 -- One number for each record, another for each, and the way back.
 pub record Renaming (N : ℕ) : Type 0 where
@@ -50,9 +50,12 @@ renamed-is ρ (suc s) r e = ap suc (to-apart ρ (omega arith))
 pub eqb-renamed : {N : ℕ} (ρ : Renaming N) (x r : ℕ) → eqb (renamed (ρ .to) x) (suc (ρ .to r)) ≡ eqb x (suc r)
 eqb-renamed ρ x r = eqb-alike (renamed (ρ .to) x) (suc (ρ .to r)) x (suc r) (renamed-is ρ x r) (λ e. rw e refl)
 
--- The cells that hold record numbers: tail and head record; cursor and found record; held and claimed record; next and prev.
+-- The cells that hold record numbers: tail and head record; the record claimed last; cursor and found record; held and claimed record;
+-- next and prev.
 abbrev pub isLink : Cell → Bool
 isLink (content k) = eqb k 7 || eqb k 8
+isLink lastClaimed = true
+isLink (spare k) = false
 isLink (consumer k) = eqb k 1 || eqb k 3
 isLink (producer t k) = eqb k 4 || eqb k 5
 isLink (part r k) = eqb k 1 || eqb k 2
@@ -64,6 +67,8 @@ seen f c x = cond (isLink c) (renamed f x) x
 
 abbrev pub cellTo : (ℕ → ℕ) → Cell → Cell
 cellTo f (content k) = content k
+cellTo f lastClaimed = lastClaimed
+cellTo f (spare k) = spare k
 cellTo f (consumer k) = consumer k
 cellTo f (producer t k) = producer t k
 cellTo f (part r k) = part (f r) k

@@ -17,8 +17,6 @@ use Rattle.rules.specs.Sizes.{Sizes, sizesInRange, storeWords}
 use Rattle.rules.specs.Cell.{Reader, reader, starts, phase}
 use Rattle.rules.specs.Update.{neither}
 use Rattle.rules.specs.Range.{inRange}
-use Rattle.rules.specs.Free.{Picker, lowestFree}
-use Rattle.rules.specs.Pick.{lowest-free-picks}
 use Rattle.rules.specs.Rule.{Effect, refuse, reply, Response, refused, accepted, ok, started, going, ended, empty, item}
 use Rattle.rules.specs.Refusal.{accepted-not-refused}
 use Rattle.rules.specs.Request.{Result, Request, startEnqueue, startDequeue, step, applied, open-store, opened, startingEnqueue, effect, sizesOf, admitted, result}
@@ -33,15 +31,12 @@ use Rattle.refinement.specs.Theorem.{May, result-may}
 use Rattle.session.specs.Session.{blank, Session, start, reopened, openTurn, callTurn, opening, calling, callOf, runLine, runLines}
 use Rattle.session.specs.Reading.{Names, Named}
 
-abbrev picks : ℕ → Picker
-picks k = lowestFree
-
 -- an opened store, and what stands after some calls on it
 abbrev from : Sizes → List ℕ → Played
 from z m = record { words = open-store z m .words; replies = []; history = [] }
 
 abbrev after : Sizes → List ℕ → List Request → Played
-after z m qs = play picks qs (from z m)
+after z m qs = play qs (from z m)
 
 -- What stands: nothing was opened yet, or some calls followed an accepted open.
 data Reachable : Session → Type 0 where
@@ -49,13 +44,13 @@ data Reachable : Session → Type 0 where
   played : {x : Session} (z : Sizes) (m : List ℕ) (qs : List Request) → open-store z m .reply ≡ accepted ok → x .words ≡ after z m qs .words → x .history ≡ after z m qs .history → Reachable x
 
 -- one call more
-play-more : (qs : List Request) (q : Request) (p : Played) → play picks (qs ++ (q ∷ [])) p ≡ playOne lowestFree q (play picks qs p)
+play-more : (qs : List Request) (q : Request) (p : Played) → play (qs ++ (q ∷ [])) p ≡ playOne q (play qs p)
 unfolding play
 play-more [] q p = refl
-play-more (r ∷ qs) q p = play-more qs q (playOne lowestFree r p)
+play-more (r ∷ qs) q p = play-more qs q (playOne r p)
 
 -- words that no open wrote
-unopened-refused : (q : Request) (m : List ℕ) → 16 ≤ length m → getD m 0 0 ≡ 0 → result lowestFree q m ≡ record { reply = refused 3; words = m }
+unopened-refused : (q : Request) (m : List ℕ) → 16 ≤ length m → getD m 0 0 ≡ 0 → result q m ≡ record { reply = refused 3; words = m }
 unfolding result admitted applied
 unopened-refused q m l e = simp (le-ltb (length m) 16 l, e)
 
@@ -75,7 +70,7 @@ call-reachable q x (unopened w e) =
 call-reachable q x (played z m qs o w e) =
     let f = play-more qs q (from z m) in
     played {x = calling q x .session} z m (qs ++ (q ∷ [])) o
-    (ap (λ (y : List ℕ). result lowestFree q y .words) w ∙ ap (λ (p : Played). p .words) (sym f))
+    (ap (λ (y : List ℕ). result q y .words) w ∙ ap (λ (p : Played). p .words) (sym f))
     (rw (w, e) (ap (λ (p : Played). p .history) (sym f)))
 
 open-reachable : (z : Sizes) (x : Session) → Reachable x → Reachable (opening z x .session)
@@ -112,7 +107,7 @@ module _ (P : Session → Type 0) (opens : (z : Sizes) (x : Session) → P x →
 reachable-formed : (x : Session) → Reachable x → (wellFormed (x .history) ≡ true) × Explained (x .history)
 reachable-formed x (unopened w e) = rw e (refl, tt)
 reachable-formed x (played z m qs o w e) =
-    let d = demand-3 z m qs picks o (λ k. lowest-free-picks) in
+    let d = demand-3 z m qs o in
     rw e (d .formed, criterion (after z m qs .history) (d .formed) .1 (d .linearizable))
 
 pub lines-formed : (ls : List (List ℕ)) → (wellFormed (runLines ls start .session .history) ≡ true) × Explained (runLines ls start .session .history)
@@ -149,7 +144,7 @@ module _ (t v n : ℕ) (m : List ℕ) where
   number : {k : ℕ} → accepted (started (suc k)) ≡ accepted (started n) → leb 1 n ≡ true
   number {k} e = let q : n ≡ suc k = cc in le-leb 1 n (omega arith)
 
-  started-names : result lowestFree (startEnqueue t v) m .reply ≡ accepted (started n) → Names t n
+  started-names : result (startEnqueue t v) m .reply ≡ accepted (started n) → Names t n
   unfolding result admitted effect startingEnqueue applied
   started-names =
       by-cond P (ltb (length m) 16) (refuse 2) _ (λ _. no) λ _. by-cond P (not (sizesInRange z)) (refuse 3) _ (λ _. no) λ s.
@@ -173,14 +168,14 @@ end-named t (gaveEmpty ∷ h) g a b = end-named t h g a b
 
 call-named : (q : Request) (x : Session) → Named (x .history) → Named (calling q x .session .history)
 unfolding calling
-call-named q x a = go (result lowestFree q (x .words) .reply) refl (result-may q (x .words))
+call-named q x a = go (result q (x .words) .reply) refl (result-may q (x .words))
   where
-    names : (q : Request) (n : ℕ) → result lowestFree q (x .words) .reply ≡ accepted (started n) → May q (accepted (started n)) → Names (threadOf q) n
+    names : (q : Request) (n : ℕ) → result q (x .words) .reply ≡ accepted (started n) → May q (accepted (started n)) → Names (threadOf q) n
     names (startEnqueue t v) n e m = started-names t v n (x .words) e
     names startDequeue n e m = absurd (omega arith)
     names (step t) n e m = absurd (omega arith)
 
-    go : (r : Response) → result lowestFree q (x .words) .reply ≡ r → May q r → Named (events q (x .history) r ++ x .history)
+    go : (r : Response) → result q (x .words) .reply ≡ r → May q r → Named (events q (x .history) r ++ x .history)
     go (refused n) e m = a
     go (accepted ok) e m = a
     go (accepted (started n)) e m = (names q n e m, a)

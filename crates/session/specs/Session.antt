@@ -8,7 +8,6 @@ use lib.ListN.{length, replicate}
 use Rattle.history.specs.Event.{History}
 use Rattle.criterion.specs.Pass.{explains}
 use Rattle.rules.specs.Sizes.{Sizes, mostWords}
-use Rattle.rules.specs.Free.{lowestFree}
 use Rattle.rules.specs.Rule.{Response, refused, accepted}
 use Rattle.rules.specs.Request.{Result, Request, startEnqueue, startDequeue, step, open-store, result}
 use Rattle.rules.specs.Play.{events}
@@ -59,7 +58,7 @@ unfoldable pub opening : Sizes → Session → Turn
 opening z x = openTurn (open-store z (x .words)) (x .history)
 
 unfoldable pub calling : Request → Session → Turn
-calling q x = callTurn q (result lowestFree q (x .words)) (x .history)
+calling q x = callTurn q (result q (x .words)) (x .history)
 
 -- The call that a line asks for; a bad line asks for none.
 abbrev pub callOf : Line → Option (Session → Turn)

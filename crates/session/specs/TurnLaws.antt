@@ -5,7 +5,6 @@ use Prim.Native.Nat.{ℕ, _+_, _≤_}
 use native.Mathlib.Omega.{arith}
 use Rattle.history.specs.Event.{History}
 use Rattle.rules.specs.Sizes.{Sizes}
-use Rattle.rules.specs.Free.{lowestFree}
 use Rattle.rules.specs.Request.{Result, Request, open-store, result}
 use Rattle.rules.specs.Play.{events}
 use Rattle.store.specs.declared.Reply.{Reply}
@@ -21,10 +20,10 @@ use Rattle.session.specs.Turns.{Stands, Turned}
 
 module _ {store history out store′ out′ : List ℕ} {at next : Place} (reply : Reply) (writes : Wrote out (at .bytes) (printed (response reply)) out′ (next .bytes)) where
   -- a start or a step
-  module _ {history′ : List ℕ} (q : Request) (noted : Noted) (does : left reply store′ ≡ result lowestFree q store) (adds : (h : History) → notedEvents noted h ≡ events q h (response reply)) (records : Records (notedEvents noted) history (at .events) history′ (next .events)) where
+  module _ {history′ : List ℕ} (q : Request) (noted : Noted) (does : left reply store′ ≡ result q store) (adds : (h : History) → notedEvents noted h ≡ events q h (response reply)) (records : Records (notedEvents noted) history (at .events) history′ (next .events)) where
     call-is : (x : Session) → Stands x store history (at .events) → calling q x ≡ callTurn q (left reply store′) (x .history)
     unfolding calling
-    call-is x s = ap (λ (w : List ℕ). callTurn q (result lowestFree q w) (x .history)) (s .words-are) ∙ ap (λ (r : Result). callTurn q r (x .history)) (sym does)
+    call-is x s = ap (λ (w : List ℕ). callTurn q (result q w) (x .history)) (s .words-are) ∙ ap (λ (r : Result). callTurn q r (x .history)) (sym does)
 
     pub call-turned : Turned (calling q) store history out at store′ history′ out′ next
     call-turned =

@@ -6,7 +6,6 @@ use mathlib.Core.Option.{Option, none, some}
 use Prim.Native.Nat.{ℕ, _+_, _*_, _≤_}
 use lib.ListN.{length}
 use Rattle.history.specs.Form.{mostEvents}
-use Rattle.rules.specs.Free.{lowestFree}
 use Rattle.rules.specs.Request.{Request, result}
 use Rattle.rules.specs.Play.{threadOf, valueOf}
 use Rattle.store.specs.declared.Reply.{Reply}
@@ -37,7 +36,7 @@ pub record Turned (call : Session → Turn) (store history out : List ℕ) (at :
 -- A call of thread t with value v was recorded and its reply printed: a turn, where the store changed as the call says.
 pub record Finished (t v : ℕ) (reply : Reply) (history out : List ℕ) (at : Place) (history′ out′ : List ℕ) (next : Place) : Type 0 where
   pub turned :
-      (q : Request) → threadOf q ≡ t → valueOf q ≡ v → (store store′ : List ℕ) → left reply store′ ≡ result lowestFree q store
+      (q : Request) → threadOf q ≡ t → valueOf q ≡ v → (store store′ : List ℕ) → left reply store′ ≡ result q store
       → Turned (calling q) store history out at store′ history′ out′ next
 
 -- What a line does, by the call that it asks for: a bad one prints `bad line` and stops the run, any other turns as its call does.

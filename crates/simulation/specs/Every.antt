@@ -1,4 +1,4 @@
--- Every request on a store that only the engine has written goes on so, whichever free record a claim takes.
+-- Every request on a store that only the engine has written goes on so, whichever loose record a claim takes. The next free one is loose.
 use mathlib.Core.Path.{_≡_, refl}
 use mathlib.Core.Logic.{_≢_}
 use Prim.Native.Nat.{ℕ, zero, suc, _≤_}
@@ -7,14 +7,17 @@ use lib.Dec.{eqb, ltb}
 use lib.ListN.{getD}
 use borrow.Author.Tests.{eqb-true, eqb-false, ltb-false}
 use Rattle.rules.specs.Sizes.{Sizes}
-use Rattle.rules.specs.Cell.{Reader, consumerPhase, phase}
-use Rattle.rules.specs.Free.{Picker, Picks, Choice}
-use Rattle.rules.specs.Rule.{refuse}
+use Rattle.rules.specs.Cell.{Reader, lastClaimed, consumerPhase, phase}
+use Rattle.rules.specs.Free.{nextFree}
+use Rattle.rules.specs.Range.{record-number}
+use Rattle.rules.specs.Rule.{Effect, refuse}
 use Rattle.rules.specs.Producer.{producerRules, producerStep}
 use Rattle.rules.specs.Consumer.{consumerRules, consumerStep}
-use Rattle.rules.specs.Request.{Request, startEnqueue, startDequeue, step, stepping, effect}
+use Rattle.rules.specs.Request.{Request, startEnqueue, startDequeue, step, startingEnqueue, startingDequeue, stepping, effect}
+use Rattle.memory.specs.Loose.{LooseChoice, next-free-loose}
 use Rattle.simulation.specs.View.{Ghost}
 use Rattle.simulation.specs.Good.{Good, Fine, by-cond}
+use Rattle.simulation.specs.Rows.{has-sort}
 use Rattle.simulation.specs.ProducerWalk.{load-tail-fine, look-next-fine, shift-tail-fine, go-back-fine}
 use Rattle.simulation.specs.ProducerClaim.{claim-record-fine, claim-ahead-fine}
 use Rattle.simulation.specs.ProducerLink.{link-claimed-fine, link-ahead-fine}
@@ -24,6 +27,19 @@ use Rattle.simulation.specs.ConsumerScan.{scan-fine, read-entry-fine}
 use Rattle.simulation.specs.ConsumerRescan.{rescan-fine}
 use Rattle.simulation.specs.ConsumerItem.{read-item-fine, mark-handled-fine}
 use Rattle.simulation.specs.Starts.{start-enqueue-fine, start-dequeue-fine}
+
+-- What a call does whose claim takes this record (plus one; zero for none).
+abbrev pub effectTaking : (c : ℕ) → Request → Sizes → Reader → Effect
+effectTaking c (startEnqueue t v) z σ = startingEnqueue t v z σ
+effectTaking c startDequeue z σ = startingDequeue z σ
+effectTaking c (step t) z σ = stepping c t z σ
+
+-- The rules take the next free one.
+pub effect-is : (q : Request) (z : Sizes) (σ : Reader) → effect q z σ ≡ effectTaking (nextFree z σ) q z σ
+unfolding effect
+effect-is (startEnqueue t v) z σ = refl
+effect-is startDequeue z σ = refl
+effect-is (step t) z σ = refl
 
 module _ (z : Sizes) (σ : Reader) (γ : Ghost) (good : Good z σ γ) where
   -- a refusal that is none of 3 and 9
@@ -45,7 +61,7 @@ module _ (z : Sizes) (σ : Reader) (γ : Ghost) (good : Good z σ γ) where
       by-phase (suc (suc (suc (suc (suc (suc (suc zero))))))) e = mark-handled-fine z σ γ good e
       by-phase (suc (suc (suc (suc (suc (suc (suc (suc p)))))))) e = idle-fine (step 0)
 
-  producer-fine : (t : ℕ) → (1 ≤ t) × (t ≤ z .P) → (c : ℕ) → Choice z σ c → Fine z σ γ (step t) (producerStep c z σ t)
+  producer-fine : (t : ℕ) → (1 ≤ t) × (t ≤ z .P) → (c : ℕ) → LooseChoice z σ c → Fine z σ γ (step t) (producerStep c z σ t)
   unfolding producerStep
   producer-fine t a c choice = by-phase (σ (phase t)) refl
     where
@@ -64,25 +80,28 @@ module _ (z : Sizes) (σ : Reader) (γ : Ghost) (good : Good z σ γ) where
       by-phase (suc (suc (suc (suc (suc (suc (suc (suc (suc (suc (suc zero))))))))))) e = link-ahead-fine z σ γ good t a e
       by-phase (suc (suc (suc (suc (suc (suc (suc (suc (suc (suc (suc (suc p)))))))))))) e = idle-fine (step t)
 
-  step-fine : (pick : Picker) → Picks pick → (t : ℕ) → Fine z σ γ (step t) (stepping pick t z σ)
+  step-fine : (c : ℕ) → LooseChoice z σ c → (t : ℕ) → Fine z σ γ (step t) (stepping c t z σ)
   unfolding stepping
-  step-fine pick right t =
+  step-fine c choice t =
       by-cond (Fine z σ γ (step t)) (ltb (z .P) t) _ _
       (λ b. ((λ e. omega arith), (λ e. omega arith)))
       (λ b.
       by-cond (Fine z σ γ (step t)) (eqb t 0) _ _
-      (λ c.
+      (λ e.
       by-cond (Fine z σ γ (step t)) (eqb (σ consumerPhase) 0) _ _
       (λ d. idle-fine (step t))
-      (λ d. rw (eqb-true t 0 c) consumer-fine))
-      (λ c.
-      let n : t ≢ 0 = eqb-false t 0 c in
+      (λ d. rw (eqb-true t 0 e) consumer-fine))
+      (λ e.
+      let n : t ≢ 0 = eqb-false t 0 e in
       by-cond (Fine z σ γ (step t)) (eqb (σ (phase t)) 0) _ _
       (λ d. idle-fine (step t))
-      (λ d. producer-fine t (omega arith, ltb-false (z .P) t b) (pick z σ) (right z σ))))
+      (λ d. producer-fine t (omega arith, ltb-false (z .P) t b) c choice)))
 
-  pub effect-fine : (pick : Picker) → Picks pick → (q : Request) → Fine z σ γ q (effect pick q z σ)
-  unfolding effect
-  effect-fine pick right (startEnqueue t v) = start-enqueue-fine z σ γ good t v
-  effect-fine pick right startDequeue = start-dequeue-fine z σ γ good
-  effect-fine pick right (step t) = step-fine pick right t
+  pub effect-fine : (c : ℕ) → LooseChoice z σ c → (q : Request) → Fine z σ γ q (effectTaking c q z σ)
+  effect-fine c choice (startEnqueue t v) = start-enqueue-fine z σ γ good t v
+  effect-fine c choice startDequeue = start-dequeue-fine z σ γ good
+  effect-fine c choice (step t) = step-fine c choice t
+
+  pub next-choice : LooseChoice z σ (nextFree z σ)
+  next-choice =
+      next-free-loose z σ (good .memory) (has-sort z record-number (σ lastClaimed) (good .range .words lastClaimed tt) .1)

@@ -10,9 +10,9 @@ use lib.ListN.{length, getD, drop, replicate, length-append, length-replicate, g
 use borrow.Author.Tests.{eqb-true}
 use Rattle.history.specs.Lists.{All}
 use Rattle.rules.specs.Sizes.{Sizes, sizesInRange, mostPlace, storeWords}
-use Rattle.rules.specs.Cell.{Cell, content, consumer, producer, part, entry, Reader, reader, there, address, used}
+use Rattle.rules.specs.Cell.{Cell, content, lastClaimed, spare, consumer, producer, part, entry, Reader, reader, there, address, used}
 use Rattle.rules.specs.Update.{after}
-use Rattle.rules.specs.Range.{number, link, most, any, ofSort, contentSorts, partSorts, entrySorts}
+use Rattle.rules.specs.Range.{number, link, most, any, ofSort, contentSorts, lastClaimedSort, spareSorts, partSorts, entrySorts}
 use Rattle.rules.specs.Request.{openWrites, opened}
 use Rattle.rules.specs.Address.{There, there-has, address-below}
 use Rattle.rules.specs.Readback.{WriteThere, length-writes, reader-writes}
@@ -67,7 +67,7 @@ module _ (z : Sizes) (sizes : sizesInRange z ≡ true) where
   open-there : All (WriteThere z) (openWrites z)
   open-there =
       let a : 0 < z .N = omega (arith, l .two-records) in
-      (omega arith, (omega arith, (omega arith, (omega arith, (omega arith, (omega arith, (omega arith, (omega arith, ((a, omega arith), ((a, omega arith), tt))))))))))
+      (omega arith, (omega arith, (omega arith, (omega arith, (omega arith, (omega arith, (omega arith, (omega arith, (tt, ((a, omega arith), ((a, omega arith), tt)))))))))))
 
   -- the words of an opened store
   pub open-reads : (m : List ℕ) → reader z (opened z m) ≡ openReader z
@@ -99,6 +99,13 @@ module _ (z : Sizes) (sizes : sizesInRange z ≡ true) where
   no-entry (suc (suc zero)) = refl
   no-entry (suc (suc (suc k))) = refl
 
+  no-spare : (k : ℕ) → ofSort z (getD spareSorts k any) 0 ≡ true
+  no-spare zero = refl
+  no-spare (suc zero) = refl
+  no-spare (suc (suc zero)) = refl
+  no-spare (suc (suc (suc zero))) = refl
+  no-spare (suc (suc (suc (suc k)))) = refl
+
   open-range : InRange z (openReader z)
   open-range = record { words = words; consuming = refl; producing = λ t a b. refl }
     where
@@ -111,7 +118,7 @@ module _ (z : Sizes) (sizes : sizesInRange z ≡ true) where
               refl,
               (
                 refl,
-                (refl, (refl, (refl, (none, (one, (one, (none, (none, (refl, (refl, (refl, (refl, (refl, tt))))))))))))),
+                (refl, (refl, (refl, (none, (one, (one, (none, (none, tt)))))))),
               ),
             ),
           )
@@ -119,6 +126,8 @@ module _ (z : Sizes) (sizes : sizesInRange z ≡ true) where
       words : (c : Cell) → There z c → ofSort z (sortOf z c) (openReader z c) ≡ true
       words (content k) h =
           row-at z (λ j. openReader z (content j)) (contentSorts z) (of-sorts z (λ j. openReader z (content j)) 0 (contentSorts z) contents) k h
+      words lastClaimed h = of-sort z lastClaimedSort 1 (omega arith, omega (arith, l .two-records))
+      words (spare k) h = no-spare k
       words (consumer k) h = refl
       words (producer t k) h = refl
       words (part r k) h = first-part r k

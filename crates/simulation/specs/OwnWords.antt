@@ -8,7 +8,7 @@ use Rattle.history.specs.Lists.{All}
 use Rattle.history.specs.Event.{History}
 use Rattle.history.specs.Form.{wellFormed}
 use Rattle.rules.specs.Sizes.{Sizes}
-use Rattle.rules.specs.Cell.{Cell, content, consumer, producer, part, entry, Reader, Area, contents, ofConsumer, ofProducer, ofRecord, Write, _:=_, clear, tailRecord, headRecord, cursorRecord, foundRecord, tail, headPosition, starts, place}
+use Rattle.rules.specs.Cell.{Cell, content, lastClaimed, spare, consumer, producer, part, entry, Reader, Area, contents, ofConsumer, ofProducer, ofRecord, Write, _:=_, clear, tailRecord, headRecord, cursorRecord, foundRecord, tail, headPosition, starts, place}
 use Rattle.rules.specs.Update.{areaOf, after, OtherKind, other-kind, Own, own-leaves}
 use Rattle.rules.specs.Address.{AreaThere}
 use Rattle.rules.specs.Range.{producerInRange, consumerInRange}
@@ -44,6 +44,8 @@ of-producer z t h = record { in-sort = refl; is-there = h; no-contents = refl; n
 -- Its words are in range and there.
 pub own-sorted : (z : Sizes) (t : ℕ) (a : Area) → Thread z t a → (w : Write) → Own a w → InSort z t w × WriteThere z w
 own-sorted z t a th (content k := v) h = absurd (other-kind contents a (th .no-contents) (h .0))
+own-sorted z t a th (lastClaimed := v) h = absurd (other-kind contents a (th .no-contents) (h .0))
+own-sorted z t a th (spare k := v) h = absurd (other-kind contents a (th .no-contents) (h .0))
 own-sorted z t a th (consumer k := v) h = (subst⁻¹ (λ (b : Area). InSort z t (clear b)) (h .0) (th .in-sort), h .1)
 own-sorted z t a th (producer u k := v) h =
     let is : AreaThere z (ofProducer u) = subst⁻¹ (AreaThere z) (h .0) (th .is-there) in

@@ -15,7 +15,6 @@ use Rattle.rules.specs.Sizes.{Sizes}
 use Rattle.rules.specs.Cell.{Reader, Write, clearProducer, place, used, phase, call, value, position, held, producer}
 use Rattle.rules.specs.Update.{after}
 use Rattle.rules.specs.Range.{lastProducerPhase, producerSorts}
-use Rattle.rules.specs.Free.{free, Choice}
 use Rattle.rules.specs.Rule.{going, ended}
 use Rattle.rules.specs.Producer.{claimRecord, claimAhead}
 use Rattle.rules.specs.Request.{step}
@@ -24,8 +23,8 @@ use Rattle.model.specs.State.{idle, callOf}
 use Rattle.model.specs.Enqueues.{finish-keeps}
 use Rattle.memory.specs.Memory.{rowOf, Memory}
 use Rattle.memory.specs.OtherThreads.{others-kept}
-use Rattle.memory.specs.Loose.{Loose, free-loose}
-use Rattle.memory.specs.Claiming.{claimWrites, claim-keeps}
+use Rattle.memory.specs.Loose.{Loose, LooseChoice}
+use Rattle.memory.specs.Claiming.{claimWrites, claim-in-sort, claim-keeps}
 use Rattle.simulation.specs.View.{Ghost, placesOf, placeOf, producerAt, producersOf, view, cellOf}
 use Rattle.simulation.specs.Good.{Good, Goes, Fine}
 use Rattle.simulation.specs.Rows.{ProducerWords, producer-row-of}
@@ -45,7 +44,7 @@ module _ (z : Sizes) (σ : Reader) (γ : Ghost) (good : Good z σ γ) (t : ℕ) 
       → Goes z σ γ (step t) going (claimWrites t r p′)
   claims p p′ r e past fits loose same-seen l row =
       record-goes z σ γ good t a-producer (step t) going ws γ in-sort
-      (fits, ((fits, omega arith), ((a-producer .0, a-producer .1, omega arith), ((a-producer .0, a-producer .1, omega arith), tt))))
+      (fits, ((fits, omega arith), (tt, ((a-producer .0, a-producer .1, omega arith), ((a-producer .0, a-producer .1, omega arith), tt)))))
       (producer-row-of z (rowOf σ′ t) p′ new-phase l row)
       (claim-keeps z σ (γ .shape) m t r p′ a-producer fits loose holds-one)
       (agrees-kept (z .B) (γ .shape .lo) (γ .shape .hi) (γ .shape .at) (γ .entry) (γ .content) (cellOf σ) (cellOf σ′)
@@ -69,7 +68,7 @@ module _ (z : Sizes) (σ : Reader) (γ : Ghost) (good : Good z σ γ) (t : ℕ) 
       σ′ = after σ ws
 
       in-sort : All (InSort z t) ws
-      in-sort = (tt, (refl, (refl, (refl, tt))))
+      in-sort = claim-in-sort z t r p′ fits
 
       holds-one : σ (held t) ≢ 0
       holds-one = m .threads t .has-held (omega arith)
@@ -99,16 +98,16 @@ module _ (z : Sizes) (σ : Reader) (γ : Ghost) (good : Good z σ γ) (t : ℕ) 
           (place-same σ σ′ r places (σ (held t)) (loose .not-held t))
 
   -- 4. Claim a record; to 5. Refusal 8: no record free.
-  pub claim-record-fine : σ (phase t) ≡ 4 → (c : ℕ) → Choice z σ c → Fine z σ γ (step t) (claimRecord z σ t c)
+  pub claim-record-fine : σ (phase t) ≡ 4 → (c : ℕ) → LooseChoice z σ c → Fine z σ γ (step t) (claimRecord z σ t c)
   unfolding claimRecord
   claim-record-fine e zero none = ((λ q. omega arith), (λ q. omega arith))
   claim-record-fine e (suc r) one =
       let old = own-words z σ γ good t a-producer 4 e in
-      claims 4 5 r e (omega arith) (one .0) (free-loose z σ r (good .memory) (one .1)) (λ n v L k. refl) (omega arith)
+      claims 4 5 r e (omega arith) (one .0) (one .1) (λ n v L k. refl) (omega arith)
       (record { call = old .call; value = tt; position = old .position; held = old .held; claimed = rw self (one .0); backed = old .backed; spare = old .spare })
 
   -- 10. If none is free, end; else claim; to 11.
-  pub claim-ahead-fine : σ (phase t) ≡ 10 → (c : ℕ) → Choice z σ c → Fine z σ γ (step t) (claimAhead z σ t c)
+  pub claim-ahead-fine : σ (phase t) ≡ 10 → (c : ℕ) → LooseChoice z σ c → Fine z σ γ (step t) (claimAhead z σ t c)
   unfolding claimAhead
   claim-ahead-fine e zero none =
       let row : (k : ℕ) → after σ (clearProducer t ∷ []) (producer t k) ≡ 0 = λ k. rw self refl in
@@ -125,5 +124,5 @@ module _ (z : Sizes) (σ : Reader) (γ : Ghost) (good : Good z σ γ) (t : ℕ) 
       (end-adds z σ γ good t _ is)
   claim-ahead-fine e (suc r) one =
       let old = own-words z σ γ good t a-producer 10 e in
-      claims 10 11 r e (omega arith) (one .0) (free-loose z σ r (good .memory) (one .1)) (λ n v L k. refl) (omega arith)
+      claims 10 11 r e (omega arith) (one .0) (one .1) (λ n v L k. refl) (omega arith)
       (record { call = old .call; value = tt; position = old .position; held = old .held; claimed = rw self (one .0); backed = old .backed; spare = old .spare })

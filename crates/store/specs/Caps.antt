@@ -4,7 +4,7 @@ use Prim.Native.Nat.{ℕ}
 use lib.ListN.{getD}
 use Rattle.history.specs.Event.{mostProducers}
 use Rattle.rules.specs.Sizes.{Sizes, mostEntries, mostRecords, mostStarts, mostPlace, contentWords, recordWords}
-use Rattle.rules.specs.Cell.{Cell, content, consumer, producer, part, entry}
+use Rattle.rules.specs.Cell.{Cell, content, lastClaimed, spare, consumer, producer, part, entry}
 use Rattle.rules.specs.Range.{Sort, unused, exactly, number, link, record-number, most, any, lastConsumerPhase, lastProducerPhase}
 
 -- the largest 32-bit number
@@ -33,10 +33,12 @@ abbrev pub consumerCaps : Sizes → List ℕ
 consumerCaps z = z .N ∷ z .M ∷ z .N ∷ z .M ∷ z .M ∷ mostWord ∷ 0 ∷ []
 
 abbrev pub contentCaps : Sizes → List ℕ
-contentCaps z = z .B ∷ z .N ∷ z .P ∷ z .M ∷ contentWords ∷ mostWord ∷ z .M ∷ z .N ∷ z .N ∷ z .M ∷ z .M ∷ 0 ∷ 0 ∷ 0 ∷ 0 ∷ 0 ∷ []
+contentCaps z = z .B ∷ z .N ∷ z .P ∷ z .M ∷ contentWords ∷ mostWord ∷ z .M ∷ z .N ∷ z .N ∷ z .M ∷ z .M ∷ []
 
 abbrev pub capOf : Sizes → Cell → ℕ
 capOf z (content k) = getD (contentCaps z) k 0
+capOf z lastClaimed = z .N
+capOf z (spare k) = 0
 capOf z (consumer k) = getD (lastConsumerPhase ∷ consumerCaps z) k 0
 capOf z (producer t k) = getD (lastProducerPhase ∷ producerCaps z) k 0
 capOf z (part r k) = getD (mostPlace ∷ z .N ∷ z .N ∷ 3 ∷ []) k 0

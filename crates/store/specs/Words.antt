@@ -10,9 +10,9 @@ use lib.ListN.{length, getD, set, replicate}
 use lib.Seq.{sets}
 use borrow.Author.Tests.{leb-true, eqb-true}
 use Rattle.rules.specs.Sizes.{Sizes, recordWords, firstRecord, mostEntries, mostRecords, mostPlace}
-use Rattle.rules.specs.Cell.{Cell, content, consumer, producer, part, entry, address, reader}
+use Rattle.rules.specs.Cell.{Cell, content, lastClaimed, spare, consumer, producer, part, entry, address, reader}
 use Rattle.rules.specs.Update.{both}
-use Rattle.rules.specs.Range.{Sort, unused, exactly, number, link, record-number, most, any, ofSort, ofSorts, threadInRange, placedSorts, consumerSorts, producerSorts, contentSorts, lastConsumerPhase, lastProducerPhase}
+use Rattle.rules.specs.Range.{Sort, unused, exactly, number, link, record-number, most, any, ofSort, ofSorts, threadInRange, placedSorts, consumerSorts, producerSorts, contentSorts, lastClaimedSort, lastConsumerPhase, lastProducerPhase}
 use Rattle.rules.specs.Address.{There, there-is}
 use Rattle.rules.specs.InRange.{sorts-at, sortOf}
 use Rattle.store.specs.Caps.{mostRecordWords, cap, capOf, mostWord, producerCaps, consumerCaps, contentCaps}
@@ -101,6 +101,13 @@ entry-cap z (suc zero) h = omega arith
 entry-cap z (suc (suc zero)) h = omega arith
 entry-cap z (suc (suc (suc k))) h = absurd (omega arith)
 
+spare-cap : (z : Sizes) (k : ℕ) → k < 4 → cap z (sortOf z (spare k)) ≤ capOf z (spare k)
+spare-cap z zero h = omega arith
+spare-cap z (suc zero) h = omega arith
+spare-cap z (suc (suc zero)) h = omega arith
+spare-cap z (suc (suc (suc zero))) h = omega arith
+spare-cap z (suc (suc (suc (suc k)))) h = absurd (omega arith)
+
 content-under : (z : Sizes) → firstRecord z ≤ mostWord → Under z (contentSorts z) (contentCaps z)
 content-under z f = omega arith
 
@@ -109,6 +116,11 @@ in-range-most : (z : Sizes) (m : List ℕ) → Admitted z m → (c : Cell) → T
 in-range-most z m a (content k) h w =
     let x = sort-cap z (getD (contentSorts z) k any) (reader z m (content k)) w (a .ranges .words (content k) h) in
     let y = under-at z (contentSorts z) (contentCaps z) (content-under z (omega arith)) k h in
+    omega arith
+in-range-most z m a lastClaimed h w = sort-cap z lastClaimedSort (reader z m lastClaimed) w (a .ranges .words lastClaimed h)
+in-range-most z m a (spare k) h w =
+    let x = sort-cap z (sortOf z (spare k)) (reader z m (spare k)) w (a .ranges .words (spare k) h) in
+    let y = spare-cap z k (omega arith) in
     omega arith
 in-range-most z m a (consumer k) h w =
     thread-cap z lastConsumerPhase consumerSorts (consumerCaps z) (λ j. reader z m (consumer j)) (λ p l. row-under z consumerSorts (consumerCaps z) (consumer-rows z) p (omega arith)) (a .ranges .consuming) k h w

@@ -6,7 +6,7 @@ ghost use lib.ListN.{length, set, replicate};
 ghost use lib.Seq.{sets};
 ghost use Rattle.history.specs.Event.{mostProducers};
 ghost use Rattle.rules.specs.Sizes.{firstRecord, recordWords, storeWords, mostEntries, mostRecords, mostPlace, mostWords};
-ghost use Rattle.rules.specs.Cell.{reader, place, used, write, _:=_, content, consumer, producer, part, entry, headRecord, headPosition, cursorRecord, cursorPosition, foundRecord, foundPosition, clearConsumer, clearProducer, wipe};
+ghost use Rattle.rules.specs.Cell.{reader, place, used, write, _:=_, content, lastClaimed, consumer, producer, part, entry, headRecord, headPosition, cursorRecord, cursorPosition, foundRecord, foundPosition, clearConsumer, clearProducer, wipe};
 ghost use Rattle.rules.specs.Address.{There};
 ghost use Rattle.store.specs.Shape.{sizes};
 ghost use Rattle.store.specs.Caps.{mostRecordWords};
@@ -165,6 +165,21 @@ pub fn read_contents(s: &[u32], z: Shape) -> Contents
         head_position: content_word(s, z, word::HEAD_POSITION),
         starts: content_word(s, z, word::STARTS),
     }
+}
+
+// The record claimed last, a link.
+pub fn last_claimed(s: &[u32], z: Shape) -> u32
+    requires { ⌜ Admitted (sizes z) (now s) ⌝ }
+    ensures { λ r. ⌜ Reads (sizes z) (now (s .entry)) lastClaimed r ⌝ }
+{
+    word_at(s, z, word::LAST_CLAIMED)
+}
+
+pub fn put_last_claimed(s: &mut [u32], z: Shape, link: u32)
+    requires { ⌜ Room (sizes z) (now s) ⌝ }
+    ensures { λ _. ⌜ now (s .exit) ≡ write (sizes z) (now (s .entry)) (lastClaimed := link) ⌝ }
+{
+    put_word(s, z, word::LAST_CLAIMED, link);
 }
 
 // Word k of the consumer.

@@ -24,6 +24,9 @@ pub const HEAD_POSITION: u32 = 9;
 
 pub const STARTS: u32 = 10;
 
+// Word 11, the record claimed last.
+pub const LAST_CLAIMED: u32 = 11;
+
 // A thread's phase.
 pub const PHASE: u32 = 0;
 

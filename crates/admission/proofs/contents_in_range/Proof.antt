@@ -2,7 +2,7 @@
 use mathlib.Core.Bool.{and-true}
 use mathlib.Core.Path.{_≡_, refl, _∙_}
 use native.Mathlib.Omega.{arith}
-use lib.Dec.{eqb}
+use lib.Dec.{leb, eqb}
 use lib.ListN.{getD}
 use borrow.Author.Needs.{needs}
 use denote.Ref.{now}
@@ -14,21 +14,6 @@ use Rattle.admission.proofs.contents_in_range.Tie as tie
 
 record-at-requires : tie.Need-record-at-requires
 record-at-requires c κs = search needs
-
-shared-slice-read-spare : tie.Need-shared-slice-read-spare
-shared-slice-read-spare c = search needs
-
-shared-slice-read-spare-2 : tie.Need-shared-slice-read-spare-2
-shared-slice-read-spare-2 c = search needs
-
-shared-slice-read-spare-3 : tie.Need-shared-slice-read-spare-3
-shared-slice-read-spare-3 c = search needs
-
-shared-slice-read-spare-4 : tie.Need-shared-slice-read-spare-4
-shared-slice-read-spare-4 c = search needs
-
-shared-slice-read-spare-5 : tie.Need-shared-slice-read-spare-5
-shared-slice-read-spare-5 c = search needs
 
 shared-slice-read-counts : tie.Need-shared-slice-read-counts
 shared-slice-read-counts c = search needs
@@ -48,38 +33,57 @@ shared-slice-read-records-3 c = search needs
 shared-slice-read-records-4 : tie.Need-shared-slice-read-records-4
 shared-slice-read-records-4 c = search needs
 
+shared-slice-read-contents : tie.Need-shared-slice-read-contents
+shared-slice-read-contents c = search needs
+
+shared-slice-read-contents-2 : tie.Need-shared-slice-read-contents-2
+shared-slice-read-contents-2 c = search needs
+
+shared-slice-read-contents-3 : tie.Need-shared-slice-read-contents-3
+shared-slice-read-contents-3 c = search needs
+
+shared-slice-read-spare : tie.Need-shared-slice-read-spare
+shared-slice-read-spare c = search needs
+
+shared-slice-read-spare-2 : tie.Need-shared-slice-read-spare-2
+shared-slice-read-spare-2 c = search needs
+
+shared-slice-read-spare-3 : tie.Need-shared-slice-read-spare-3
+shared-slice-read-spare-3 c = search needs
+
+shared-slice-read-spare-4 : tie.Need-shared-slice-read-spare-4
+shared-slice-read-spare-4 c = search needs
+
 shared-slice-read-result : tie.Need-shared-slice-read-result
 shared-slice-read-result c = search needs
 
 shared-slice-read-result-2 : tie.Need-shared-slice-read-result-2
 shared-slice-read-result-2 c = search needs
 
-shared-slice-read-result-3 : tie.Need-shared-slice-read-result-3
-shared-slice-read-result-3 c = search needs
-
 returns : tie.Need-returns
 returns c =
-    let b = c .before .before .before .before .before .before .before .before .before .before .before .before .before .before .before .before .args in
-    let first : c .before .before .before .before .before .before .before .before .before .before .before .before .before .before .record-at .result ≡ firstRecord (sizes (b .z)) = omega arith in
-    contents-test (sizes (b .z)) (now (b .s)) (c .before .before .before .before .before .before .before .before .before .before .before .before .before .before .before .before .pre .1) ∙ rw (and-true (eqb (getD (now (b .s)) 15 0) 0), first) refl
+    let b = c .before .before .before .before .before .before .before .before .before .before .before .before .before .before .before .before .before .args in
+    let first : c .before .before .before .before .before .before .before .before .before .before .before .before .before .before .before .record-at .result ≡ firstRecord (sizes (b .z)) = omega arith in
+    contents-test (sizes (b .z)) (now (b .s)) (c .before .before .before .before .before .before .before .before .before .before .before .before .before .before .before .before .before .pre .1) ∙ rw (and-true (leb (getD (now (b .s)) 10 0) (b .z .starts)), and-true (eqb (getD (now (b .s)) 15 0) 0), first) refl
 
 pub contents-in-range-spec : {M : Type 1} → statement M
 contents-in-range-spec =
     tie.close
     (tie.spec
     record-at-requires
-    shared-slice-read-spare
-    shared-slice-read-spare-2
-    shared-slice-read-spare-3
-    shared-slice-read-spare-4
-    shared-slice-read-spare-5
     shared-slice-read-counts
     shared-slice-read-counts-2
     shared-slice-read-records
     shared-slice-read-records-2
     shared-slice-read-records-3
     shared-slice-read-records-4
+    shared-slice-read-contents
+    shared-slice-read-contents-2
+    shared-slice-read-contents-3
+    shared-slice-read-spare
+    shared-slice-read-spare-2
+    shared-slice-read-spare-3
+    shared-slice-read-spare-4
     shared-slice-read-result
     shared-slice-read-result-2
-    shared-slice-read-result-3
     returns)

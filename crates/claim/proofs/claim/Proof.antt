@@ -6,8 +6,8 @@ use Rattle.store.specs.Branches.{some, suc-pred}
 use Rattle.claim.proofs.claim.Statement.{statement}
 use Rattle.claim.proofs.claim.Tie as tie
 
-lowest-free-requires : tie.Need-lowest-free-requires
-lowest-free-requires c κs = search needs
+next-free-requires : tie.Need-next-free-requires
+next-free-requires c κs = search needs
 
 same-length : tie.Need-same-length
 same-length c = search needs
@@ -27,6 +27,9 @@ sub-put-use c = search needs
 put-use-requires : tie.Need-put-use-requires
 put-use-requires c κs = search needs
 
+put-last-claimed-requires : tie.Need-put-last-claimed-requires
+put-last-claimed-requires c κs = search needs
+
 put-producer-requires : tie.Need-put-producer-requires
 put-producer-requires c κs = search needs
 
@@ -40,21 +43,22 @@ returns-2 : tie.Need-returns-2
 unfolding writes
 returns-2 c =
     record {
-      found = c .before .before .before .before .before .before .before .before .before .before .before .before .before .before .before .before .before .lowest-free .ensures .0;
-      words = rw (some refl (c .before .before .before .before .before .before .before .before .before .before .before .before .before .before .before .before .if1 .left), suc-pred (c .before .before .before .before .before .before .before .before .before .before .before .before .before .before .before .before .if1 .left), c .before .before .put-producer2 .ensures, c .before .before .before .before .before .before .put-producer .ensures, c .before .before .before .before .before .before .before .before .before .before .put-use .ensures, c .before .before .before .before .before .before .before .before .before .before .before .before .before .before .wipe-record .ensures) refl;
+      found = c .before .before .before .before .before .before .before .before .before .before .before .before .before .before .before .before .before .before .before .before .before .next-free .ensures .0;
+      words = rw (some refl (c .before .before .before .before .before .before .before .before .before .before .before .before .before .before .before .before .before .before .before .before .if1 .left), suc-pred (c .before .before .before .before .before .before .before .before .before .before .before .before .before .before .before .before .before .before .before .before .if1 .left), c .before .before .put-producer2 .ensures, c .before .before .before .before .before .before .put-producer .ensures, c .before .before .before .before .before .before .before .before .before .before .put-last-claimed .ensures, c .before .before .before .before .before .before .before .before .before .before .before .before .before .before .put-use .ensures, c .before .before .before .before .before .before .before .before .before .before .before .before .before .before .before .before .before .before .wipe-record .ensures) refl;
     }
 
 pub claim-spec : {M : Type 1} → statement M
 claim-spec =
     tie.close
     (tie.spec
-    lowest-free-requires
+    next-free-requires
     same-length
     returns
     sub-wipe-record
     wipe-record-requires
     sub-put-use
     put-use-requires
+    put-last-claimed-requires
     put-producer-requires
     put-producer-requires-2
     same-length-2

@@ -3,7 +3,6 @@ use mathlib.Core.Path.{_∙_}
 use native.Mathlib.Omega.{arith}
 use borrow.Author.Needs.{needs}
 use denote.Ref.{now}
-use Rattle.rules.specs.Free.{lowestFree}
 use Rattle.rules.specs.Request.{startEnqueue, effect}
 use Rattle.admission.specs.Admit.{admitted-by}
 use Rattle.engine.specs.Calls.{call-refused, call-answered, admitted-as}
@@ -17,7 +16,7 @@ same-length : tie.Need-same-length
 same-length c = search needs
 
 returns : tie.Need-returns
-returns c = call-refused lowestFree (startEnqueue (c .before .before .before .before .args .t) (c .before .before .before .before .args .v)) (now (c .before .before .before .before .args .s)) (c .before .admit .result) (c .before .admit .ensures) (c .if1 .taken)
+returns c = call-refused (startEnqueue (c .before .before .before .before .args .t) (c .before .before .before .before .args .v)) (now (c .before .before .before .before .args .s)) (c .before .admit .result) (c .before .admit .ensures) (c .if1 .taken)
 
 shape-of-requires : tie.Need-shape-of-requires
 shape-of-requires c κs = omega (arith, admitted-by (now (c .before .before .before .before .before .before .args .s)) (c .before .before .before .admit .ensures ∙ c .before .before .if1 .left))
@@ -37,7 +36,7 @@ returns-2 c =
     let if1 = c .before .before .before .before .before .before .if1 in
     let shape-of = c .before .before .before .shape-of in
     let begin-enqueue = c .before .before .begin-enqueue in
-    call-answered lowestFree (startEnqueue (args .t) (args .v)) (now (args .s)) _ (shape-of .result) (shape-of .ensures) (admit .ensures ∙ if1 .left) (begin-enqueue .ensures)
+    call-answered (startEnqueue (args .t) (args .v)) (now (args .s)) _ (shape-of .result) (shape-of .ensures) (admit .ensures ∙ if1 .left) (begin-enqueue .ensures)
 
 pub start-enqueue-spec : {M : Type 1} → statement M
 start-enqueue-spec =

@@ -3,13 +3,13 @@ use mathlib.Core.Path.{refl}
 use native.Mathlib.Omega.{arith}
 use borrow.Author.Needs.{needs}
 use borrow.Author.Tests.{lt-ltb}
-use Rattle.rules.specs.Request.{applied, stepping}
+use Rattle.rules.specs.Request.{applied, stepping, effect}
 use Rattle.engine.specs.Calls.{consumer-idle, consumer-steps, producer-idle, producer-steps, past}
 use Rattle.engine.proofs.step_thread.Statement.{statement}
 use Rattle.engine.proofs.step_thread.Tie as tie
 
 returns : tie.Need-returns
-unfolding stepping applied
+unfolding effect stepping applied
 returns c = rw (lt-ltb _ _ (c .if1 .taken)) refl
 
 read-consumer-requires : tie.Need-read-consumer-requires

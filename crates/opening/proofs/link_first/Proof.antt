@@ -11,6 +11,9 @@ put-content-requires c κs = search needs
 put-content-requires-2 : tie.Need-put-content-requires-2
 put-content-requires-2 c κs = search needs
 
+put-last-claimed-requires : tie.Need-put-last-claimed-requires
+put-last-claimed-requires c κs = search needs
+
 put-part-requires : tie.Need-put-part-requires
 put-part-requires c κs = search needs
 
@@ -22,7 +25,7 @@ same-length c = search needs
 
 returns : tie.Need-returns
 unfolding writes
-returns c = rw (c .before .before .put-use .ensures, c .before .before .before .before .before .before .put-part .ensures, c .before .before .before .before .before .before .before .before .before .before .put-content2 .ensures, c .before .before .before .before .before .before .before .before .before .before .before .before .before .before .put-content .ensures) refl
+returns c = rw (c .before .before .put-use .ensures, c .before .before .before .before .before .before .put-part .ensures, c .before .before .before .before .before .before .before .before .before .before .put-last-claimed .ensures, c .before .before .before .before .before .before .before .before .before .before .before .before .before .before .put-content2 .ensures, c .before .before .before .before .before .before .before .before .before .before .before .before .before .before .before .before .before .before .put-content .ensures) refl
 
 pub link-first-spec : {M : Type 1} → statement M
 link-first-spec =
@@ -30,6 +33,7 @@ link-first-spec =
     (tie.spec
     put-content-requires
     put-content-requires-2
+    put-last-claimed-requires
     put-part-requires
     put-use-requires
     same-length

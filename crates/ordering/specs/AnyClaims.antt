@@ -1,0 +1,140 @@
+-- Two runs of the same calls from an accepted open, whose claims find a record at the same steps, give the same replies, whichever loose
+-- records they take: their stores stay alike. (Free records are loose. The rules' own run is the one whose claims take the next free
+-- record: `Theorem.play-is`.)
+use mathlib.Core.Path.{_≡_, refl, ap, ap₂}
+use mathlib.Core.List.{List, [], _∷_, _++_}
+use Prim.Native.Nat.{ℕ}
+use Rattle.history.specs.Event.{History}
+use Rattle.rules.specs.Sizes.{Sizes}
+use Rattle.rules.specs.Cell.{Reader, reader}
+use Rattle.rules.specs.Rule.{Effect, refuse, reply, Response, refused, accepted, ok}
+use Rattle.rules.specs.Request.{Request, Result, applied, open-store}
+use Rattle.rules.specs.Play.{Played, events}
+use Rattle.rules.specs.Readback.{reader-writes}
+use Rattle.simulation.specs.Good.{Fine}
+use Rattle.simulation.specs.Every.{effectTaking, effect-fine}
+use Rattle.renaming.specs.Renaming.{unchanged}
+use Rattle.renaming.specs.Alike.{alike-itself}
+use Rattle.renaming.specs.AlikeEffects.{Stores, Like}
+use Rattle.renaming.specs.AlikeRecords.{Twins}
+use Rattle.renaming.specs.AlikeClaims.{BothChoose}
+use Rattle.renaming.specs.AlikeEvery.{answer-alike}
+use Rattle.ordering.specs.Theorem.{Maintained, playTaking, keeps-taking, opened-kept}
+
+-- A call in two runs: the records that its claim takes in the one and in the other, plus one; zero for none.
+pub record Twice : Type 0 where
+  pub request : Request
+  pub one : ℕ
+  pub other : ℕ
+
+-- The two runs.
+pub record Runs : Type 0 where
+  pub first : Played
+  pub second : Played
+
+abbrev pub makeBoth : Sizes → Twice → Runs → Runs
+makeBoth z x r = record { first = playTaking z (x .one) (x .request) (r .first); second = playTaking z (x .other) (x .request) (r .second) }
+
+abbrev pub runBoth : Sizes → List Twice → Runs → Runs
+runBoth z [] r = r
+runBoth z (x ∷ xs) r = runBoth z xs (makeBoth z x r)
+
+-- Along them every claim takes a loose record in both, or none in both.
+abbrev pub Choosing : Sizes → List Twice → Runs → Type 0
+Choosing z [] r = Unit
+Choosing z (x ∷ xs) r =
+    BothChoose z (reader z (r .first .words)) (reader z (r .second .words)) (x .one) (x .other) × Choosing z xs (makeBoth z x r)
+
+-- Every reply of the one is that of the other, and so is every event.
+pub record SameReplies (r : Runs) : Type 0 where
+  pub replies : r .first .replies ≡ r .second .replies
+  pub history : r .first .history ≡ r .second .history
+
+-- What every call keeps of two runs.
+record Together (z : Sizes) (r : Runs) : Type 0 where
+  one : Maintained z (r .first)
+  other : Maintained z (r .second)
+  stores : Stores z (reader z (r .first .words)) (reader z (r .second .words))
+  so-far : SameReplies r
+
+-- Two results with one reply and stores alike.
+record Both (z : Sizes) (a b : Result) : Type 0 where
+  reply-same : a .reply ≡ b .reply
+  stores : Stores z (reader z (a .words)) (reader z (b .words))
+
+-- One call.
+module _ {z : Sizes} {r : Runs} (k : Together z r) (x : Twice)
+    (choice : BothChoose z (reader z (r .first .words)) (reader z (r .second .words)) (x .one) (x .other)) where
+  abbrev σ : Reader
+  σ = reader z (r .first .words)
+
+  abbrev τ : Reader
+  τ = reader z (r .second .words)
+
+  by-answers : (a b : Effect) → Fine z σ (k .one .beside) (x .request) a → Fine z τ (k .other .beside) (x .request) b
+      → Like z σ τ a b → Both z (applied z (r .first .words) a) (applied z (r .second .words) b)
+  unfolding applied
+  by-answers (refuse n) (refuse m) f g l = record { reply-same = ap refused (l .answers); stores = k .stores }
+  by-answers (refuse n) (reply s vs) f g l = absurd (l .answers)
+  by-answers (reply s ws) (refuse m) f g l = absurd (l .answers)
+  by-answers (reply s ws) (reply t vs) f g l =
+      record {
+        reply-same = ap accepted (l .answers .0);
+        stores =
+            rw (
+              reader-writes z (r .first .words) ws (k .one .fits) (f .there),
+              reader-writes z (r .second .words) vs (k .other .fits) (g .there),
+            )
+            (l .answers .1);
+      }
+
+  twins : Twins z σ τ
+  twins =
+      record {
+        γ = k .one .beside;
+        δ = k .other .beside;
+        good = k .one .good;
+        good′ = k .other .good;
+        stores = k .stores;
+      }
+
+  results : Both z (applied z (r .first .words) (effectTaking (x .one) (x .request) z σ)) (applied z (r .second .words) (effectTaking (x .other) (x .request) z τ))
+  results =
+      by-answers (effectTaking (x .one) (x .request) z σ) (effectTaking (x .other) (x .request) z τ)
+      (effect-fine z σ (k .one .beside) (k .one .good) (x .one) (choice .first) (x .request))
+      (effect-fine z τ (k .other .beside) (k .other .good) (x .other) (choice .second) (x .request))
+      (answer-alike twins (x .one) (x .other) choice (x .request))
+
+  goes-on : Together z (makeBoth z x r)
+  goes-on =
+      record {
+        one = keeps-taking (k .one) (x .request) (x .one) (choice .first);
+        other = keeps-taking (k .other) (x .request) (x .other) (choice .second);
+        stores = results .stores;
+        so-far =
+            record {
+              replies = ap₂ (λ (a : Response) (rs : List Response). a ∷ rs) (results .reply-same) (k .so-far .replies);
+              history = ap₂ (λ (a : Response) (h : History). events (x .request) h a ++ h) (results .reply-same) (k .so-far .history);
+            };
+      }
+
+-- All of them.
+all-go-on : {z : Sizes} (xs : List Twice) {r : Runs} → Together z r → Choosing z xs r → Together z (runBoth z xs r)
+all-go-on [] k h = k
+all-go-on (x ∷ xs) k h = all-go-on xs (goes-on k x (h .0)) (h .1)
+
+pub any-claims : (z : Sizes) (m : List ℕ) (xs : List Twice) → open-store z m .reply ≡ accepted ok
+    → let start : Played = record { words = open-store z m .words; replies = []; history = [] } in
+    let both : Runs = record { first = start; second = start } in
+    Choosing z xs both → SameReplies (runBoth z xs both)
+any-claims z m xs opens h =
+    let start : Maintained z (record { words = open-store z m .words; replies = []; history = [] }) = opened-kept z m opens in
+    all-go-on xs
+    (record {
+      one = start;
+      other = start;
+      stores = record { renaming = unchanged (z .N); alike = alike-itself (reader z (open-store z m .words)) };
+      so-far = record { replies = refl; history = refl };
+    })
+    h
+    .so-far
