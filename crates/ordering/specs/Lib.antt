@@ -1,4 +1,5 @@
 pub mod Demand
 pub mod Theorem
 pub mod MarkedRuns
+pub mod SameWords
 pub mod AnyClaims

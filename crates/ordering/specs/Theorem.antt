@@ -1,31 +1,29 @@
 -- Demand 3, proved: along every list of calls from an accepted open the store stays one that only the engine has written.
 use mathlib.Core.Path.{_≡_, refl, ap, ap₂, sym, _∙_, subst⁻¹}
 use mathlib.Core.Logic.{_≢_}
-use mathlib.Core.Bool.{Bool, true, false, not, _||_, cond}
 use mathlib.Core.List.{List, [], _∷_, _++_}
 use Prim.Native.Nat.{ℕ, _≤_}
-use lib.Dec.{ltb}
 use lib.ListN.{length}
 use Rattle.history.specs.Lists.{All}
 use Rattle.history.specs.Event.{History}
 use Rattle.history.specs.Linearization.{Linearization}
 use Rattle.criterion.specs.Criterion.{sound, criterion}
 use Rattle.criterion.specs.Order.{order}
-use Rattle.rules.specs.Sizes.{Sizes, sizesInRange, storeWords}
+use Rattle.rules.specs.Sizes.{Sizes, storeWords}
 use Rattle.rules.specs.Cell.{Reader, reader}
 use Rattle.rules.specs.Free.{nextFree}
 use Rattle.rules.specs.Rule.{Effect, refuse, reply, refused, accepted, ok}
-use Rattle.rules.specs.Request.{Request, Result, applied, effect, result, open-store, opened}
+use Rattle.rules.specs.Request.{Request, Result, applied, effect, result, open-store}
 use Rattle.rules.specs.Play.{Played, replyEvents, events, playOne, play}
 use Rattle.rules.specs.Readback.{reader-writes, length-writes}
-use Rattle.rules.specs.Refusal.{accepted-not-refused}
+use Rattle.rules.specs.Refusal.{accepted-not-refused, by-open}
 use Rattle.model.specs.Items.{items, items-rest}
 use Rattle.model.specs.State.{State}
 use Rattle.simulation.specs.View.{Ghost, view}
 use Rattle.simulation.specs.Good.{Good, Fine}
 use Rattle.memory.specs.Loose.{LooseChoice}
 use Rattle.simulation.specs.Every.{effectTaking, effect-is, effect-fine, next-choice}
-use Rattle.simulation.specs.Opened.{open-fits, openGhost, open-reads, open-good}
+use Rattle.simulation.specs.Opened.{open-fits, openReader, openGhost, open-reads, open-good}
 use Rattle.simulation.specs.Left.{items-left}
 use Rattle.simulation.specs.Admission.{sizes-are, admitted-is}
 use Rattle.ordering.specs.Demand.{Ordered, Demand-3}
@@ -67,12 +65,15 @@ playTaking z c q p = played q p (applied z (p .words) (effectTaking c q z (reade
 
 -- One call.
 module _ {z : Sizes} {p : Played} (k : Maintained z p) (q : Request) where
+  pub result-is : result q (p .words) ≡ applied z (p .words) (effect q z (reader z (p .words)))
+  unfolding result
+  result-is =
+      ap₂ (λ (y : Sizes) (a : Effect). applied y (p .words) a) (sizes-are z (p .words) (k .good .range))
+      (admitted-is z (p .words) (k .good .range) (k .good .sizes) (k .fits) (effect q))
+
   -- The rules' own takes the next free record.
   pub play-is : playOne q p ≡ playTaking z (nextFree z (reader z (p .words))) q p
-  unfolding result
-  play-is =
-      ap₂ (λ (y : Sizes) (a : Effect). played q p (applied y (p .words) a)) (sizes-are z (p .words) (k .good .range))
-      (admitted-is z (p .words) (k .good .range) (k .good .sizes) (k .fits) (effect q) ∙ effect-is q z (reader z (p .words)))
+  play-is = ap (played q p) (result-is ∙ ap (applied z (p .words)) (effect-is q z (reader z (p .words))))
 
   by-answer : (a : Effect) → Fine z (reader z (p .words)) (k .beside) q a → Maintained z (played q p (applied z (p .words) a))
   unfolding applied
@@ -97,7 +98,7 @@ module _ {z : Sizes} {p : Played} (k : Maintained z p) (q : Request) where
   keeps-taking c choice =
       by-answer (effectTaking c q z (reader z (p .words))) (effect-fine z (reader z (p .words)) (k .beside) (k .good) c choice q)
 
-  keeps : Maintained z (playOne q p)
+  pub keeps : Maintained z (playOne q p)
   keeps =
       subst⁻¹ (Maintained z) play-is
       (keeps-taking (nextFree z (reader z (p .words))) (next-choice z (reader z (p .words)) (k .beside) (k .good)))
@@ -108,28 +109,26 @@ unfolding play
 plays [] k = k
 plays (q ∷ qs) k = plays qs (keeps k q)
 
--- An accepted open.
-pub opened-kept : (z : Sizes) (m : List ℕ) → open-store z m .reply ≡ accepted ok → Maintained z (record { words = open-store z m .words; replies = []; history = [] })
-unfolding open-store
-opened-kept z m = go (sizesInRange z) refl (ltb (length m) 16 || ltb (length m) (storeWords z)) refl
-  where
-    answered : Bool → Bool → Result
-    answered a b =
-        cond (not a) (record { reply = refused 1; words = m })
-        (cond b (record { reply = refused 2; words = m }) (record { reply = accepted ok; words = opened z m }))
+-- An accepted open, whatever the words held before.
+module _ (z : Sizes) (m : List ℕ) where
+  pub opened-kept : open-store z m .reply ≡ accepted ok → Maintained z (record { words = open-store z m .words; replies = []; history = [] })
+  opened-kept =
+      by-open (λ r. r .reply ≡ accepted ok → Maintained z (record { words = r .words; replies = []; history = [] })) z m
+      (λ n h r. absurd (accepted-not-refused (sym r)))
+      (λ e l r.
+      record {
+        fits = open-fits z m;
+        beside = openGhost;
+        good = subst⁻¹ (λ (τ : Reader). Good z τ openGhost) (open-reads z e m) (open-good z e);
+        same = refl;
+        answered = tt;
+      })
 
-    go : (a : Bool) → sizesInRange z ≡ a → (b : Bool) → (ltb (length m) 16 || ltb (length m) (storeWords z)) ≡ b
-        → answered a b .reply ≡ accepted ok → Maintained z (record { words = answered a b .words; replies = []; history = [] })
-    go false e b f r = absurd (accepted-not-refused (sym r))
-    go true e true f r = absurd (accepted-not-refused (sym r))
-    go true e false f r =
-        record {
-          fits = open-fits z m;
-          beside = openGhost;
-          good = subst⁻¹ (λ (τ : Reader). Good z τ openGhost) (open-reads z e m) (open-good z e);
-          same = refl;
-          answered = tt;
-        }
+  pub opened-cells : open-store z m .reply ≡ accepted ok → reader z (open-store z m .words) ≡ openReader z
+  opened-cells =
+      by-open (λ r. r .reply ≡ accepted ok → reader z (r .words) ≡ openReader z) z m
+      (λ n h r. absurd (accepted-not-refused (sym r)))
+      (λ e l r. open-reads z e m)
 
 -- Demand 3.
 pub demand-3 : Demand-3

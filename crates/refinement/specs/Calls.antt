@@ -6,9 +6,9 @@ use mathlib.Core.Bool.{cond}
 use mathlib.Core.List.{List, [], _∷_, _++_, map}
 use Prim.Native.Nat.{ℕ}
 use lib.Dec.{eqb}
-use lib.ListN.{length, getD}
+use lib.ListN.{length, getD, take}
 use Rattle.history.specs.Lists.{All}
-use Rattle.rules.specs.Sizes.{Sizes}
+use Rattle.rules.specs.Sizes.{Sizes, storeWords}
 use Rattle.rules.specs.Rule.{Response, refused, accepted, ok, started, going, ended, empty, item}
 use Rattle.rules.specs.Request.{Request, startEnqueue, startDequeue, step, Result, open-store, result}
 use Rattle.rules.specs.Play.{Played, events, play}
@@ -47,14 +47,25 @@ fresh m = record { words = m; replies = []; history = [] }
 abbrev pub Refines : Type 0
 Refines = (p : Played) (cs : List Made) → Chain (p .words) cs → recorded cs p ≡ play (map (λ c. c .request) cs) p
 
--- Demand 3 of any such calls after an open that was accepted, by its contract (`open_store`, crates/opening/src/lib.rt), whatever the store
--- held before.
+-- An open that was accepted, by its contract (`open_store`, crates/opening/src/lib.rt): what it left of the words before.
+abbrev pub Opens : Sizes → (before m : List ℕ) → Type 0
+Opens z before m = _≡_ {A = Result} (record { reply = accepted ok; words = m }) (open-store z before)
+
+-- Demand 3 of any such calls after an accepted open, whatever the store held before.
 abbrev pub Demand-3-Of-Calls : Type 0
-Demand-3-Of-Calls =
-    (z : Sizes) (before m : List ℕ) (cs : List Made)
-    → _≡_ {A = Result} (record { reply = accepted ok; words = m }) (open-store z before)
+Demand-3-Of-Calls = (z : Sizes) (before m : List ℕ) (cs : List Made) → Opens z before m → Chain m cs → Ordered z (recorded cs (fresh m))
+
+-- Dumps from two sites: the same calls after opens of the same sizes, on any two stores, got the same responses and left the same words.
+abbrev pub Same-Dumps : Type 0
+Same-Dumps =
+    (z : Sizes) (before before′ m m′ : List ℕ) (cs cs′ : List Made)
+    → Opens z before m
+    → Opens z before′ m′
     → Chain m cs
-    → Ordered z (recorded cs (fresh m))
+    → Chain m′ cs′
+    → map (λ c. c .request) cs ≡ map (λ c. c .request) cs′
+    → (recorded cs (fresh m) .replies ≡ recorded cs′ (fresh m′) .replies)
+    × (take (storeWords z) (recorded cs (fresh m) .words) ≡ take (storeWords z) (recorded cs′ (fresh m′) .words))
 
 -- The same for C. A call as C sees it: the four words of the reply that it lent, and what it got, the returned number, the words of the
 -- store and the words of the reply.

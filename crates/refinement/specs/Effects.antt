@@ -273,8 +273,8 @@ module _ (z : Sizes) (σ : Reader) (range : InRange z σ) where
   start-dequeue-sound = by-cond z startDequeue (not (eqb (σ consumerPhase) 0)) _ _ (λ _. omega arith) (λ _. omega arith)
 
   -- the record that a claim takes is one of the N
-  next-most : nextFree z σ ≤ z .N
-  next-most = go (nextFree z σ) (next-free-right z σ (last-claimed-link range))
+  choice-most : nextFree z σ ≤ z .N
+  choice-most = go (nextFree z σ) (next-free-right z σ (last-claimed-link range))
     where
       go : (c : ℕ) → RightChoice z σ c → c ≤ z .N
       go zero h = omega arith
@@ -287,7 +287,7 @@ module _ (z : Sizes) (σ : Reader) (range : InRange z σ) where
       λ l. by-cond z (step t) (eqb t 0) _ _
       (λ _. either z σ range t (eqb (σ consumerPhase) 0) _ _ (omega arith) (consumer-sound z σ range t))
       λ n. either z σ range t (eqb (σ (phase t)) 0) _ _ (omega arith)
-      (producer-sound z σ range t (omega (arith, eqb-false t 0 n, ltb-false (z .P) t l)) (nextFree z σ) next-most)
+      (producer-sound z σ range t (omega (arith, eqb-false t 0 n, ltb-false (z .P) t l)) (nextFree z σ) choice-most)
 
   pub answer-sound : (q : Request) → Sound z q (effect q z σ)
   unfolding effect

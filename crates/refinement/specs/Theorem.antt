@@ -1,5 +1,6 @@
--- Calls that meet their contracts do what `play` says, so demand 3 holds of them; and what C gets of a call determines its response.
-use mathlib.Core.Path.{_≡_, refl, ap, sym, _∙_, subst}
+-- Calls that meet their contracts do what `play` says, so demand 3 holds of them, and dumps of the same calls are the same; and what C gets
+-- of a call determines its response.
+use mathlib.Core.Path.{_≡_, refl, ap, sym, _∙_}
 use mathlib.Core.Logic.{_≢_}
 use mathlib.Core.List.{List, [], _∷_, map}
 use Prim.Native.Nat.{ℕ, _≤_}
@@ -13,10 +14,10 @@ use Rattle.rules.specs.Rule.{Response, refused, accepted, ok, started, going, e
 use Rattle.rules.specs.Request.{Request, startEnqueue, startDequeue, step, Result, applied, effect, open-store, sizesOf, admitted, result}
 use Rattle.rules.specs.Play.{Played, playOne, play}
 use Rattle.rules.specs.Refusal.{by-open}
-use Rattle.ordering.specs.Demand.{Ordered}
 use Rattle.ordering.specs.Theorem.{demand-3}
+use Rattle.ordering.specs.SameWords.{same-words}
 use Rattle.engine.specs.Export.{code, replyWords, Returned, returned, Replied, replied}
-use Rattle.refinement.specs.Calls.{Made, Meets, Chain, noted, recorded, fresh, Refines, Demand-3-Of-Calls, Exchange, Exports, ExchangeChain, says, madeOf, Demand-3-For-C}
+use Rattle.refinement.specs.Calls.{Made, Meets, Chain, noted, recorded, fresh, Refines, Opens, Demand-3-Of-Calls, Same-Dumps, Exchange, Exports, ExchangeChain, says, madeOf, Demand-3-For-C}
 use Rattle.refinement.specs.Effects.{kindOf, kindFor, Sound, admitted-sound}
 
 -- One call is the rules' call.
@@ -30,12 +31,22 @@ refines p (c ∷ cs) h =
     refines (noted c p) cs (h .1)
     ∙ ap (play (map (λ c. c .request) cs)) (noted-is c p (h .0))
 
+-- After an accepted open: it replied ok, and what calls leave is what the rules make of the words that it left.
+module _ (z : Sizes) (before m : List ℕ) (o : Opens z before m) where
+  accepts : open-store z before .reply ≡ accepted ok
+  accepts = sym (ap (λ (r : Result). r .reply) o)
+
+  after-open : (cs : List Made) → Chain m cs → recorded cs (fresh m) ≡ play (map (λ c. c .request) cs) (fresh (open-store z before .words))
+  after-open cs h = refines (fresh m) cs h ∙ ap (λ (r : Result). play (map (λ c. c .request) cs) (fresh (r .words))) o
+
 pub demand-3-of-calls : Demand-3-Of-Calls
 demand-3-of-calls z before m cs o h =
-    let accepts : open-store z before .reply ≡ accepted ok = sym (ap (λ (r : Result). r .reply) o) in
-    let words : open-store z before .words ≡ m = sym (ap (λ (r : Result). r .words) o) in
-    let d = demand-3 z before (map (λ c. c .request) cs) accepts in
-    subst (Ordered z) (sym (refines (fresh m) cs h)) (rw words at d)
+    rw (after-open z before m o cs h) (demand-3 z before (map (λ c. c .request) cs) (accepts z before m o))
+
+pub same-dumps : Same-Dumps
+same-dumps z before before′ m m′ cs cs′ o o′ h h′ e =
+    rw (after-open z before m o cs h, after-open z before′ m′ o′ cs′ h′, e)
+    (same-words z before before′ (map (λ c. c .request) cs′) (accepts z before m o) (accepts z before′ m′ o′))
 
 -- A response that a call may have.
 abbrev pub May : Request → Response → Type 0

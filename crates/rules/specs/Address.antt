@@ -82,13 +82,13 @@ pub address-below : (z : Sizes) (c : Cell) → There z c → address z c < store
 address-below z c h = omega (arith, address-in z c h, area-below z (areaOf c) (area-there z c h))
 
 -- The cell at an address: the areas follow one another.
-inRecord : (r offset : ℕ) → Cell
+unfoldable pub inRecord : (r offset : ℕ) → Cell
 inRecord r o = cond (ltb o 4) (part r o) (entry r ((o - 4) / 3) ((o - 4) % 3))
 
-inContents : (offset : ℕ) → Cell
+unfoldable pub inContents : (offset : ℕ) → Cell
 inContents o = cond (ltb o lastClaimedWord) (content o) (cond (ltb o firstSpare) lastClaimed (spare (o - firstSpare)))
 
-cellAt : Sizes → ℕ → Cell
+unfoldable pub cellAt : Sizes → ℕ → Cell
 cellAt z n =
     cond (ltb n contentWords) (inContents n)
     (cond (ltb n (contentWords + threadWords)) (consumer (n - contentWords))

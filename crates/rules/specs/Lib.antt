@@ -15,3 +15,4 @@ pub mod Readback
 pub mod Refusal
 pub mod InRange
 pub mod NextFree
+pub mod EveryWord
