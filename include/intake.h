@@ -9,6 +9,8 @@
  *     16 + 8 * (producers + 1) + records * (3 * entries + 4)
  * words, at most 12,696. Words past that are never read or written.
  *
+ * The same calls after an open of the same sizes leave the same words in any store, and are answered alike.
+ *
  * Every call returns. A refused call returns its number, 1 to 9 below, and changes no word of store or reply. `store` points to `words`
  * words and `reply` to four, apart from the store; both are aligned and not NULL, also where `words` is 0. A call takes less than 4 KB of
  * stack.
@@ -28,7 +30,7 @@ extern "C" {
 #endif
 
 /* Grows when a call, a number or a word of the store changes its meaning. */
-#define INTAKE_VERSION 1
+#define INTAKE_VERSION 2
 
 /* What the calls return. */
 enum {

@@ -10,15 +10,16 @@ import shutil
 from pathlib import Path
 from typing import NamedTuple
 
+import claim_stores
 import intake_model as im
 import judge_model as jm
 import test_judge
 
 CRATES = Path(__file__).resolve().parent.parent / 'crates'
 BIG = (2**16, 2**31, im.U32 - 1, im.U32)
-TYPES = {'schedule': 'Schedule', 'single': 'Single', 'history': 'Words'}
-ANSWERS = {'schedule': 'Outcome', 'single': 'Result', 'history': 'Verdict'}
-FUNCTIONS = {'schedule': 'follow', 'single': 'call', 'history': 'judge'}
+TYPES = {'schedule': 'Schedule', 'single': 'Single', 'claim': 'List ℕ', 'history': 'Words'}
+ANSWERS = {'schedule': 'Outcome', 'single': 'Result', 'claim': 'ℕ', 'history': 'Verdict'}
+FUNCTIONS = {'schedule': 'follow', 'single': 'call', 'claim': 'next', 'history': 'judge'}
 
 
 class Schedule(NamedTuple):
@@ -36,6 +37,13 @@ class Single(NamedTuple):
     words: list
     call: tuple
     expected: tuple  # the reply and the words after
+
+
+class Claim(NamedTuple):
+    """Words on which a claim looks for its record."""
+
+    words: list
+    expected: int  # the record, as it is stored
 
 
 class History(NamedTuple):
@@ -188,7 +196,7 @@ def wild(rng, kind, phase):
         return rng.choice((rng.randint(0, min(limit, 3 * B + 1)), rng.randint(0, limit), limit))
 
     words = [*sizes, im.CONTENTS, im.CONTENTS + im.THREAD_WORDS * (P + 1)]
-    words += [up_to(M), rng.randint(1, N), rng.randint(1, N), up_to(M), up_to(M), 0, 0, 0, 0, 0]
+    words += [up_to(M), rng.randint(1, N), rng.randint(1, N), up_to(M), up_to(M), rng.randint(1, N), 0, 0, 0, 0]
     thread = 0 if kind == 'consumer' else rng.randint(1, P)
     for t in range(P + 1):
         limits = producer if t else consumer
@@ -247,7 +255,7 @@ def edges():
     store = [0] * im.needed_words(*sizes[:3])
     im.open_store(store, *sizes)
     by_thread = im.thread_limits(N, M)
-    tops = [64, 64, 16, 1_000_000, 16, store[5], M, N, N, M, M, 0, 0, 0, 0, 0]
+    tops = [64, 64, 16, 1_000_000, 16, store[5], M, N, N, M, M, N, 0, 0, 0, 0]
     tops += [0] * im.THREAD_WORDS * (P + 1) + list(im.record_limits(B, N, M))
     threads = range(im.CONTENTS, store[5])
     cases = [case for k, top in enumerate(tops) if k not in threads for case in at_edge(store, k, top, ('d',))]
@@ -276,6 +284,17 @@ def with_no_start_left(rng, store):
     producers = range(1, words[2] + 1)
     thread = rng.choice([t for t in producers if (t in busy(words)) == wants] or producers)
     return answer(words, ('e', thread, random_value(rng)))
+
+
+def with_another_last(rng, store):
+    """A store of the model with another record claimed last, in range or not, or with a spare word that is not zero."""
+    words = list(store)
+    N = words[1]
+    if rng.random() < 0.7:
+        words[im.LAST_CLAIMED] = rng.choice((0, rng.randint(1, N), N + 1, rng.choice(BIG)))
+    else:
+        words[rng.randrange(im.SPARE, im.CONTENTS)] = rng.choice((1, N, rng.choice(BIG)))
+    return answer(words, likely_call(rng, words))
 
 
 def of_another_length(rng, store):
@@ -324,7 +343,7 @@ def singles(seed, stores, count):
     cases = edges()
     while len(cases) < count:
         store = rng.choice(stores)
-        kind = len(cases) % 20
+        kind = len(cases) % 22
         if kind < 4:
             cases.append(damaged(rng, store))
         elif kind < 14:
@@ -337,9 +356,26 @@ def singles(seed, stores, count):
             cases.append(random_words(rng))
         elif kind < 19:
             cases.append(with_no_start_left(rng, store))
+        elif kind < 21:
+            cases.append(with_another_last(rng, store))
         else:
             cases.append(opening(rng))
     return cases
+
+
+# Claims.
+
+
+def stored(record):
+    """A record number is stored plus one; zero is none."""
+    return 0 if record is None else record + 1
+
+
+def claims(seed, count):
+    """Every small store on which a producer claims, and so many large ones, with the model's record."""
+    rng = random.Random(seed)
+    stores = claim_stores.small(rng) + claim_stores.large(rng, count)
+    return [Claim(words, stored(im.next_free(words))) for words in stores]
 
 
 # Histories.
@@ -417,8 +453,8 @@ def another_event(event):
 
 
 def with_one_wrong_value(rng, case):
-    """The case with one expected value changed: a reply, a word, an item left, an event, a verdict or a number of a
-    row."""
+    """The case with one expected value changed: a reply, a word, an item left, an event, a record, a verdict or a
+    number of a row."""
     if isinstance(case, Schedule):
         replies, words, left, history = case.expected
         part = rng.choice(['reply', 'word'] + ['item'] * bool(left) + ['event'] * bool(history))
@@ -436,6 +472,8 @@ def with_one_wrong_value(rng, case):
         if not words or rng.random() < 0.5:
             return case._replace(expected=(another_reply(reply), words))
         return case._replace(expected=(reply, changed_at(words, rng.randrange(len(words)), another)))
+    if isinstance(case, Claim):
+        return case._replace(expected=another(case.expected))
     verdict = case.expected
     if verdict[0] == 'refused':
         return case._replace(expected=another_reply(verdict))
@@ -452,7 +490,7 @@ def twins(seed, cases):
     `wrong-K`."""
     rng = random.Random(seed)
     modules = {}
-    for kind in (Schedule, Single, History):
+    for kind in (Schedule, Single, Claim, History):
         numbered = [(k, case) for k, case in enumerate(cases) if isinstance(case, kind)]
         pairs = [(f'right-{k}', case) for k, case in numbered]
         pairs += [(f'wrong-{k}', with_one_wrong_value(rng, case)) for k, case in numbered]
@@ -554,6 +592,8 @@ def terms(case):
         reply, words = case.expected
         expected = record_term(reply=response_term(reply), words=numbers(words))
         return record_term(words=numbers(case.words), made=made), expected
+    if isinstance(case, Claim):
+        return numbers(case.words), case.expected
     verdict = case.expected
     given = record_term(entries=case.entries, words=numbers(case.words))
     if verdict[0] == 'refused':
@@ -581,11 +621,12 @@ unfolding {FUNCTIONS[kind]}
 
 STORE_HEAD = """-- Generated: calls on a store, and what the model answers.
 use mathlib.Core.Path.{_≡_, refl}
-use mathlib.Core.List.{[], _∷_}
+use mathlib.Core.List.{List, [], _∷_}
+use Prim.Native.Nat.{ℕ}
 use Rattle.history.specs.Event.{enqueueStarted, enqueueEnded, dequeueStarted, gaveItem, gaveEmpty}
 use Rattle.rules.specs.Rule.{refused, accepted, ok, started, going, ended, empty, item}
 use Rattle.rules.specs.Request.{Result, startEnqueue, startDequeue, step}
-use Rattle.tables.specs.Store.{Schedule, Outcome, follow, Single, opening, request, call}
+use Rattle.tables.specs.Store.{Schedule, Outcome, follow, Single, opening, request, call, next}
 """
 
 HISTORY_HEAD = """-- Generated: words for the judge, and the model's verdict.
@@ -604,7 +645,7 @@ use Rattle.history.specs.Linearization.{Queue}
 use Rattle.rules.specs.Sizes.{Sizes}
 use Rattle.rules.specs.Cell.{reader, writes}
 use Rattle.rules.specs.Range.{inRange}
-use Rattle.rules.specs.Free.{free, lowestFree}
+use Rattle.rules.specs.Free.{free, nextFree}
 use Rattle.rules.specs.Rule.{Response}
 use Rattle.rules.specs.Producer.{takePosition, loadTail, lookNext, claimRecord, linkClaimed, shiftTail, goBack, writeEntry, setEntry, claimAhead, linkAhead, producerStep}
 use Rattle.rules.specs.Consumer.{front, readTail, scan, readEntry, rescan, readItem, markHandled, consumerStep}
@@ -633,7 +674,7 @@ unfoldable pub follow : Schedule → Outcome
 unfolding UNFOLDED play itemsLeft
 follow s =
     let o = open-store (s .sizes) (s .lent) in
-    outcome (play (λ k. lowestFree) (s .requests) (record { words = o .words; replies = o .reply ∷ []; history = [] }))
+    outcome (play (s .requests) (record { words = o .words; replies = o .reply ∷ []; history = [] }))
 
 -- one call on any words
 pub data Made : Type 0 where
@@ -646,16 +687,21 @@ pub record Single : Type 0 where
 
 abbrev pub made-on : List ℕ → Made → Result
 made-on m (opening z) = open-store z m
-made-on m (request q) = result lowestFree q m
+made-on m (request q) = result q m
 
 unfoldable pub call : Single → Result
 unfolding UNFOLDED
 call s = made-on (s .words) (s .made)
+
+-- the record that a claim takes on these words, plus one; 0 for none
+unfoldable pub next : List ℕ → ℕ
+unfolding reader free nextFree
+next m = let z = sizesOf m in nextFree z (reader z m)
 """
 STORE = STORE.replace(
     'UNFOLDED',
     'result admitted applied effect startingEnqueue startingDequeue stepping open-store opened reader writes inRange '
-    'free lowestFree takePosition loadTail lookNext claimRecord linkClaimed shiftTail goBack writeEntry setEntry '
+    'free nextFree takePosition loadTail lookNext claimRecord linkClaimed shiftTail goBack writeEntry setEntry '
     'claimAhead linkAhead producerStep front readTail scan readEntry rescan readItem markHandled consumerStep',
 )
 

@@ -13,14 +13,40 @@ import intake_model as im
 import invariants
 import judge_model as jm
 
+
+def value_of(call):
+    """The value that an exploration gives to a call number."""
+    return 100 + call
+
+
+def steps(*threads):
+    return [('s', t) for t in threads]
+
+
+def enqueue(t, call, count):
+    """The start of a call and its first steps, so many."""
+    return [('e', t, value_of(call))] + steps(t) * count
+
+
+def dequeue(count):
+    return [('d',)] + steps(0) * count
+
+
 # B, N, P, M of the cases that the default run explores whole.
-SMALL_CASES = ((2, 2, 1, 4), (2, 3, 1, 6), (2, 2, 2, 2), (2, 2, 2, 3), (2, 3, 2, 3))
+SMALL_CASES = ((2, 2, 1, 4), (2, 3, 1, 10), (2, 4, 1, 8), (2, 2, 2, 2), (2, 2, 2, 3), (2, 3, 2, 3))
 
 # Cases that are explored whole from a later state on: B, N, P, M, the calls that lead there.
-HEAD_LATE = [('e', 1, 101), ('s', 1)] + [('e', 2, 102)] + [('s', 2)] * 6 + [('e', 2, 103)] + [('s', 2)] * 7
-TWO_GONE = [('e', 1, 101)] + [('s', 1)] * 4 + [('e', 1, 102)] + [('s', 1)] * 6 + ([('d',)] + [('s', 0)] * 3) * 2
-LATER_CASES = ((2, 2, 2, 5, HEAD_LATE), (2, 2, 2, 5, TWO_GONE))
-HISTORY_CASES = ((2, 2, 2, 2, 18), (2, 3, 2, 3, 16))  # B, N, P, M and the number of calls
+HEAD_LATE = enqueue(1, 1, 1) + enqueue(2, 2, 6) + enqueue(2, 3, 7)
+TWO_GONE = enqueue(1, 1, 4) + enqueue(1, 2, 6) + dequeue(3) * 2
+THREE_GONE = enqueue(1, 1, 4) + enqueue(1, 2, 6) + enqueue(1, 3, 7) + enqueue(1, 4, 6) + dequeue(3) * 2 + dequeue(4)
+GIVEN_BACK = enqueue(1, 1, 4) + enqueue(2, 2, 3) + enqueue(1, 3, 3) + steps(2, 1, 2, 1, 2, 1, 1, 1, 1)
+LATER_CASES = (
+    (2, 2, 2, 5, HEAD_LATE),
+    (2, 2, 2, 5, TWO_GONE),
+    (2, 3, 2, 6, THREE_GONE),  # the last record was claimed last, and record 0 is free
+    (2, 3, 2, 5, GIVEN_BACK),  # the record claimed last is free
+)
+HISTORY_CASES = ((2, 2, 2, 2, 18), (2, 3, 2, 3, 17))  # B, N, P, M and the number of calls
 EXPECTED_REFUSALS = (4, 5, 6, 7, 8)  # on a store that only the engine has written
 ALL_ORDERS_CALLS = 9  # histories of at most so many calls are tried in all orders
 RANDOM_RUNS = 500
@@ -30,12 +56,7 @@ class Result(NamedTuple):
     states: int
     transitions: int
     whole: bool  # every reachable state was met
-    violation: tuple | None  # (calls with picks, after the first ones; what is wrong)
-
-
-def value_of(call):
-    """The value that an exploration gives to a call number."""
-    return 100 + call
+    violation: tuple | None  # (calls, after the first ones; what is wrong)
 
 
 def open_words(B, N, P, M):
@@ -44,25 +65,21 @@ def open_words(B, N, P, M):
     return words
 
 
-def moves(words, engine):
-    """Every call that may be accepted, as (call, picked record): a start of each idle thread, and a step of each busy
-    one with every pick."""
+def moves(words):
+    """Every call that may be accepted: a start of each idle thread, and a step of each busy one."""
     for t in range(words[2] + 1):
-        phase = words[im.CONTENTS + im.THREAD_WORDS * t]
-        if phase:
-            picks = engine(words, None).free() if t and phase in (4, 10) else []
-            for record in picks or [None]:
-                yield ('s', t), record
+        if words[im.CONTENTS + im.THREAD_WORDS * t]:
+            yield ('s', t)
         elif t == 0:
-            yield ('d',), None
+            yield ('d',)
         elif words[im.STARTS] < words[3]:
-            yield ('e', t, value_of(words[im.STARTS] + 1)), None
+            yield ('e', t, value_of(words[im.STARTS] + 1))
 
 
-def after(words, call, record, engine):
+def after(words, call, engine):
     """The words and the reply of a call; the words before stay as they are."""
     words = list(words)
-    reply = im.do(words, call, lambda free: record, engine)
+    reply = im.do(words, call, engine)
     return words, reply
 
 
@@ -71,7 +88,7 @@ def wrong_reply(reply):
 
 
 def trace(came_from, state):
-    """The calls with picks that lead to a state."""
+    """The calls that lead to a state."""
     calls = []
     while came_from[state] is not None:
         state, call = came_from[state]
@@ -83,14 +100,14 @@ def state_after(words, calls, engine):
     """The state, words and ghost, that some calls lead to."""
     ghost = invariants.Ghost()
     for call in calls:
-        before, words = words, list(words)
-        ghost = ghost.after(call, before, im.do(words, call, engine=engine))
+        before, (words, reply) = words, after(words, call, engine)
+        ghost = ghost.after(call, before, reply)
     return bytes(words), ghost
 
 
 def explore(B, N, P, M, first=(), engine=im.Intake, limit=None, clauses=None):
-    """Breadth first over words and ghost, all interleavings and all picks, from the state after the calls `first` on,
-    until a clause fails. The words of a small case are below 256, so a state keeps them as bytes."""
+    """Breadth first over words and ghost, all interleavings, from the state after the calls `first` on, until a clause
+    fails. The words of a small case are below 256, so a state keeps them as bytes."""
     start = state_after(open_words(B, N, P, M), first, engine)
     came_from, queue, transitions = {start: None}, deque([start]), 0
     while queue:
@@ -100,17 +117,17 @@ def explore(B, N, P, M, first=(), engine=im.Intake, limit=None, clauses=None):
         bad = invariants.broken(words, ghost, clauses)
         if bad:
             return Result(len(came_from), transitions, False, (trace(came_from, state), bad))
-        for call, record in moves(words, engine):
-            words_after, reply = after(words, call, record, engine)
+        for call in moves(words):
+            words_after, reply = after(words, call, engine)
             transitions += 1
             if wrong_reply(reply):
-                calls = trace(came_from, state) + [(call, record)]
+                calls = trace(came_from, state) + [call]
                 return Result(len(came_from), transitions, False, (calls, [f'reply {reply}']))
             following = (bytes(words_after), ghost.after(call, words, reply))
             if following not in came_from:
                 if limit is not None and len(came_from) >= limit:
                     return Result(len(came_from), transitions, False, None)
-                came_from[following] = (state, (call, record))
+                came_from[following] = (state, call)
                 queue.append(following)
     return Result(len(came_from), transitions, True, None)
 
@@ -134,8 +151,8 @@ def demand_3_long(words, history):
 
 
 def explore_histories(B, N, P, M, depth, engine=im.Intake):
-    """Every list of at most `depth` accepted calls, all picks, with demand 3 checked by all orders after each call.
-    States that agree in words and history are followed once."""
+    """Every list of at most `depth` accepted calls, with demand 3 checked by all orders after each call. States that
+    agree in words and history are followed once."""
     states = {(bytes(open_words(B, N, P, M)), ())}
     met, transitions, verdicts = len(states), 0, {}
     for _ in range(depth):
@@ -143,8 +160,8 @@ def explore_histories(B, N, P, M, depth, engine=im.Intake):
         for packed, history in states:
             words = list(packed)
             starts = {event[1]: event for event in history if event[0] in (1, 3)}
-            for call, record in moves(words, engine):
-                words_after, reply = after(words, call, record, engine)
+            for call in moves(words):
+                words_after, reply = after(words, call, engine)
                 transitions += 1
                 event = im.event(call, reply, starts.get(call[1] if len(call) > 1 else 0))
                 longer = history + (event,) if event else history
@@ -184,7 +201,7 @@ def random_run(seed, calls=250, engine=im.Intake):
     end. In bursts only some threads move, so that others stop anywhere. Gives (accepted calls, violation)."""
     rng = random.Random(seed)
     B, N, P, M = random_sizes(rng)
-    recorder = im.Recorder(B, N, P, M, pick=rng.choice, engine=engine)
+    recorder = im.Recorder(B, N, P, M, engine=engine)
     ghost, accepted = invariants.Ghost(), 0
     threads = list(range(P + 1))
     for k in range(calls):

@@ -1,11 +1,11 @@
-"""An independent model of the Jiffy intake, written by hand from document 01.
+"""An independent model of the Jiffy intake, written by hand from document 01 and from U1 of document 02.
 
 The store is a list of 32-bit words. `open_store`, `start_enqueue`, `start_dequeue` and `step` change the list only
 when they accept, and answer one of
 
     ('ok',)  ('ok', call)  ('going',)  ('end',)  ('empty',)  ('item', call, value)  ('refused', number)
 
-Each phase is one method of `Intake`, under the sentence of document 01 that it renders. A wrong engine for a test is
+Each phase is one method of `Intake`, under the sentence of the papers that it renders. A wrong engine for a test is
 a subclass that overrides one method.
 """
 
@@ -18,7 +18,7 @@ LIMITS = ((2, 64), (2, 64), (1, 16), (1, 1_000_000))  # of B, N, P, M
 
 # Contents.
 CONTENTS = 16
-TAIL, TAIL_RECORD, HEAD_RECORD, HEAD_POSITION, STARTS = range(6, 11)
+TAIL, TAIL_RECORD, HEAD_RECORD, HEAD_POSITION, STARTS, LAST_CLAIMED, SPARE = range(6, 13)
 
 # Thread words: phase for both, then the producer's, then the consumer's.
 THREAD_WORDS = 8
@@ -94,7 +94,8 @@ def contents_in_range(words):
         and 1 <= words[HEAD_RECORD] <= N
         and words[HEAD_POSITION] <= M
         and words[STARTS] <= M
-        and not any(words[11:CONTENTS])
+        and 1 <= words[LAST_CLAIMED] <= N
+        and not any(words[SPARE:CONTENTS])
     )
 
 
@@ -136,11 +137,6 @@ def in_range(words):
 # Claiming.
 
 
-def lowest(free):
-    """The default pick among the free records: the lowest."""
-    return free[0]
-
-
 def held_records(words):
     """The records that producers hold: held and claimed words of every phase."""
     _, _, P, _ = words[:4]
@@ -158,6 +154,24 @@ def free_records(words):
     uses = words[first + USE : first + N * record_words(B) : record_words(B)]
     held = held_records(words)
     return [r for r, use in enumerate(uses) if use == USE_FREE or use == USE_RETIRED and r not in held]
+
+
+def first_after_last(words, records):
+    """The first of some records after the one claimed last, counting upward and past the end to record 0. The one
+    claimed last comes last of all. None if there are no records."""
+    N, r = words[1], words[LAST_CLAIMED] - 1
+    for _ in range(N):
+        r += 1
+        if r == N:
+            r = 0
+        if r in records:
+            return r
+    return None
+
+
+def next_free(words):
+    """The record that a claim takes: the first free one after the one claimed last. None if none is free."""
+    return first_after_last(words, free_records(words))
 
 
 def items_left(words):
@@ -196,10 +210,9 @@ class Intake:
     )
     CONSUMER = (None, 'front', 'read_tail', 'scan_tail', 'scan_entry', 'rescan', 'read_item', 'mark')
 
-    def __init__(self, words, pick):
+    def __init__(self, words):
         self.B, self.N, self.P, self.M = words[:4]
         self.w = words[: needed_words(self.B, self.N, self.P)]
-        self.pick = pick
         self.own = CONTENTS
 
     def run(self, t):
@@ -275,15 +288,16 @@ class Intake:
             return self.to(7)
         return self.to(8)
 
-    def free(self):
-        return free_records(self.w)
+    def next_record(self):
+        """A claim takes the first free record after the one claimed last. None if none is free."""
+        return next_free(self.w)
 
-    def claim_one(self):
-        """Claiming picks a free record, zeroes it and gives it use 1."""
-        r = self.pick(self.free())
+    def claim_one(self, r):
+        """Claiming zeroes the record and gives it use 1. Word 11 holds it, stored plus one."""
         a = self.record(r)
         self.w[a : a + record_words(self.B)] = [0] * record_words(self.B)
         self.w[a + USE] = USE_CLAIMED
+        self.w[LAST_CLAIMED] = r + 1
         self.put(CLAIMED, r + 1)
 
     def link_or_give_back(self):
@@ -318,9 +332,10 @@ class Intake:
 
     def claim(self):
         """4. Claim a record; to 5."""
-        if not self.free():
+        r = self.next_record()
+        if r is None:
             raise Refused(8)
-        self.claim_one()
+        self.claim_one(r)
         return self.to(5)
 
     def link(self):
@@ -358,9 +373,10 @@ class Intake:
 
     def claim_ahead(self):
         """10. If none is free, end; else claim; to 11."""
-        if not self.free():
+        r = self.next_record()
+        if r is None:
             return self.idle(END)
-        self.claim_one()
+        self.claim_one(r)
         return self.to(11)
 
     def link_ahead(self):
@@ -482,7 +498,8 @@ def refused(number):
 
 
 def open_store(words, B, N, P, M):
-    """Zero the store, write the contents, link record 0 with place 1 as head and tail record."""
+    """Zero the store, write the contents, link record 0 with place 1 as head and tail record. After opening, the last
+    one claimed is record 0."""
     if not sizes_allowed((B, N, P, M)):
         return refused(1)
     size = needed_words(B, N, P)
@@ -491,7 +508,7 @@ def open_store(words, B, N, P, M):
     first = CONTENTS + THREAD_WORDS * (P + 1)
     words[:size] = [0] * size
     words[:6] = [B, N, P, M, CONTENTS, first]
-    words[TAIL_RECORD] = words[HEAD_RECORD] = 1
+    words[TAIL_RECORD] = words[HEAD_RECORD] = words[LAST_CLAIMED] = 1
     words[first + PLACE] = 1
     words[first + USE] = USE_LINKED
     return ('ok',)
@@ -527,8 +544,8 @@ def start_dequeue(words):
     return ('ok',)
 
 
-def step(words, t, pick=lowest, engine=Intake):
-    """One phase of thread t. `pick` chooses the claimed record among the free ones."""
+def step(words, t, engine=Intake):
+    """One phase of thread t."""
     number = admission(words)
     if number:
         return refused(number)
@@ -536,7 +553,7 @@ def step(words, t, pick=lowest, engine=Intake):
         return refused(4)
     if words[CONTENTS + THREAD_WORDS * t] == 0:
         return refused(7)
-    intake = engine(words, pick)
+    intake = engine(words)
     try:
         reply = intake.run(t)
     except Refused as refusal:
@@ -548,13 +565,13 @@ def step(words, t, pick=lowest, engine=Intake):
 # Lists of calls: ('e', thread, value), ('d',), ('s', thread).
 
 
-def do(words, call, pick=lowest, engine=Intake):
+def do(words, call, engine=Intake):
     """Run one call of a list."""
     if call[0] == 'e':
         return start_enqueue(words, call[1], call[2])
     if call[0] == 'd':
         return start_dequeue(words)
-    return step(words, call[1], pick, engine)
+    return step(words, call[1], engine)
 
 
 def event(call, reply, start):
@@ -575,15 +592,15 @@ def event(call, reply, start):
 class Recorder:
     """Opens a store, runs calls on it, and keeps the replies and the history."""
 
-    def __init__(self, B, N, P, M, pick=lowest, engine=Intake, words=None):
+    def __init__(self, B, N, P, M, engine=Intake, words=None):
         self.words = [0] * needed_words(B, N, P) if words is None else words
-        self.pick, self.engine = pick, engine
+        self.engine = engine
         self.replies, self.history, self.starts = [], [], {}
         self.opened = open_store(self.words, B, N, P, M)
 
     def call(self, call):
         """Run one call and give its reply."""
-        reply = do(self.words, call, self.pick, self.engine)
+        reply = do(self.words, call, self.engine)
         self.replies.append(reply)
         thread = call[1] if len(call) > 1 else 0
         made = event(call, reply, self.starts.get(thread))

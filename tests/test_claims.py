@@ -189,7 +189,7 @@ class Amended(unittest.TestCase):
         self.assert_found(r'(`explains` \(`)[^`]*', r'\1crates/criterion/specs/Criterion.antt', 'explains is not declared in')
 
     def test_wrong_counts(self):
-        self.assert_found(r'(?<=\{Demand,Choice\}\.antt` \| )\d+', '1', 'lines, not 1: crates/ordering/specs/Demand.antt')
+        self.assert_found(r'(`crates/ordering/specs/[^`]*` \| )\d+', r'\g<1>1', 'lines, not 1: crates/ordering/specs/Demand.antt')
         self.assert_found(r'(?<=specs/Refusal.antt`\) \| )\d+', '1', 'lines, not 1: refusal')
 
     def test_unlisted_definitions(self):

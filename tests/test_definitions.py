@@ -14,9 +14,10 @@ import intake_model as im
 
 
 def setUpModule():
-    global SCHEDULES, SINGLES, HISTORIES
+    global SCHEDULES, SINGLES, CLAIMS, HISTORIES
     SCHEDULES = dc.schedules(1, 3_200)
-    SINGLES = dc.singles(2, [store for case in SCHEDULES for store in dc.snapshots(case)], 1_700)
+    SINGLES = dc.singles(2, [store for case in SCHEDULES for store in dc.snapshots(case)], 1_850)
+    CLAIMS = dc.claims(5, 60)
     HISTORIES = dc.histories(3, 1_600)
 
 
@@ -33,15 +34,16 @@ class Tables(unittest.TestCase):
         cls.folder = tempfile.TemporaryDirectory()
         cls.addClassCleanup(cls.folder.cleanup)
         short = [dc.play(case.lent, case.sizes, case.calls[:9]) for case in SCHEDULES[:8]]
-        cls.sample = short + SINGLES[::85] + HISTORIES[10::53]
+        cls.sample = short + SINGLES[::85] + CLAIMS[::67] + HISTORIES[10::53]
         crates = {
             'schedules': dc.split('schedule', SCHEDULES, 10),
             'singles': dc.split('single', SINGLES, 100),
+            'claims': dc.split('claim', CLAIMS, 200),
             'histories': dc.split('history', HISTORIES, 200),
             'twins': dc.twins(4, cls.sample),
         }
         dc.write_repository(cls.folder.name, crates)
-        cls.ended, cls.output = cls.check('schedules', 'singles', 'histories')
+        cls.ended, cls.output = cls.check('schedules', 'singles', 'claims', 'histories')
 
     @classmethod
     def check(cls, *names):
@@ -60,6 +62,11 @@ class Tables(unittest.TestCase):
     def test_single_calls(self):
         """A damaged store admitted or turned down wrongly, a link or an index not looked at, a write by a refusal."""
         self.assert_proved('singles')
+
+    def test_claims(self):
+        """A claim that takes another record than the next free one: from any record claimed last, past the end, with no
+        record free, or none but the one claimed last."""
+        self.assert_proved('claims')
 
     def test_histories(self):
         """A form, an order of refusals, a row or a verdict, wrong on words that are a history or nearly one."""
@@ -86,8 +93,8 @@ class Reach(unittest.TestCase):
     def test_number_of_cases(self):
         """A generator that makes fewer cases than meant, or the same ones again."""
         self.assertGreaterEqual(sum(len(case.calls) for case in SCHEDULES), 3_200)
-        self.assertEqual((len(SINGLES), len(HISTORIES)), (1_700, 1_600))
-        self.assertGreater(len({(tuple(case.words), case.call) for case in SINGLES}), 1_550)
+        self.assertEqual((len(SINGLES), len(CLAIMS), len(HISTORIES)), (1_850, 1_308, 1_600))
+        self.assertGreater(len({(tuple(case.words), case.call) for case in SINGLES}), 1_700)
         self.assertGreater(len({(tuple(case.words), case.entries) for case in HISTORIES}), 1_300)
 
     def test_phases(self):
@@ -135,6 +142,34 @@ class Reach(unittest.TestCase):
         past = [case for case in SCHEDULES if len(case.lent) > im.needed_words(*case.sizes[:3])]
         self.assertGreater(sum(any(case.expected[1][-1:]) for case in past), 10)
 
+    def test_last_claimed(self):
+        """No store that is out of range by word 11 alone, with 0, with N + 1 or with more, or by one of words 12 to 15
+        alone; no claim from some record of a small store."""
+        stores = [case.words for case in SINGLES if case.call[0] != 'open' and im.admission(case.words) == 3]
+        last = [(words[im.LAST_CLAIMED], words[1]) for words in stores if in_range_with(words, im.LAST_CLAIMED, 1)]
+        self.assertGreater(sum(word == 0 for word, _ in last), 10)
+        self.assertGreater(sum(word == N + 1 for word, N in last), 10)
+        self.assertGreater(sum(word > N + 1 for word, N in last), 10)
+        for k in range(im.SPARE, im.CONTENTS):
+            self.assertGreater(sum(in_range_with(words, k, 0) for words in stores), 5, k)
+        steps = [step for case in SINGLES for step in dc.steps_of(case)]
+        claims = {(words[1], words[im.LAST_CLAIMED]) for words, call, reply in steps if claims_one(words, call, reply)}
+        self.assertEqual(claims, {(N, last) for N in range(2, 5) for last in range(1, N + 1)})
+
+    def test_claims(self):
+        """No claim from record 63, past the end, over a lower free record, of the record claimed last, or of none; on the
+        small stores, some record that is never taken from some other."""
+        seen = [(words[1], words[im.LAST_CLAIMED], record, im.free_records(words)) for words, record in CLAIMS]
+        for N in range(2, 5):
+            every = {(last, record) for last in range(1, N + 1) for record in range(N + 1)}
+            self.assertEqual({(last, record) for n, last, record, _ in seen if n == N}, every)
+        large = [case for case in seen if case[0] == 64]
+        self.assertGreater(sum(last == 64 and record > 0 for _, last, record, _ in large), 5)
+        self.assertGreater(sum(0 < record < last for _, last, record, _ in large), 5)
+        self.assertGreater(sum(free[0] + 1 < record for *_, record, free in large if free), 5)
+        self.assertGreater(sum(record == last for _, last, record, _ in large), 5)
+        self.assertGreater(sum(record == 0 for _, _, record, _ in large), 5)
+
     def test_items_left(self):
         """Final stores that hold too few items to show their order."""
         self.assertGreater(sum(len(case.expected[2]) > 1 for case in SCHEDULES), 20)
@@ -145,6 +180,16 @@ class Reach(unittest.TestCase):
         verdicts = [case.expected[:1] if case.expected[0] != 'refused' else case.expected for case in HISTORIES]
         for verdict in [('explained',), ('unexplained',)] + [('refused', number) for number in range(10, 14)]:
             self.assertGreater(verdicts.count(verdict), 60, verdict)
+
+
+def claims_one(words, call, reply):
+    """Whether a call with this reply claimed a record."""
+    return reply == im.GOING and call[1] > 0 and words[im.CONTENTS + im.THREAD_WORDS * call[1]] in (4, 10)
+
+
+def in_range_with(words, k, word):
+    """Whether a store is in range with another word k."""
+    return im.in_range(words[:k] + [word] + words[k + 1 :])
 
 
 def places(words):

@@ -5,9 +5,11 @@ import random
 import subprocess
 import unittest
 
+import claim_stores
 import engine_library
 import intake_model as model
 from archives import ROOT, archive
+from test_model import random_store
 
 LARGEST = (64, 64, 16, 1000000)
 
@@ -66,6 +68,10 @@ class Differential(unittest.TestCase):
             self.assertEqual(words, before)
         return want
 
+    def on(self, words, call):
+        """One call of both on words that are lent for it alone."""
+        return self.both(engine_library.Engine(self.library, words), words, call)
+
     def test_schedules(self):
         """A phase, a reply or a word that differs from the rules on stores that only the engine has written."""
         rng, seen = random.Random(11), collections.Counter()
@@ -91,11 +97,39 @@ class Differential(unittest.TestCase):
             for _ in range(rng.randrange(200)):
                 run.call(random_call(rng, sizes[2]))
             for _ in range(60):
-                words = damaged(rng, run.words)
-                reply = self.both(engine_library.Engine(self.library, words), words, random_call(rng, sizes[2]))
+                reply = self.on(damaged(rng, run.words), random_call(rng, sizes[2]))
                 seen[kind(reply)] += 1
         for number in (2, 3, 4, 5, 7, 9):
             self.assertGreaterEqual(seen['refused', number], 50, seen)
+
+    def test_stores_in_range(self):
+        """A phase that goes wrong on words in range that no engine has written: links, indexes, numbers, word 11."""
+        rng, seen = random.Random(15), collections.Counter()
+        for _ in range(5000):
+            store = random_store(rng)
+            for call in [('d',)] + [call for t in range(store[2] + 1) for call in (('e', t, 7), ('s', t))]:
+                words = list(store)
+                seen[kind(self.on(words, call))] += 1
+        for known in ('ok', 'going', 'end', 'empty', 'item', *(('refused', number) for number in range(4, 10))):
+            self.assertGreaterEqual(seen[known], 50, seen)
+
+    def test_claims(self):
+        """A claim that takes another record than the next free one, or leaves word 11, or changes it and finds none."""
+        rng, seen = random.Random(16), collections.Counter()
+        for words in claim_stores.small(rng) + claim_stores.large(rng, 3000):
+            seen[kind(self.on(words, ('s', 1)))] += 1
+        for known in ('going', 'end', ('refused', 8)):
+            self.assertGreaterEqual(seen[known], 50, seen)
+
+    def test_words_11_to_15(self):
+        """A word 11 of 0 or above N, or one of words 12 to 15 that is not zero, that is let through."""
+        rng = random.Random(17)
+        for _ in range(300):
+            store = random_store(rng)
+            wrong = [(11, 0), (11, store[1] + 1), (11, rng.randrange(65, 2**32)), (11, 2**32 - 1)]
+            for at, word in wrong + [(at, word) for at in range(12, 16) for word in (1, 2**32 - 1)]:
+                words = store[:at] + [word] + store[at + 1 :]
+                self.assertEqual(self.on(words, random_call(rng, store[2])), ('refused', 3))
 
     def test_largest_store(self):
         """A bound or an address that fails only at the largest sizes."""
@@ -106,10 +140,10 @@ class Differential(unittest.TestCase):
         self.assertEqual(engine.open(LARGEST), 0)
         for _ in range(2500):
             self.both(engine, words, random_call(rng, 16))
-        for at in [0, 5, 15, 16, 143, 151, 152, 155, 12695] + [rng.randrange(12696) for _ in range(150)]:
+        for at in [0, 5, 11, 15, 16, 143, 151, 152, 155, 12695] + [rng.randrange(12696) for _ in range(150)]:
             spoiled = list(words)
             spoiled[at] = 2**32 - 1
-            self.both(engine_library.Engine(self.library, spoiled), spoiled, random_call(rng, 16))
+            self.on(spoiled, random_call(rng, 16))
 
     def test_open(self):
         """An open that takes sizes outside the limits, a short store, or writes past the store."""

@@ -22,6 +22,15 @@ def set_behind_cursor(v):
     return v.set_positions(v.consumer.cursor_position)
 
 
+def free_at_claim(v):
+    """The free records where a producer is about to claim one; elsewhere none."""
+    return im.free_records(v.words) if v.in_phases(4, 4) or v.in_phases(10, 10) else []
+
+
+def last_claimed(v):
+    return v.words[im.LAST_CLAIMED] - 1
+
+
 # What an exploration has to meet, or it shows little.
 SITUATIONS = {
     'a producer goes back': lambda v: v.in_phases(7, 7),
@@ -32,6 +41,11 @@ SITUATIONS = {
     'a link is lost in 11': lambda v: any(v.next[r] is not None for r in held_in(v, 11, 11)),
     'no record is free in 4': lambda v: v.in_phases(4, 4) and not im.free_records(v.words),
     'no record is free in 10': lambda v: v.in_phases(10, 10) and not im.free_records(v.words),
+    'a claim goes past the end': lambda v: free_at_claim(v) and im.next_free(v.words) < last_claimed(v),
+    'a claim passes over a lower free record': lambda v: im.next_free(v.words) in free_at_claim(v)[1:],
+    'a claim passes over the record claimed last': lambda v: last_claimed(v) in free_at_claim(v)
+    and len(free_at_claim(v)) > 1,
+    'a claim takes the record claimed last': lambda v: free_at_claim(v) == [last_claimed(v)],
     'a record is linked for the second time': lambda v: v.hi > v.N,
     'the tail record lags': lambda v: v.tp < v.hi,
     'the head record has its end to be left': lambda v: v.hp == v.B * v.lo and v.lo < v.tp,
@@ -146,8 +160,8 @@ def reachable_states(rng, runs):
     for _ in range(runs):
         words, ghost = explore.open_words(2, 3, 3, 12), invariants.Ghost()
         for _ in range(120):
-            call, record = rng.choice(list(explore.moves(words, im.Intake)))
-            after, reply = explore.after(words, call, record, im.Intake)
+            call = rng.choice(list(explore.moves(words)))
+            after, reply = explore.after(words, call, im.Intake)
             ghost, words = ghost.after(call, words, reply), after
             yield words, ghost
 

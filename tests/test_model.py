@@ -1,8 +1,9 @@
-"""The model against document 01: its runs, its refusals, damaged stores, and its four traps."""
+"""The model against document 01 and U1 of document 02: runs, claims, refusals, damaged stores, and the four traps."""
 
 import random
 import unittest
 
+import claim_stores
 import intake_model as im
 from intake_model import Intake, Recorder, needed_words, open_store, start_dequeue, start_enqueue, step
 
@@ -49,6 +50,16 @@ def dequeue_whole(recorder, limit=50):
         if reply != GOING:
             return reply
     return None
+
+
+def enqueue_after_three(recorder, last):
+    """Enqueues at positions 0 to 2, three dequeues, enqueues at positions 3 to the last."""
+    for v in range(3):
+        enqueue_whole(recorder, 1, v)
+    for _ in range(3):
+        dequeue_whole(recorder)
+    for v in range(3, last + 1):
+        enqueue_whole(recorder, 1, v)
 
 
 class Runs(unittest.TestCase):
@@ -98,7 +109,7 @@ class Runs(unittest.TestCase):
         words = [9] * (needed_words(2, 2, 1) + 3)
         self.assertEqual(open_store(words, 2, 2, 1, 5), OK)
         record_0 = [1, 0, 0, 2] + [0] * 6
-        contents = [2, 2, 1, 5, 16, 32, 0, 1, 1, 0, 0, 0, 0, 0, 0, 0]
+        contents = [2, 2, 1, 5, 16, 32, 0, 1, 1, 0, 0, 1, 0, 0, 0, 0]
         self.assertEqual(words, contents + [0] * 16 + record_0 + [0] * 10 + [9] * 3)
 
     def test_head_advances_with_its_item(self):
@@ -151,21 +162,160 @@ class Runs(unittest.TestCase):
     def test_items_left_by_position(self):
         """Items left in record order instead of queue order: here record 0 comes after record 1."""
         recorder = Recorder(2, 2, 1, 9)
-        for v in range(3):
-            enqueue_whole(recorder, 1, v)
-        for _ in range(3):
-            dequeue_whole(recorder)
-        for v in range(3, 6):
-            enqueue_whole(recorder, 1, v)
+        enqueue_after_three(recorder, 5)
         self.assertEqual(im.items_left(recorder.words), [(4, 3), (5, 4), (6, 5)])
 
-    def test_no_reply_depends_on_the_pick(self):
-        """A claim whose choice among the free records can be told from the replies."""
+
+# Claiming the next one round (document 02, U1): wrong engines, then the runs.
+
+
+class StartsAtTheLast(Intake):
+    """A claim looks at the record claimed last first."""
+
+    def next_record(self):
+        last = self.w[im.LAST_CLAIMED] - 1
+        return last if last in im.free_records(self.w) else super().next_record()
+
+
+class StopsAtTheEnd(Intake):
+    """A claim looks at the records after the one claimed last and no further."""
+
+    def next_record(self):
+        return min((r for r in im.free_records(self.w) if r >= self.w[im.LAST_CLAIMED]), default=None)
+
+
+class LeavesWord11(Intake):
+    """A claim does not write word 11."""
+
+    def claim_one(self, r):
+        last = self.w[im.LAST_CLAIMED]
+        super().claim_one(r)
+        self.w[im.LAST_CLAIMED] = last
+
+
+class Claims(unittest.TestCase):
+    """Which record a claim takes. A run gives for each claim the record, None for none, and word 11 after it."""
+
+    ONE_ROUND = [(1, 2), (2, 3), (3, 4), (0, 1), (None, 1), (None, 1)]
+    GIVEN_BACK = [(1, 2), (2, 3)]
+
+    def test_one_round(self):
+        """A claim that takes a lower free record, that does not go past the end, or that finds none and writes word 11:
+        record 0 is free again before record 2 is claimed, and after the fourth claim none is."""
+        self.assertEqual(one_round_run(Intake), self.ONE_ROUND)
+
+    def test_the_one_claimed_last_comes_last(self):
+        """A claim that takes the record claimed last, given back since, before another one; or that never takes it."""
+        self.assertEqual(given_back_run(Intake, 4, 0), self.GIVEN_BACK + [(3, 4)])
+        self.assertEqual(given_back_run(Intake, 3, 3), self.GIVEN_BACK + [(0, 1)])
+        self.assertEqual(given_back_run(Intake, 3, 0), self.GIVEN_BACK + [(2, 3)])
+
+    def test_wrong_claims(self):
+        """Runs too weak to see a claim that starts at the record claimed last, stops at the end, or leaves word 11."""
+        self.assertEqual(given_back_run(StartsAtTheLast, 4, 0)[-1], (2, 3))
+        self.assertEqual(given_back_run(StartsAtTheLast, 3, 3)[-1], (2, 3))
+        self.assertEqual(one_round_run(StopsAtTheEnd)[3], (None, 4))
+        self.assertEqual(given_back_run(StopsAtTheEnd, 3, 0)[-1], (None, 3))
+        self.assertEqual(one_round_run(LeavesWord11)[0], (1, 1))
+
+    def test_any_store(self):
+        """A search that goes wrong from some record claimed last, or among some free ones. It must take the free record
+        that the fewest steps upward lead to, modulo N."""
+        rng, seen = random.Random(5), set()
+        for words in claim_stores.small(rng) + claim_stores.large(rng, 2000):
+            N, last = words[1], words[im.LAST_CLAIMED] - 1
+            nearest = min(im.free_records(words), key=lambda r: (r - last - 1) % N, default=None)
+            self.assertEqual(im.next_free(words), nearest)
+            seen.add((N, last, nearest))
+        for N in range(2, 5):
+            self.assertEqual(sum(key[0] == N for key in seen), N * (N + 1))
+
+    def test_no_reply_depends_on_the_record(self):
+        """Replies by which two runs of the same calls differ, though their claims find a record at the same steps. Each
+        run takes other free records; one claim in five finds none, the same ones in all runs."""
+        other_words = 0
         for seed in range(60):
-            picks = (im.lowest, lambda free: free[-1], random.Random(seed).choice)
-            replies = [random_calls(Recorder(2, 5, 3, 40, pick=pick), seed, 300) for pick in picks]
-            self.assertEqual(replies[0], replies[1])
-            self.assertEqual(replies[0], replies[2])
+            draw = random.Random(seed)
+            takes = (im.next_free, lowest, highest, lambda words: draw.choice(im.free_records(words)))
+            (first, finds), *others = [any_record_run(take, seed) for take in takes]
+            for recorder, found in others:
+                self.assertEqual(found, finds)
+                self.assertEqual(recorder.replies, first.replies)
+                other_words += recorder.words != first.words
+            self.assertEqual(set(finds), {True, False})
+        self.assertGreater(other_words, 100)
+
+    def test_same_calls_leave_the_same_words(self):
+        """Dumps of two runs of the same calls that differ by what their stores held before open, or by their length."""
+        size = needed_words(2, 5, 3)
+        for seed in range(60):
+            rng = random.Random(seed)
+            lent = [[rng.getrandbits(32) for _ in range(size + more)] for more in (0, 1 + seed % 9)]
+            recorders = [Recorder(2, 5, 3, 40, words=words) for words in lent]
+            for recorder in recorders:
+                random_calls(recorder, seed, 300)
+            self.assertEqual(recorders[0].words, recorders[1].words[:size])
+
+
+def lowest(words):
+    return im.free_records(words)[0]
+
+
+def highest(words):
+    return im.free_records(words)[-1]
+
+
+def any_record_run(take, seed):
+    """Random calls on an engine whose claims take the free record that `take` says, though one in five finds none: the
+    recorder, and for each claim whether it found a record."""
+    draw, found = random.Random(seed), []
+
+    class TakesAnyRecord(Intake):
+        def next_record(self):
+            found.append(draw.random() < 0.8 and bool(im.free_records(self.w)))
+            return take(self.w) if found[-1] else None
+
+    recorder = Recorder(2, 5, 3, 40, engine=TakesAnyRecord)
+    random_calls(recorder, seed, 300)
+    return recorder, found
+
+
+class ClaimRecorder(Recorder):
+    """Keeps for each claim the record that it took, None for none, and word 11 after it."""
+
+    def __init__(self, *sizes, engine):
+        super().__init__(*sizes, engine=engine)
+        self.claims = []
+
+    def call(self, call):
+        producer = call[1] if call[0] == 's' else 0
+        own = 16 + 8 * producer
+        claims = producer and self.words[own] in (4, 10)
+        reply = super().call(call)
+        if claims:
+            self.claims.append((self.words[own + im.CLAIMED] - 1 if reply == GOING else None, self.words[11]))
+        return reply
+
+
+def one_round_run(engine):
+    """B = 2, N = 4. Record 0 is free again before position 3. A claim in phase 10 at each odd position, and one in
+    phase 4 at position 10."""
+    recorder = ClaimRecorder(2, 4, 1, 99, engine=engine)
+    enqueue_after_three(recorder, 10)
+    return recorder.claims
+
+
+def given_back_run(engine, N, dequeues):
+    """B = 2. Producer 1 in phase 4 and producer 2 in phase 10, both holding record 0, claim records 1 and 2. Producer 1
+    links; producer 2 gives record 2 back. Producer 1 ends. After so many dequeues (three leave record 0 free) it
+    enqueues at position 3, and claims."""
+    recorder = ClaimRecorder(2, N, 2, 9, engine=engine)
+    enqueue_whole(recorder, 1, 0)
+    recorder.run(E(2, 1) + S(2, 3) + E(1, 2) + S(1, 3) + S(2) + S(1) + S(2) + S(1) + S(2) + S(1, 4))
+    for _ in range(dequeues):
+        dequeue_whole(recorder)
+    enqueue_whole(recorder, 1, 3)
+    return recorder.claims
 
 
 def random_calls(recorder, seed, count):
@@ -229,8 +379,9 @@ class ReadsTheHeadFirst(Intake):
 class ReusesHeldRecords(Intake):
     """A retired record is free even while a producer holds it."""
 
-    def free(self):
-        return [r for r in range(self.N) if self.part(r, im.USE) in (im.USE_FREE, im.USE_RETIRED)]
+    def next_record(self):
+        unused = [r for r in range(self.N) if self.part(r, im.USE) in (im.USE_FREE, im.USE_RETIRED)]
+        return im.first_after_last(self.w, unused)
 
 
 TRAPS = (RescansPastTheHead, StopsTwoShort, ShiftsOnlyAfterOwnLink, ReadsTheHeadFirst, ReusesHeldRecords)
@@ -361,7 +512,7 @@ class Refusals(unittest.TestCase):
         """A range that is off by one, or a word that is not looked at."""
         words = opened(2, 3, 1, 4)
         limits = {4: (16, 16), 5: (32, 32), 6: (0, 4), 7: (1, 3), 8: (1, 3), 9: (0, 4), 10: (0, 4)}
-        limits |= {k: (0, 0) for k in range(11, 16)}
+        limits |= {11: (1, 3)} | {k: (0, 0) for k in range(12, 16)}
         limits |= {16: (0, 7), 24: (0, 11)} | {k: (0, 0) for k in (*range(17, 24), *range(25, 32))}
         for r in (32, 42, 52):
             limits |= {r: (0, 500_002), r + 1: (0, 3), r + 2: (0, 3), r + 3: (0, 3)}
@@ -538,7 +689,7 @@ def random_store(rng):
     """A store of random words, each within its range."""
     B, N, P, M = rng.randint(2, 3), rng.randint(2, 4), rng.randint(1, 2), rng.randint(1, 9)
     words = [B, N, P, M, 16, 16 + 8 * (P + 1), rng.randint(0, M), rng.randint(1, N), rng.randint(1, N)]
-    words += [rng.randint(0, M), rng.randint(0, M)] + [0] * 5
+    words += [rng.randint(0, M), rng.randint(0, M), rng.randint(1, N)] + [0] * 4
     for t in range(P + 1):
         by_phase = im.thread_limits(N, M)[1 if t else 0]
         phase = rng.randrange(len(by_phase))

@@ -3,7 +3,7 @@
  * CONTESTANT is the name that bench.c knows it by, LABEL the one that it prints. */
 #include "bench.h"
 
-enum { TAIL = 6, TAIL_RECORD, HEAD_RECORD, HEAD_POSITION, STARTS };
+enum { TAIL = 6, TAIL_RECORD, HEAD_RECORD, HEAD_POSITION, STARTS, LAST_CLAIMED };
 enum { PHASE, CALL, VALUE, POSITION, HELD, CLAIMED, BACKED };
 enum { CURSOR_RECORD = 1, CURSOR_POSITION, FOUND_RECORD, FOUND_POSITION, ITEM_NUMBER, ITEM_VALUE };
 enum { PLACE, NEXT, PREV, USE };
@@ -95,7 +95,8 @@ static uint32_t admit(Store *z, uint32_t *s, size_t words) {
     z->size = 3 * z->B + 4;
     if (words < z->first + (size_t)z->N * z->size) return 2;
     if (s[4] != 16 || s[5] != z->first || s[TAIL] > z->M || s[TAIL_RECORD] < 1 || s[TAIL_RECORD] > z->N || s[HEAD_RECORD] < 1 ||
-        s[HEAD_RECORD] > z->N || s[HEAD_POSITION] > z->M || s[STARTS] > z->M || (s[11] | s[12] | s[13] | s[14] | s[15]) != 0)
+        s[HEAD_RECORD] > z->N || s[HEAD_POSITION] > z->M || s[STARTS] > z->M || s[LAST_CLAIMED] < 1 || s[LAST_CLAIMED] > z->N ||
+        (s[12] | s[13] | s[14] | s[15]) != 0)
         return 3;
     if (!consumer_ok(z, thread(z, 0))) return 3;
     for (uint32_t t = 1; t <= z->P; t++)
@@ -131,16 +132,23 @@ static int is_free(Store *z, uint32_t r) {
     return 1;
 }
 
-static int claim(Store *z, uint32_t *w, uint32_t phase) {
-    for (uint32_t r = 1; r <= z->N; r++)
-        if (is_free(z, r)) {
-            clear(record(z, r), z->size);
-            record(z, r)[USE] = 1;
-            w[CLAIMED] = r;
-            w[PHASE] = phase;
-            return 1;
-        }
+/* the first free record from one to another, or 0 */
+static uint32_t first_free(Store *z, uint32_t from, uint32_t to) {
+    for (uint32_t r = from; r <= to; r++)
+        if (is_free(z, r)) return r;
     return 0;
+}
+
+/* takes the first free record after the one claimed last, past the end to the first; the one claimed last comes last */
+static int claim(Store *z, uint32_t *w, uint32_t phase) {
+    uint32_t *last = &z->s[LAST_CLAIMED], r = first_free(z, *last + 1, z->N);
+    if (!r) r = first_free(z, 1, *last);
+    if (!r) return 0;
+    clear(record(z, r), z->size);
+    record(z, r)[USE] = 1;
+    *last = w[CLAIMED] = r;
+    w[PHASE] = phase;
+    return 1;
 }
 
 static int link_claimed(Store *z, uint32_t *w) {

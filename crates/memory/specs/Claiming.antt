@@ -10,7 +10,7 @@ use lib.Dec.{eqb}
 use borrow.Author.Tests.{eq-eqb, ne-eqb, le-leb}
 use Rattle.history.specs.Lists.{All}
 use Rattle.rules.specs.Sizes.{Sizes}
-use Rattle.rules.specs.Cell.{Reader, Write, _:=_, wipe, lastClaimed, cursorRecord, foundRecord, place, next, prev, used, claimed, phase, state, held}
+use Rattle.rules.specs.Cell.{Reader, Write, _:=_, wipe, lastClaimed, cursorRecord, foundRecord, used, claimed, phase, state, held}
 use Rattle.rules.specs.Update.{after, and-true}
 use Rattle.rules.specs.InRange.{InSort}
 use Rattle.memory.specs.Memory.{ChainShape, Holdable, Blank, ThreadOk, rowOf, Linked, Memory, claimed-is, chain-stays}

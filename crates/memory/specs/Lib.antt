@@ -2,6 +2,7 @@ pub mod Chain
 pub mod Memory
 pub mod LastRecord
 pub mod OtherThreads
+pub mod NextFree
 pub mod Loose
 pub mod Claiming
 pub mod Linking

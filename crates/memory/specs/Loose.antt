@@ -13,7 +13,7 @@ use Rattle.rules.specs.Range.{every}
 use Rattle.rules.specs.Free.{free, letGo, holds, nextFree}
 use Rattle.rules.specs.Update.{both, true-false}
 use Rattle.rules.specs.InRange.{every-at}
-use Rattle.rules.specs.NextFree.{RightChoice, next-free-right}
+use Rattle.memory.specs.NextFree.{RightChoice, next-free-right}
 use Rattle.memory.specs.Memory.{ChainShape, Memory, held-is, claimed-is}
 
 -- It is not linked, not claimed, and no producer holds it or has claimed it.

@@ -1,7 +1,7 @@
 // *Open* (document 01, "Calls"), on any words.
 ghost use mathlib.Core.Path.{_≡_};
 ghost use mathlib.Core.List.{[], _∷_};
-ghost use Rattle.rules.specs.Sizes.{firstRecord};
+ghost use Rattle.rules.specs.Sizes.{contentWords, firstRecord};
 ghost use Rattle.rules.specs.Cell.{writes, _:=_, content, lastClaimed, tailRecord, headRecord, place, used};
 ghost use Rattle.rules.specs.Request.{open-store};
 ghost use Rattle.store.specs.Shape.{sizes};
@@ -24,7 +24,7 @@ use store::word;
 // The sizes and first words of a store.
 fn write_contents(s: &mut [u32], z: Shape)
     requires { ⌜ Room (sizes z) (now s) ⌝ }
-    ensures { λ _. ⌜ now (s .exit) ≡ writes (sizes z) (now (s .entry)) (content 0 := z .entries ∷ content 1 := z .records ∷ content 2 := z .producers ∷ content 3 := z .starts ∷ content 4 := 16 ∷ content 5 := firstRecord (sizes z) ∷ []) ⌝ }
+    ensures { λ _. ⌜ now (s .exit) ≡ writes (sizes z) (now (s .entry)) (content 0 := z .entries ∷ content 1 := z .records ∷ content 2 := z .producers ∷ content 3 := z .starts ∷ content 4 := contentWords ∷ content 5 := firstRecord (sizes z) ∷ []) ⌝ }
 {
     put_content(s, z, word::ENTRIES, z.entries);
     put_content(s, z, word::RECORDS, z.records);

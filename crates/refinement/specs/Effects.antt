@@ -20,7 +20,7 @@ use Rattle.rules.specs.Request.{Request, startEnqueue, startDequeue, step, star
 use Rattle.rules.specs.Update.{both, neither}
 use Rattle.rules.specs.Readback.{WriteThere}
 use Rattle.rules.specs.InRange.{InRange, range-has}
-use Rattle.rules.specs.NextFree.{RightChoice, next-free-right}
+use Rattle.memory.specs.NextFree.{RightChoice, next-free-right}
 use Rattle.refinement.specs.RecordNumbers.{isLink, links, consumer-link, producer-link, content-link, last-claimed-link, part-link}
 
 -- The three kinds of replies: ok, a call number, a step's.

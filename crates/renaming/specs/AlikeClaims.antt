@@ -14,7 +14,7 @@ use Rattle.rules.specs.Producer.{claim, claimRecord, claimAhead}
 use Rattle.memory.specs.Memory.{ChainShape, Memory}
 use Rattle.memory.specs.Loose.{Loose, LooseChoice}
 use Rattle.memory.specs.Claiming.{claimWrites}
-use Rattle.renaming.specs.Renaming.{Renaming, to-apart, renamed, renamed-is, isLink, seen, exchanged, by-exchanged}
+use Rattle.renaming.specs.Renaming.{Renaming, to-apart, renamed, isLink, seen, exchanged, by-exchanged}
 use Rattle.renaming.specs.Alike.{NoRecord, kind, Same, Body, Alike}
 use Rattle.renaming.specs.AlikeEffects.{Like, not-cleared, not-relinked, by-refusal, by-plain}
 use Rattle.renaming.specs.AlikeRecords.{Twins, kind-two, tail-linked, head-linked, cursor-linked, found-linked, next-linked}

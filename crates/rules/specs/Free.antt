@@ -24,7 +24,7 @@ firstFrom k zero p = 0
 firstFrom k (suc n) p = elim (p k) [ true ↦ suc k | false ↦ firstFrom (suc k) n p ]
 
 -- A claim takes the first free record after the one claimed last, counting upward and past the end to record 0. So the one claimed last
--- comes last of all. (Its number is stored plus one: it is the number of the record after it.)
+-- comes last of all. (Word 11 holds its number plus one, which is the number of the record after it.)
 unfoldable pub nextFree : Sizes → Reader → ℕ
 nextFree z σ =
     elim (firstFrom (σ lastClaimed) (z .N - σ lastClaimed) (free z σ))

@@ -11,7 +11,7 @@ use borrow.Author.Tests.{le-leb}
 use Rattle.history.specs.Lists.{All}
 use Rattle.rules.specs.Sizes.{Sizes}
 use Rattle.rules.specs.Cell.{Cell, content, lastClaimed, spare, consumer, producer, part, entry, Reader, Area, contents, ofConsumer, ofProducer, ofRecord, Write, _:=_, clear}
-use Rattle.rules.specs.Range.{Sort, any, ofSort, contentSorts, lastClaimedSort, spareSorts, partSorts, entrySorts, consumerSorts, producerSorts, lastConsumerPhase, lastProducerPhase, ofSorts, every, threadInRange, consumerInRange, producerInRange, recordInRange, threadsInRange, recordsInRange, inRange}
+use Rattle.rules.specs.Range.{Sort, any, ofSort, contentSorts, lastClaimedSort, spareSorts, partSorts, entrySorts, consumerSorts, producerSorts, lastConsumerPhase, lastProducerPhase, ofSorts, every, threadInRange, consumerInRange, producerInRange, recordInRange, inRange}
 use Rattle.rules.specs.Update.{areaOf, touches, valueLeft, update, after, areaTouched, same-eq, same-area-eq, other-area, both, and-true}
 use Rattle.rules.specs.Address.{There}
 

@@ -14,5 +14,4 @@ pub mod Address
 pub mod Readback
 pub mod Refusal
 pub mod InRange
-pub mod NextFree
 pub mod EveryWord

@@ -145,6 +145,7 @@ abbrev pub recordInRange : Sizes → Reader → ℕ → Bool
 recordInRange z σ r =
     ofSorts z (λ k. σ (part r k)) 0 partSorts && every (z .B) (λ i. ofSorts z (λ k. σ (entry r i k)) 0 entrySorts)
 
+-- Words 0 to 15.
 abbrev pub contentsInRange : Sizes → Reader → Bool
 contentsInRange z σ =
     ofSorts z (λ k. σ (content k)) 0 (contentSorts z) && (ofSort z lastClaimedSort (σ lastClaimed) && ofSorts z (λ k. σ (spare k)) 0 spareSorts)

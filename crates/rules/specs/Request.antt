@@ -5,7 +5,7 @@ use mathlib.Core.List.{List, [], _∷_, _++_}
 use Prim.Native.Nat.{ℕ, suc}
 use lib.Dec.{ltb, eqb}
 use lib.ListN.{length, getD, drop, replicate}
-use Rattle.rules.specs.Sizes.{Sizes, sizesInRange, firstRecord, storeWords}
+use Rattle.rules.specs.Sizes.{Sizes, sizesInRange, contentWords, firstRecord, storeWords}
 use Rattle.rules.specs.Cell.{Reader, Write, reader, writes, _:=_, content, lastClaimed, tailRecord, headRecord, starts, consumerPhase, phase, call, value, place, used}
 use Rattle.rules.specs.Range.{inRange}
 use Rattle.rules.specs.Free.{nextFree}
@@ -31,7 +31,7 @@ openWrites z =
     ∷ content 1 := z .N
     ∷ content 2 := z .P
     ∷ content 3 := z .M
-    ∷ content 4 := 16
+    ∷ content 4 := contentWords
     ∷ content 5 := firstRecord z
     ∷ tailRecord := 1
     ∷ headRecord := 1

@@ -2,7 +2,7 @@
 use mathlib.Core.Path.{_≡_, refl, ap, ap₂, sym, _∙_, subst, subst⁻¹, fun-ext}
 use mathlib.Core.Bool.{true}
 use mathlib.Core.List.{List, [], _∷_, _++_}
-use Prim.Native.Nat.{ℕ, _≤_, _<_}
+use Prim.Native.Nat.{ℕ, _≤_}
 use native.Mathlib.Omega.{arith}
 use Rattle.history.specs.Lists.{All}
 use Rattle.history.specs.Event.{History}
@@ -17,7 +17,7 @@ use Rattle.rules.specs.Request.{Request, step}
 use Rattle.rules.specs.Play.{threadOf, replyEvents}
 use Rattle.rules.specs.Readback.{WriteThere}
 use Rattle.rules.specs.InRange.{InSort, writes-keep-range}
-use Rattle.model.specs.State.{Producer, Consumer, State, override}
+use Rattle.model.specs.State.{Producer, Consumer, State}
 use Rattle.model.specs.Invariant.{Invariant}
 use Rattle.model.specs.Moves.{withProducer, withConsumer}
 use Rattle.memory.specs.Memory.{ThreadOk, rowOf, Linked}

@@ -1,6 +1,6 @@
 -- Producer phases 4 and 10, which claim a record.
 use mathlib.Core.Path.{_≡_, refl, ap, sym, _∙_}
-use mathlib.Core.Logic.{⊎-elim, _≢_}
+use mathlib.Core.Logic.{_≢_}
 use mathlib.Core.Bool.{true}
 use mathlib.Core.List.{List, [], _∷_}
 use Prim.Native.Nat.{ℕ, zero, suc, _≤_, _<_}
@@ -12,7 +12,7 @@ use borrow.Author.Tests.{eq-eqb, ne-eqb}
 use Rattle.history.specs.Lists.{All}
 use Rattle.history.specs.Event.{enqueueEnded}
 use Rattle.rules.specs.Sizes.{Sizes}
-use Rattle.rules.specs.Cell.{Reader, Write, clearProducer, place, used, phase, call, value, position, held, producer}
+use Rattle.rules.specs.Cell.{Reader, Write, clearProducer, place, phase, call, value, position, held, producer}
 use Rattle.rules.specs.Update.{after}
 use Rattle.rules.specs.Range.{lastProducerPhase, producerSorts}
 use Rattle.rules.specs.Rule.{going, ended}

@@ -15,13 +15,12 @@ use Rattle.history.specs.Linearization.{Item}
 use Rattle.rules.specs.Sizes.{Sizes}
 use Rattle.rules.specs.Update.{after, both, update, areaOf, OtherKind, Own, own-leaves}
 use Rattle.rules.specs.Cell.{Cell, Reader, Write, _:=_, clearProducer, tail, tailRecord, headRecord, headPosition, starts, cursorRecord, foundRecord, consumer, producer, part, entry, place, used, state, entryNumber, entryValue, phase, call, value, position, held, backed, ofProducer}
-use Rattle.rules.specs.Range.{number, startedSorts, placedSorts, producerSorts, producerInRange}
+use Rattle.rules.specs.Range.{number, startedSorts, placedSorts, producerInRange}
 use Rattle.rules.specs.Rule.{Reply, going, ended, goes, reply, index}
 use Rattle.rules.specs.Producer.{takePosition, writeEntry, setEntry}
 use Rattle.rules.specs.Request.{step}
 use Rattle.rules.specs.Play.{replyEvents}
 use Rattle.rules.specs.InRange.{InSort}
-use Rattle.rules.specs.Readback.{WriteThere}
 use Rattle.model.specs.State.{put, Producer, started, writing, setting, idle, callOf, override}
 use Rattle.model.specs.Invariant.{Invariant, Inside}
 use Rattle.model.specs.Facts.{override-same, override-other}

@@ -16,7 +16,7 @@ use Rattle.history.specs.Form.{wellFormed}
 use Rattle.rules.specs.Sizes.{Sizes, mostPlace}
 use Rattle.rules.specs.Cell.{Cell, Reader, Write, _:=_, clearProducer, tail, headPosition, starts, producer, part, entry, consumer, place, next, prev, used, phase, call, value, position, held, claimed, tailRecord, headRecord, cursorRecord, foundRecord, ofProducer}
 use Rattle.rules.specs.Update.{after, update, areaOf, OtherKind, Own, own-leaves}
-use Rattle.rules.specs.Range.{number, link, most, producerSorts, producerInRange}
+use Rattle.rules.specs.Range.{number, link, most, producerInRange}
 use Rattle.rules.specs.Rule.{Reply, Effect, going, ended, goes, reply}
 use Rattle.rules.specs.Producer.{linked, linkClaimed, linkAhead}
 use Rattle.rules.specs.Request.{step}

@@ -13,7 +13,7 @@ use Rattle.criterion.specs.Growth.{enqueue-may-start, dequeue-may-start}
 use Rattle.rules.specs.Sizes.{Sizes}
 use Rattle.rules.specs.Cell.{Reader, Write, _:=_, starts, consumer, consumerPhase, phase, call, value}
 use Rattle.rules.specs.Update.{after, neither}
-use Rattle.rules.specs.Range.{number, idleSorts, producerSorts, consumerSorts}
+use Rattle.rules.specs.Range.{number, idleSorts}
 use Rattle.rules.specs.Rule.{ok, started}
 use Rattle.rules.specs.Request.{startEnqueue, startDequeue, startingEnqueue, startingDequeue}
 use Rattle.rules.specs.InRange.{InSort}
