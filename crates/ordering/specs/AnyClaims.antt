@@ -21,39 +21,39 @@ use Rattle.renaming.specs.AlikeClaims.{BothChoose}
 use Rattle.renaming.specs.AlikeEvery.{answer-alike}
 use Rattle.ordering.specs.Theorem.{Maintained, playTaking, keeps-taking, opened-kept}
 
--- A call in two runs: the records that its claim takes in the one and in the other, plus one; zero for none.
-pub record Twice : Type 0 where
+-- A call in two runs: the records that its claim takes in the first and in the second, plus one; zero for none.
+pub record PairedCall : Type 0 where
   pub request : Request
-  pub one : ℕ
-  pub other : ℕ
+  pub in-first : ℕ
+  pub in-second : ℕ
 
 -- The two runs.
-pub record Runs : Type 0 where
+pub record TwoRuns : Type 0 where
   pub first : Played
   pub second : Played
 
-abbrev pub makeBoth : Sizes → Twice → Runs → Runs
-makeBoth z x r = record { first = playTaking z (x .one) (x .request) (r .first); second = playTaking z (x .other) (x .request) (r .second) }
+abbrev pub callBoth : Sizes → PairedCall → TwoRuns → TwoRuns
+callBoth z x r = record { first = playTaking z (x .in-first) (x .request) (r .first); second = playTaking z (x .in-second) (x .request) (r .second) }
 
-abbrev pub runBoth : Sizes → List Twice → Runs → Runs
+abbrev pub runBoth : Sizes → List PairedCall → TwoRuns → TwoRuns
 runBoth z [] r = r
-runBoth z (x ∷ xs) r = runBoth z xs (makeBoth z x r)
+runBoth z (x ∷ xs) r = runBoth z xs (callBoth z x r)
 
 -- Along them every claim takes a loose record in both, or none in both.
-abbrev pub Choosing : Sizes → List Twice → Runs → Type 0
+abbrev pub Choosing : Sizes → List PairedCall → TwoRuns → Type 0
 Choosing z [] r = Unit
 Choosing z (x ∷ xs) r =
-    BothChoose z (reader z (r .first .words)) (reader z (r .second .words)) (x .one) (x .other) × Choosing z xs (makeBoth z x r)
+    BothChoose z (reader z (r .first .words)) (reader z (r .second .words)) (x .in-first) (x .in-second) × Choosing z xs (callBoth z x r)
 
--- Every reply of the one is that of the other, and so is every event.
-pub record SameReplies (r : Runs) : Type 0 where
+-- Every reply of the first is that of the second, and so is every event.
+pub record SameReplies (r : TwoRuns) : Type 0 where
   pub replies : r .first .replies ≡ r .second .replies
   pub history : r .first .history ≡ r .second .history
 
 -- What every call keeps of two runs.
-record Together (z : Sizes) (r : Runs) : Type 0 where
-  one : Maintained z (r .first)
-  other : Maintained z (r .second)
+record StillAlike (z : Sizes) (r : TwoRuns) : Type 0 where
+  first : Maintained z (r .first)
+  second : Maintained z (r .second)
   stores : Stores z (reader z (r .first .words)) (reader z (r .second .words))
   so-far : SameReplies r
 
@@ -63,15 +63,15 @@ record Both (z : Sizes) (a b : Result) : Type 0 where
   stores : Stores z (reader z (a .words)) (reader z (b .words))
 
 -- One call.
-module _ {z : Sizes} {r : Runs} (k : Together z r) (x : Twice)
-    (choice : BothChoose z (reader z (r .first .words)) (reader z (r .second .words)) (x .one) (x .other)) where
+module _ {z : Sizes} {r : TwoRuns} (k : StillAlike z r) (x : PairedCall)
+    (choice : BothChoose z (reader z (r .first .words)) (reader z (r .second .words)) (x .in-first) (x .in-second)) where
   abbrev σ : Reader
   σ = reader z (r .first .words)
 
   abbrev τ : Reader
   τ = reader z (r .second .words)
 
-  by-answers : (a b : Effect) → Fine z σ (k .one .beside) (x .request) a → Fine z τ (k .other .beside) (x .request) b
+  by-answers : (a b : Effect) → Fine z σ (k .first .beside) (x .request) a → Fine z τ (k .second .beside) (x .request) b
       → Like z σ τ a b → Both z (applied z (r .first .words) a) (applied z (r .second .words) b)
   unfolding applied
   by-answers (refuse n) (refuse m) f g l = record { reply-same = ap refused (l .answers); stores = k .stores }
@@ -82,8 +82,8 @@ module _ {z : Sizes} {r : Runs} (k : Together z r) (x : Twice)
         reply-same = ap accepted (l .answers .0);
         stores =
             rw (
-              reader-writes z (r .first .words) ws (k .one .fits) (f .there),
-              reader-writes z (r .second .words) vs (k .other .fits) (g .there),
+              reader-writes z (r .first .words) ws (k .first .fits) (f .there),
+              reader-writes z (r .second .words) vs (k .second .fits) (g .there),
             )
             (l .answers .1);
       }
@@ -91,25 +91,25 @@ module _ {z : Sizes} {r : Runs} (k : Together z r) (x : Twice)
   twins : Twins z σ τ
   twins =
       record {
-        γ = k .one .beside;
-        δ = k .other .beside;
-        good = k .one .good;
-        good′ = k .other .good;
+        γ = k .first .beside;
+        δ = k .second .beside;
+        good = k .first .good;
+        good′ = k .second .good;
         stores = k .stores;
       }
 
-  results : Both z (applied z (r .first .words) (effectTaking (x .one) (x .request) z σ)) (applied z (r .second .words) (effectTaking (x .other) (x .request) z τ))
+  results : Both z (applied z (r .first .words) (effectTaking (x .in-first) (x .request) z σ)) (applied z (r .second .words) (effectTaking (x .in-second) (x .request) z τ))
   results =
-      by-answers (effectTaking (x .one) (x .request) z σ) (effectTaking (x .other) (x .request) z τ)
-      (effect-fine z σ (k .one .beside) (k .one .good) (x .one) (choice .first) (x .request))
-      (effect-fine z τ (k .other .beside) (k .other .good) (x .other) (choice .second) (x .request))
-      (answer-alike twins (x .one) (x .other) choice (x .request))
+      by-answers (effectTaking (x .in-first) (x .request) z σ) (effectTaking (x .in-second) (x .request) z τ)
+      (effect-fine z σ (k .first .beside) (k .first .good) (x .in-first) (choice .first) (x .request))
+      (effect-fine z τ (k .second .beside) (k .second .good) (x .in-second) (choice .second) (x .request))
+      (answer-alike twins (x .in-first) (x .in-second) choice (x .request))
 
-  goes-on : Together z (makeBoth z x r)
+  goes-on : StillAlike z (callBoth z x r)
   goes-on =
       record {
-        one = keeps-taking (k .one) (x .request) (x .one) (choice .first);
-        other = keeps-taking (k .other) (x .request) (x .other) (choice .second);
+        first = keeps-taking (k .first) (x .request) (x .in-first) (choice .first);
+        second = keeps-taking (k .second) (x .request) (x .in-second) (choice .second);
         stores = results .stores;
         so-far =
             record {
@@ -119,20 +119,20 @@ module _ {z : Sizes} {r : Runs} (k : Together z r) (x : Twice)
       }
 
 -- All of them.
-all-go-on : {z : Sizes} (xs : List Twice) {r : Runs} → Together z r → Choosing z xs r → Together z (runBoth z xs r)
+all-go-on : {z : Sizes} (xs : List PairedCall) {r : TwoRuns} → StillAlike z r → Choosing z xs r → StillAlike z (runBoth z xs r)
 all-go-on [] k h = k
 all-go-on (x ∷ xs) k h = all-go-on xs (goes-on k x (h .0)) (h .1)
 
-pub any-claims : (z : Sizes) (m : List ℕ) (xs : List Twice) → open-store z m .reply ≡ accepted ok
+pub any-claims : (z : Sizes) (m : List ℕ) (xs : List PairedCall) → open-store z m .reply ≡ accepted ok
     → let start : Played = record { words = open-store z m .words; replies = []; history = [] } in
-    let both : Runs = record { first = start; second = start } in
+    let both : TwoRuns = record { first = start; second = start } in
     Choosing z xs both → SameReplies (runBoth z xs both)
 any-claims z m xs opens h =
     let start : Maintained z (record { words = open-store z m .words; replies = []; history = [] }) = opened-kept z m opens in
     all-go-on xs
     (record {
-      one = start;
-      other = start;
+      first = start;
+      second = start;
       stores = record { renaming = unchanged (z .N); alike = alike-itself (reader z (open-store z m .words)) };
       so-far = record { replies = refl; history = refl };
     })
