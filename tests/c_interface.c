@@ -17,12 +17,12 @@ int has_room(const uint32_t *store) { return intake_has_room(store); }
 uint32_t words_of(uint32_t entries, uint32_t records, uint32_t producers) { return INTAKE_WORDS(entries, records, producers); }
 uint32_t least_records(uint32_t entries, uint32_t producers) { return INTAKE_LEAST_RECORDS(entries, producers); }
 
-/* a run of every phase on the largest store, then a refusal */
+/* a run of every phase on the largest store, threads in uneven turns, then a refusal */
 static void engine(void) {
     static uint32_t store[WORDS], reply[4];
     intake_open(store, WORDS, 64, 64, 16, 1000000);
     for (uint32_t k = 0; k < 30000; k++) {
-        uint32_t thread = k * 7 % 17;
+        uint32_t thread = (k * k + k / 17) % 17;
         if (intake_step(store, WORDS, thread, reply) != INTAKE_REFUSED_IDLE) continue;
         if (thread == 0) {
             intake_start_dequeue(store, WORDS);

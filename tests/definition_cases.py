@@ -13,6 +13,7 @@ from typing import NamedTuple
 import claim_stores
 import intake_model as im
 import judge_model as jm
+import leaving_stores
 import test_judge
 
 CRATES = Path(__file__).resolve().parent.parent / 'crates'
@@ -121,6 +122,10 @@ def rescans(case):
     return ('consumer', 5, 'accepted') in reached([case])
 
 
+def lets_go(case):
+    return ('consumer', 8, 'accepted') in reached([case])
+
+
 def leaves_in_another_order(case):
     """The items left, by position, are not in the order of their records."""
     words, left = case.expected[1:3]
@@ -135,9 +140,9 @@ def leaves_in_another_order(case):
 
 
 def schedules(seed, calls):
-    """Schedules with at least so many calls in all. Three of four are the next that does something rare."""
+    """Schedules with at least so many calls in all. Four of five are the next that does something rare."""
     rng = random.Random(seed)
-    wanted = itertools.cycle((lambda case: True, goes_back, rescans, leaves_in_another_order))
+    wanted = itertools.cycle((lambda case: True, goes_back, rescans, lets_go, leaves_in_another_order))
     cases = []
     while sum(len(case.calls) for case in cases) < calls:
         wants = next(wanted)
@@ -174,14 +179,14 @@ def likely_call(rng, words):
 def random_word(rng, sizes):
     """A small word, one at the edge of some range, or a huge one."""
     B, N, P, M = sizes
-    edges = (B, N, N + 1, M - 1, M, M + 1, 3, 7, 8, 11, 12, im.MAX_PLACE, im.MAX_PLACE + 1)
+    edges = (B, N, N + 1, M - 1, M, M + 1, 3, 8, 9, 11, 12, im.MAX_PLACE, im.MAX_PLACE + 1)
     return rng.choice((rng.randint(0, 5), rng.randint(0, 5), rng.choice(edges), rng.choice(BIG)))
 
 
-def damaged(rng, store):
-    """A store of the model with one word changed."""
+def damaged(rng, store, call=None):
+    """A store of the model with one word changed, and a call on it, a likely one if none is given."""
     words = list(store)
-    call = likely_call(rng, words)
+    call = call or likely_call(rng, words)
     words[rng.randrange(len(words))] = random_word(rng, words[:4])
     return answer(words, call)
 
@@ -225,7 +230,7 @@ def record_at(words, number):
 
 def sharpen(rng, words, thread):
     """Put a store before a rare turn of the thread's phase: a claim while others hold retired records, a link behind
-    the last place, or a crossing at a record's end."""
+    the last place, a crossing or a move at a record's end, or a mark of the head record's last item."""
     B, N, P, M = words[:4]
     own = im.CONTENTS + im.THREAD_WORDS * thread
     phase = words[own]
@@ -239,9 +244,13 @@ def sharpen(rng, words, thread):
         words[own + im.HELD], words[own + im.CLAIMED] = rng.randint(1, N), rng.randint(1, N)
         held = record_at(words, words[own + im.HELD])
         words[held + im.PLACE], words[held + im.NEXT] = rng.choice((1, im.MAX_PLACE - 1, im.MAX_PLACE)), 0
-    elif not thread and phase in (1, 3, 5):
+    elif not thread and phase == 7:
+        head = words[own + im.FOUND] = words[im.HEAD_RECORD]
+        words[record_at(words, head) + im.PLACE] = 1
+        words[im.HEAD_POSITION] = words[own + im.FOUND_POSITION] = B - 1
+    elif not thread and phase in (1, 3, 5, 8):
         cursor = (own + im.CURSOR, own + im.CURSOR_POSITION)
-        record, position = (im.HEAD_RECORD, im.HEAD_POSITION) if phase == 1 else cursor
+        record, position = (im.HEAD_RECORD, im.HEAD_POSITION) if phase in (1, 8) else cursor
         number, following = rng.sample(range(1, N + 1), 2)
         words[record], words[position] = number, B
         words[record_at(words, number) + im.PLACE] = 1
@@ -276,14 +285,14 @@ def at_edge(store, k, top, call):
     return [answer(store[:k] + [word] + store[k + 1 :], call) for word in words]
 
 
-def with_no_start_left(rng, store):
+def with_no_start_left(rng, stores):
     """A start enqueue on a store of the model whose starts are set to M, of a producer with a call under way or not."""
-    words = list(store)
+    wants, threads = rng.random() < 0.5, []
+    while not threads:
+        words = list(rng.choice(stores))
+        threads = [t for t in range(1, words[2] + 1) if (t in busy(words)) == wants]
     words[im.STARTS] = words[3]
-    wants = rng.random() < 0.5
-    producers = range(1, words[2] + 1)
-    thread = rng.choice([t for t in producers if (t in busy(words)) == wants] or producers)
-    return answer(words, ('e', thread, random_value(rng)))
+    return answer(words, ('e', rng.choice(threads), random_value(rng)))
 
 
 def with_another_last(rng, store):
@@ -336,14 +345,21 @@ def opening(rng):
     return answer([rng.choice((0, 1, rng.choice(BIG))) for _ in range(length)], ('open', *sizes))
 
 
+def letting_go(rng, count):
+    """So many stores on which the consumer marks an item, and as many on which it leaves the head record."""
+    stores = rng.sample(leaving_stores.marking(rng), count) + rng.sample(leaving_stores.leaving(rng), count)
+    return [answer(words, ('s', 0)) for words in stores]
+
+
 def singles(seed, stores, count):
     """So many single calls; the damaged stores are made from `stores`."""
     rng = random.Random(seed)
-    phases = [('producer', p) for p in range(1, 12)] + [('consumer', p) for p in range(1, 8)]
-    cases = edges()
+    phases = [('producer', p) for p in range(1, 12)] + [('consumer', p) for p in range(1, 9)]
+    late = [store for store in stores if store[im.CONTENTS] in (7, 8)]
+    cases = edges() + letting_go(rng, 70)
     while len(cases) < count:
         store = rng.choice(stores)
-        kind = len(cases) % 22
+        kind = len(cases) % 24
         if kind < 4:
             cases.append(damaged(rng, store))
         elif kind < 14:
@@ -355,9 +371,11 @@ def singles(seed, stores, count):
         elif kind < 18:
             cases.append(random_words(rng))
         elif kind < 19:
-            cases.append(with_no_start_left(rng, store))
+            cases.append(with_no_start_left(rng, stores))
         elif kind < 21:
             cases.append(with_another_last(rng, store))
+        elif kind < 23:
+            cases.append(damaged(rng, rng.choice(late), ('s', 0)))
         else:
             cases.append(opening(rng))
     return cases
@@ -648,7 +666,7 @@ use Rattle.rules.specs.Range.{inRange}
 use Rattle.rules.specs.Free.{free, nextFree}
 use Rattle.rules.specs.Rule.{Response}
 use Rattle.rules.specs.Producer.{takePosition, loadTail, lookNext, claimRecord, linkClaimed, shiftTail, goBack, writeEntry, setEntry, claimAhead, linkAhead, producerStep}
-use Rattle.rules.specs.Consumer.{front, readTail, scan, readEntry, rescan, readItem, markHandled, consumerStep}
+use Rattle.rules.specs.Consumer.{front, readTail, scan, readEntry, rescan, readItem, markHandled, retireHead, consumerStep}
 use Rattle.rules.specs.Request.{Request, Result, applied, opened, open-store, startingEnqueue, startingDequeue, stepping, effect, sizesOf, admitted, result}
 use Rattle.rules.specs.Play.{Played, play, itemsLeft}
 
@@ -702,7 +720,8 @@ STORE = STORE.replace(
     'UNFOLDED',
     'result admitted applied effect startingEnqueue startingDequeue stepping open-store opened reader writes inRange '
     'free nextFree takePosition loadTail lookNext claimRecord linkClaimed shiftTail goBack writeEntry setEntry '
-    'claimAhead linkAhead producerStep front readTail scan readEntry rescan readItem markHandled consumerStep',
+    'claimAhead linkAhead producerStep front readTail scan readEntry rescan readItem markHandled retireHead '
+    'consumerStep',
 )
 
 JUDGE = """-- Words as the definitions judge them.

@@ -38,7 +38,8 @@ SMALL_CASES = ((2, 2, 1, 4), (2, 3, 1, 10), (2, 4, 1, 8), (2, 2, 2, 2), (2, 2, 2
 # Cases that are explored whole from a later state on: B, N, P, M, the calls that lead there.
 HEAD_LATE = enqueue(1, 1, 1) + enqueue(2, 2, 6) + enqueue(2, 3, 7)
 TWO_GONE = enqueue(1, 1, 4) + enqueue(1, 2, 6) + dequeue(3) * 2
-THREE_GONE = enqueue(1, 1, 4) + enqueue(1, 2, 6) + enqueue(1, 3, 7) + enqueue(1, 4, 6) + dequeue(3) * 2 + dequeue(4)
+THREE_IN = enqueue(1, 1, 4) + enqueue(1, 2, 6) + enqueue(1, 3, 7)
+THREE_GONE = THREE_IN + enqueue(1, 4, 6) + dequeue(3) + dequeue(4) + dequeue(3)
 GIVEN_BACK = enqueue(1, 1, 4) + enqueue(2, 2, 3) + enqueue(1, 3, 3) + steps(2, 1, 2, 1, 2, 1, 1, 1, 1)
 LATER_CASES = (
     (2, 2, 2, 5, HEAD_LATE),
@@ -46,7 +47,14 @@ LATER_CASES = (
     (2, 3, 2, 6, THREE_GONE),  # the last record was claimed last, and record 0 is free
     (2, 3, 2, 5, GIVEN_BACK),  # the record claimed last is free
 )
-HISTORY_CASES = ((2, 2, 2, 2, 18), (2, 3, 2, 3, 17))  # B, N, P, M and the number of calls
+
+# Cases whose lists of calls are all tried: B, N, P, M, the number of calls, and the calls before them.
+HISTORY_CASES = (
+    (2, 2, 2, 2, 18),
+    (2, 3, 2, 3, 17),
+    (2, 3, 2, 5, 20, THREE_IN + dequeue(3)),  # the next dequeue drains the head record
+    (2, 4, 3, 7, 10, THREE_IN + dequeue(3) * 2),  # it stands in phase 8
+)
 EXPECTED_REFUSALS = (4, 5, 6, 7, 8)  # on a store that only the engine has written
 ALL_ORDERS_CALLS = 9  # histories of at most so many calls are tried in all orders
 RANDOM_RUNS = 500
@@ -96,9 +104,8 @@ def trace(came_from, state):
     return calls[::-1]
 
 
-def state_after(words, calls, engine):
+def state_after(words, calls, engine, ghost):
     """The state, words and ghost, that some calls lead to."""
-    ghost = invariants.Ghost()
     for call in calls:
         before, (words, reply) = words, after(words, call, engine)
         ghost = ghost.after(call, before, reply)
@@ -108,7 +115,7 @@ def state_after(words, calls, engine):
 def explore(B, N, P, M, first=(), engine=im.Intake, limit=None, clauses=None):
     """Breadth first over words and ghost, all interleavings, from the state after the calls `first` on, until a clause
     fails. The words of a small case are below 256, so a state keeps them as bytes."""
-    start = state_after(open_words(B, N, P, M), first, engine)
+    start = state_after(open_words(B, N, P, M), first, engine, invariants.Ghost())
     came_from, queue, transitions = {start: None}, deque([start]), 0
     while queue:
         state = queue.popleft()
@@ -150,26 +157,35 @@ def demand_3_long(words, history):
     return jm.explained_by_mark(history) and jm.leaves(history, im.items_left(words))
 
 
-def explore_histories(B, N, P, M, depth, engine=im.Intake):
-    """Every list of at most `depth` accepted calls, with demand 3 checked by all orders after each call. States that
-    agree in words and history are followed once."""
-    states = {(bytes(open_words(B, N, P, M)), ())}
+def kept_or_told_wrong(words, ghost, explained):
+    """What is wrong with the two histories of a ghost, as lists. In phase 8, and there alone, the last item is kept and
+    was not told, and what is kept is explained too."""
+    if words[im.CONTENTS] != 8:
+        return [] if ghost.kept == ghost.told else ['kept and told']
+    if ghost.late is None or not ghost.kept.withdrawn_is(ghost.told, ghost.late[0]):
+        return ['kept and told in 8']
+    return [] if explained(ghost.kept) else ['what is kept in 8']
+
+
+def explore_histories(B, N, P, M, depth, first=(), engine=im.Intake):
+    """Every list of at most `depth` accepted calls after the calls `first`, with demand 3 checked by all orders after
+    each call. States that agree in words and histories are followed once."""
+    states = {state_after(open_words(B, N, P, M), first, engine, invariants.listed())}
     met, transitions, verdicts = len(states), 0, {}
     for _ in range(depth):
         following = set()
-        for packed, history in states:
+        for packed, ghost in states:
             words = list(packed)
-            starts = {event[1]: event for event in history if event[0] in (1, 3)}
             for call in moves(words):
                 words_after, reply = after(words, call, engine)
                 transitions += 1
-                event = im.event(call, reply, starts.get(call[1] if len(call) > 1 else 0))
-                longer = history + (event,) if event else history
-                key = (longer, tuple(im.items_left(words_after)))
+                longer = ghost.after(call, words, reply)
+                key = (longer.kept, longer.told, words_after[im.CONTENTS], tuple(im.items_left(words_after)))
                 if key not in verdicts:
-                    verdicts[key] = demand_3_small(words_after, longer)
-                if not verdicts[key] or wrong_reply(reply):
-                    return Result(met, transitions, False, ([longer], ['demand 3']))
+                    bad = kept_or_told_wrong(words_after, longer, jm.explained_by_all_orders)
+                    verdicts[key] = bad if demand_3_small(words_after, longer.told) else ['demand 3']
+                if verdicts[key] or wrong_reply(reply):
+                    return Result(met, transitions, False, ([longer.told], verdicts[key] or [f'reply {reply}']))
                 following.add((bytes(words_after), longer))
         met += len(following)
         states = following
@@ -202,7 +218,7 @@ def random_run(seed, calls=250, engine=im.Intake):
     rng = random.Random(seed)
     B, N, P, M = random_sizes(rng)
     recorder = im.Recorder(B, N, P, M, engine=engine)
-    ghost, accepted = invariants.Ghost(), 0
+    ghost, lists, accepted = invariants.Ghost(), invariants.listed(), 0
     threads = list(range(P + 1))
     for k in range(calls):
         if k % 20 == 0:
@@ -217,8 +233,9 @@ def random_run(seed, calls=250, engine=im.Intake):
                 return accepted, (seed, k, call, 'a refusal changed the words')
             continue
         accepted += 1
-        ghost = ghost.after(call, before, reply)
+        ghost, lists = ghost.after(call, before, reply), lists.after(call, before, reply)
         bad = invariants.broken(recorder.words, ghost)
+        bad = bad or kept_or_told_wrong(recorder.words, lists, jm.explained_in_time)
         if not bad and (reply[0] in ('item', 'empty') or k == calls - 1 or not recorder.starts):
             bad = demand_3_broken(recorder)
         if bad:
@@ -252,7 +269,7 @@ def main(arguments):
         report('states', case[:4], explore, *case)
     if not arguments:
         for case in HISTORY_CASES:
-            report('histories', case, explore_histories, *case)
+            report('histories', case[:5], explore_histories, *case)
         report('random runs', RANDOM_RUNS, random_runs, range(RANDOM_RUNS))
 
 

@@ -1,4 +1,4 @@
-"""An independent model of the Jiffy intake, written by hand from document 01 and from U1 of document 02.
+"""An independent model of the Jiffy intake, written by hand from document 01 and from U1 and U2 of document 02.
 
 The store is a list of 32-bit words. `open_store`, `start_enqueue`, `start_dequeue` and `step` change the list only
 when they accept, and answer one of
@@ -25,12 +25,12 @@ THREAD_WORDS = 8
 PHASE = 0
 CALL, VALUE, POSITION, HELD, CLAIMED, BACK = range(1, 7)
 CURSOR, CURSOR_POSITION, FOUND, FOUND_POSITION, ITEM_CALL, ITEM_VALUE = range(1, 7)
-LAST_PRODUCER_PHASE, LAST_CONSUMER_PHASE = 11, 7
+LAST_PRODUCER_PHASE, LAST_CONSUMER_PHASE = 11, 8
 
 # The words in use in each phase; the others are zero then.
 PRODUCER_USES = [(), (0, 1, 2)] + [(0, 1, 2, 3, 4, 6)] * 3 + [(0, 1, 2, 3, 4, 5, 6)]
 PRODUCER_USES += [(0, 1, 2, 3, 4, 6)] * 4 + [(0, 1, 2, 3, 4), (0, 1, 2, 3, 4, 5)]
-CONSUMER_USES = [(), (0,), (0,), (0, 1, 2), (0, 1, 2), (0, 1, 2, 3, 4), (0, 3, 4), (0, 3, 4, 5, 6)]
+CONSUMER_USES = [(), (0,), (0,), (0, 1, 2), (0, 1, 2), (0, 1, 2, 3, 4), (0, 3, 4), (0, 3, 4, 5, 6), (0, 5, 6)]
 
 # Record words, uses of a record and states of an entry.
 RECORD_HEAD, ENTRY_WORDS = 4, 3
@@ -208,7 +208,7 @@ class Intake:
     PRODUCER = (
         None, 'take', 'load', 'look', 'claim', 'link', 'shift', 'back', 'write', 'set', 'claim_ahead', 'link_ahead',
     )
-    CONSUMER = (None, 'front', 'read_tail', 'scan_tail', 'scan_entry', 'rescan', 'read_item', 'mark')
+    CONSUMER = (None, 'front', 'read_tail', 'scan_tail', 'scan_entry', 'rescan', 'read_item', 'mark', 'let_go')
 
     def __init__(self, words):
         self.B, self.N, self.P, self.M = words[:4]
@@ -397,13 +397,28 @@ class Intake:
     def cursor_to_head(self):
         self.cursor_at(self.w[HEAD_RECORD] - 1, self.w[HEAD_POSITION])
 
+    def head_is_tail(self):
+        """Whether the head record is the tail record."""
+        return self.w[HEAD_RECORD] == self.w[TAIL_RECORD]
+
+    def leave_head(self):
+        """The move and retirement: next becomes head record, head position its first, the old one is retired."""
+        head = self.w[HEAD_RECORD] - 1
+        following = link(self.part(head, NEXT))
+        self.w[HEAD_POSITION] = self.first_position(following)
+        self.w[HEAD_RECORD] = following + 1
+        self.put_part(head, USE, USE_RETIRED)
+
     def front(self):
         """1. Front. At the end of the head record: empty if it is also the tail record; otherwise next becomes head
         record, head position its first, the old one is retired; stay. Else read the entry: handled advances the
         head; set goes to 6 with found the head; empty goes to 2."""
         head, position = self.w[HEAD_RECORD] - 1, self.w[HEAD_POSITION]
         if self.at_end(head, position):
-            return self.leave_head(head)
+            if self.head_is_tail():
+                return self.idle(NOTHING)
+            self.leave_head()
+            return self.to(1)
         state = self.w[self.entry(head, position) + STATE]
         if state == HANDLED:
             self.w[HEAD_POSITION] = self.successor(position)
@@ -412,15 +427,6 @@ class Intake:
             self.found_at(head, position)
             return self.to(6)
         return self.to(2)
-
-    def leave_head(self, head):
-        if self.w[TAIL_RECORD] == head + 1:
-            return self.idle(NOTHING)
-        following = link(self.part(head, NEXT))
-        self.w[HEAD_POSITION] = self.first_position(following)
-        self.w[HEAD_RECORD] = following + 1
-        self.put_part(head, USE, USE_RETIRED)
-        return self.to(1)
 
     def read_tail(self):
         """2. Read tail: equal to the head position is empty; otherwise the cursor is the next position; to 3."""
@@ -481,13 +487,25 @@ class Intake:
         self.put(ITEM_VALUE, self.w[entry + ENTRY_VALUE])
         return self.to(7)
 
+    def reply_item(self):
+        """Reply item."""
+        return self.idle(('item', self.mine(ITEM_CALL), self.mine(ITEM_VALUE)))
+
     def mark(self):
-        """7. Mark handled; if found is the head position, it advances. Reply item."""
+        """7. Mark handled; if found is the head position, it advances. When that brings the head to the record's end
+        and the head record isn't the tail record, to 8. Otherwise reply item."""
         position = self.mine(FOUND_POSITION)
         self.w[self.entry(link(self.mine(FOUND)), position) + STATE] = HANDLED
         if position == self.w[HEAD_POSITION]:
             self.w[HEAD_POSITION] = self.successor(position)
-        return self.idle(('item', self.mine(ITEM_CALL), self.mine(ITEM_VALUE)))
+            if self.at_end(self.w[HEAD_RECORD] - 1, position + 1) and not self.head_is_tail():
+                return self.to(8)
+        return self.reply_item()
+
+    def let_go(self):
+        """8. The move and retirement of phase 1. Reply item."""
+        self.leave_head()
+        return self.reply_item()
 
 
 # Calls.

@@ -7,6 +7,11 @@ state it meets. `broken(words, ghost)` names the clauses that fail.
 Words of the clauses: lo, tp and hi are the places of the head record, the tail record and the last record; hp is the
 head position; state_at(p) is EMPTY, SET or HANDLED, where a position of a retired record counts as handled and one
 past the last record as empty; own[p] is the call that took position p.
+
+There are two histories. What was *told* is document 01's: going adds nothing. In what is *kept* an item is given at
+its mark, also where the dequeue then goes to phase 8, and another dequeue is opened right there. So the two differ in
+phase 8, and there alone: what was told is what is kept without its last item and the dequeue opened after it. When
+phase 8 replies the item, what was told is kept from then on.
 """
 
 from typing import NamedTuple
@@ -15,13 +20,14 @@ import intake_model as im
 from intake_model import EMPTY, HANDLED, SET, USE_CLAIMED, USE_FREE, USE_LINKED, USE_RETIRED
 
 
-# Ghost.
+# Histories.
+
+STARTED = (3, 0, 0, 0)
 
 
-class Ghost(NamedTuple):
-    """What a run leaves beside the words. Sets of calls are bit masks: bit k stands for call number k."""
+class Past(NamedTuple):
+    """What the clauses know of a history. Sets of calls are bit masks: bit k stands for call number k."""
 
-    own: tuple = ()  # position -> call, written at the take
     values: tuple = ()  # call - 1 -> value
     ended_before: tuple = ()  # call - 1 -> calls that had ended when it started
     ended: int = 0
@@ -37,30 +43,19 @@ class Ghost(NamedTuple):
     def start_of(self, thread):
         return dict(self.running).get(thread)
 
-    def after(self, call, words, reply):
-        """The ghost after a call with this reply; `words` are those before the call."""
-        if reply[0] == 'refused':
-            return self
-        ghost = self
-        if call[0] == 's' and call[1] and words[im.CONTENTS + im.THREAD_WORDS * call[1]] == 1:
-            ghost = ghost._replace(own=self.own + (self.start_of(call[1])[2],))
-        thread = call[1] if len(call) > 1 else 0
-        event = im.event(call, reply, self.start_of(thread))
-        return ghost.with_event(event) if event else ghost
-
     def with_event(self, event):
         kind, thread, number, value = event
         others = tuple(pair for pair in self.running if pair[0] != thread)
         running = tuple(sorted(others + ((thread, event),))) if kind in (1, 3) else others
-        ghost = self._replace(running=running)
+        past = self._replace(running=running)
         if kind == 1:
-            return ghost._replace(values=self.values + (value,), ended_before=self.ended_before + (self.ended,))
+            return past._replace(values=self.values + (value,), ended_before=self.ended_before + (self.ended,))
         if kind == 2:
-            return ghost._replace(ended=self.ended | 1 << number)
+            return past._replace(ended=self.ended | 1 << number)
         if kind == 3:
-            return ghost._replace(before_dequeue=self.ended)
-        ghost = ghost._replace(before_dequeue=0, good=self.good and self.in_order(event))
-        return ghost._replace(taken=self.taken | 1 << number) if kind == 4 else ghost
+            return past._replace(before_dequeue=self.ended)
+        past = past._replace(before_dequeue=0, good=self.good and self.in_order(event))
+        return past._replace(taken=self.taken | 1 << number) if kind == 4 else past
 
     def in_order(self, event):
         """The criterion at a dequeue's end."""
@@ -69,6 +64,65 @@ class Ghost(NamedTuple):
             return not self.before_dequeue & ~self.taken
         begun = 1 <= number <= len(self.values) and self.values[number - 1] == value
         return begun and not self.taken >> number & 1 and not self.ended_before[number - 1] & ~self.taken
+
+    def withdrawn_is(self, told, number):
+        """Whether `told` is this without its last item, that of call `number`, and the dequeue opened after it. The
+        dequeue of `told` began before, so no more calls had ended then."""
+        rest = self._replace(taken=self.taken & ~(1 << number), before_dequeue=told.before_dequeue)
+        return rest == told != self and not told.before_dequeue & ~self.before_dequeue
+
+
+class Events(tuple):
+    """A history as its events, the oldest first."""
+
+    def start_of(self, thread):
+        return next((event for event in reversed(self) if event[0] in (1, 3) and event[1] == thread), None)
+
+    def with_event(self, event):
+        return Events(self + (event,))
+
+    def withdrawn_is(self, told, number):
+        """The same. After the dequeue's start there are events of enqueues alone."""
+        at = max(k for k, event in enumerate(self) if event[0] == 4)
+        last, started, since = self[at], self[at + 1], self[at + 2 :]
+        of_enqueues = all(event[0] in (1, 2) for event in since)
+        return last[2] == number and started == STARTED and of_enqueues and self[:at] + since == told
+
+
+# Ghost.
+
+
+class Ghost(NamedTuple):
+    """What a run leaves beside the words."""
+
+    own: tuple = ()  # position -> call, written at the take
+    kept: Past = Past()
+    told: Past = Past()
+    late: tuple | None = None  # call number and value of the item that is kept and not told
+
+    def after(self, call, words, reply):
+        """The ghost after a call with this reply; `words` are those before the call."""
+        if reply[0] == 'refused':
+            return self
+        thread = call[1] if len(call) > 1 else 0
+        phase = words[im.CONTENTS + im.THREAD_WORDS * thread] if call[0] == 's' else None
+        own, told = self.own, self.told
+        if thread and phase == 1:
+            own += (told.start_of(thread)[2],)
+        event = im.event(call, reply, told.start_of(thread))
+        if event:
+            told = told.with_event(event)
+        if not thread and phase == 7 and reply == im.GOING:
+            item = tuple(words[im.CONTENTS + k] for k in (im.ITEM_CALL, im.ITEM_VALUE))
+            return Ghost(own, self.kept.with_event((4, 0) + item).with_event(STARTED), told, item)
+        if not thread and phase == 8 and reply[0] == 'item' or self.kept == self.told:
+            return Ghost(own, told, told)
+        return Ghost(own, self.kept.with_event(event) if event else self.kept, told, self.late)
+
+
+def listed():
+    """A ghost that has its histories as lists of events."""
+    return Ghost(kept=Events(), told=Events())
 
 
 # View.
@@ -106,13 +160,12 @@ class View:
     """A store read once, with what the clauses speak of."""
 
     def __init__(self, words, ghost):
-        self.words, self.ghost = words, ghost
+        self.words, self.own, self.kept, self.told, self.late = words, *ghost
         self.B, self.N, self.P, self.M = words[:4]
         self.tail, self.hp, self.starts = words[im.TAIL], words[im.HEAD_POSITION], words[im.STARTS]
         self.tail_record, self.head_record = words[im.TAIL_RECORD] - 1, words[im.HEAD_RECORD] - 1
         self.read_records()
         self.read_threads()
-        self.own = ghost.own
 
     def read_records(self):
         first, size = self.words[5], im.record_words(self.B)
@@ -165,10 +218,10 @@ class View:
         return self.own.index(call) if call in self.own else None
 
     def is_ended(self, call):
-        return bool(self.ghost.ended >> call & 1)
+        return bool(self.kept.ended >> call & 1)
 
     def is_taken(self, call):
-        return bool(self.ghost.taken >> call & 1)
+        return bool(self.kept.taken >> call & 1)
 
     def calls_in(self, mask):
         return [k for k in range(1, mask.bit_length()) if mask >> k & 1]
@@ -285,7 +338,7 @@ def _(v):
 def _(v):
     for p in range(v.first, v.end):
         state, call, value = v.entry_at(p)
-        if state != EMPTY and (call, value) != (v.own[p], v.ghost.values[v.own[p] - 1]):
+        if state != EMPTY and (call, value) != (v.own[p], v.kept.values[v.own[p] - 1]):
             return False
     return True
 
@@ -316,7 +369,7 @@ def _(v):
 
 @clause('ownership: every owner has begun')
 def _(v):
-    return all(1 <= call <= len(v.ghost.values) for call in v.own)
+    return all(1 <= call <= len(v.kept.values) for call in v.own)
 
 
 @clause('ownership: injective')
@@ -328,7 +381,7 @@ def _(v):
 def _(v):
     later = 0
     for call in reversed(v.own):
-        if v.ghost.ended_before[call - 1] & later:
+        if v.kept.ended_before[call - 1] & later:
             return False
         later |= 1 << call
     return True
@@ -339,23 +392,23 @@ def _(v):
 
 @clause('past: good')
 def _(v):
-    return v.ghost.good
+    return v.kept.good
 
 
 @clause('past: begun calls are 1 to starts')
 def _(v):
-    return len(v.ghost.values) == v.starts
+    return len(v.kept.values) == v.starts
 
 
 @clause('past: ended implies taken or set')
 def _(v):
-    untaken = v.calls_in(v.ghost.ended & ~v.ghost.taken)
+    untaken = v.calls_in(v.kept.ended & ~v.kept.taken)
     return all(call in v.own and v.state_at(v.position_of(call)) == SET for call in untaken)
 
 
 @clause('past: taken implies handled')
 def _(v):
-    return all(call in v.own and v.state_at(v.position_of(call)) == HANDLED for call in v.calls_in(v.ghost.taken))
+    return all(call in v.own and v.state_at(v.position_of(call)) == HANDLED for call in v.calls_in(v.kept.taken))
 
 
 @clause('past: handled below tail implies taken')
@@ -368,7 +421,7 @@ def _(v):
 
 @clause('producer 1-11: its words are those of its start')
 def _(v):
-    return all(v.ghost.start_of(p.thread)[2:] == (p.call, p.value) for p in v.in_phases(1, 11))
+    return all(v.kept.start_of(p.thread)[2:] == (p.call, p.value) for p in v.in_phases(1, 11))
 
 
 @clause('producer 1-11: not ended')
@@ -460,7 +513,7 @@ def _(v):
 
 
 def before_dequeue(v, p):
-    return v.ghost.before_dequeue >> v.own[p] & 1
+    return v.kept.before_dequeue >> v.own[p] & 1
 
 
 @clause('consumer 5: no set entry below the cursor precedes found')
@@ -475,7 +528,7 @@ def _(v):
 
 def none_precedes_found(v, below):
     found = v.own[v.consumer.found_position]
-    return not any(v.ghost.precedes(v.own[p], found) for p in v.set_positions(below))
+    return not any(v.kept.precedes(v.own[p], found) for p in v.set_positions(below))
 
 
 @clause('consumer 3: hp < cursor <= tail')
@@ -539,6 +592,52 @@ def _(v):
 def _(v):
     c = v.consumer
     return not consumer_in(v, 7, 7) or v.entry_at(c.found_position)[1:] == (c.item_call, c.item_value)
+
+
+@clause('consumer 8: hp = B*lo')
+def _(v):
+    return not consumer_in(v, 8, 8) or v.hp == v.B * v.lo
+
+
+@clause('consumer 8: lo < tp')
+def _(v):
+    return not consumer_in(v, 8, 8) or v.lo < v.tp
+
+
+@clause('consumer 8: the item is the last one kept')
+def _(v):
+    return not consumer_in(v, 8, 8) or (v.consumer.item_call, v.consumer.item_value) == v.late
+
+
+@clause('consumer 8: the item is that of the position before hp')
+def _(v):
+    if not consumer_in(v, 8, 8):
+        return True
+    call = v.own[v.hp - 1]
+    return (v.consumer.item_call, v.consumer.item_value) == (call, v.kept.values[call - 1])
+
+
+# What was told.
+
+
+@clause('told: in 1-7 and between calls what is kept')
+def _(v):
+    return consumer_in(v, 8, 8) or v.late is None and v.told == v.kept
+
+
+@clause('told 8: what is kept, without its last item and the dequeue opened there')
+def _(v):
+    return not consumer_in(v, 8, 8) or v.kept.withdrawn_is(v.told, v.late[0])
+
+
+@clause('told 8: the item may be given now')
+def _(v):
+    return not consumer_in(v, 8, 8) or v.told.in_order((4, 0) + v.late)
+
+
+@clause('told: good')
+def _(v):
+    return v.told.good
 
 
 # Memory: the chain.
@@ -642,15 +741,16 @@ def _(v):
     return all(v.use[r] == USE_LINKED for r in (v.consumer.cursor, v.consumer.found) if r is not None)
 
 
-# Demand 3 in the terms of the ghost: what is left when no call is under way.
+# Demand 3 in the terms of the ghost: what is left when no call is under way. It need not be so in phase 8, where the
+# item is neither left nor told.
 
 
 @clause('left: idle leaves the untaken calls, none after one that it precedes')
 def _(v):
-    if v.ghost.running:
+    if v.told.running:
         return True
     left = im.items_left(v.words)
     calls = [call for call, _ in left]
-    untaken = [k for k in range(1, v.starts + 1) if not v.is_taken(k)]
-    timely = not any(v.ghost.precedes(b, a) for k, a in enumerate(calls) for b in calls[k + 1 :])
-    return sorted(calls) == untaken and timely and all(v.ghost.values[call - 1] == value for call, value in left)
+    untaken = [k for k in range(1, v.starts + 1) if not v.told.taken >> k & 1]
+    timely = not any(v.told.precedes(b, a) for k, a in enumerate(calls) for b in calls[k + 1 :])
+    return sorted(calls) == untaken and timely and all(v.told.values[call - 1] == value for call, value in left)

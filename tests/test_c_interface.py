@@ -55,7 +55,7 @@ class Header(unittest.TestCase):
         with tempfile.TemporaryDirectory() as folder:
             source = pathlib.Path(folder) / 'header.c'
             names = '\n'.join(f'static_assert({name} == {number}, "");' for name, number in NUMBERS.items())
-            source.write_text(f'#include <assert.h>\n#include "intake.h"\n{names}\nint main(void) {{ return INTAKE_VERSION - 2; }}\n')
+            source.write_text(f'#include <assert.h>\n#include "intake.h"\n{names}\nint main(void) {{ return INTAKE_VERSION - 3; }}\n')
             strict = ['-Wall', '-Wextra', '-Wpedantic', '-Wconversion', '-Werror', f'-I{HEADER.parent}']
             subprocess.run([compiler, *flags, *strict, '-c', str(source), '-o', str(source.with_suffix('.o'))], check=True)
 

@@ -16,7 +16,7 @@ import intake_model as im
 def setUpModule():
     global SCHEDULES, SINGLES, CLAIMS, HISTORIES
     SCHEDULES = dc.schedules(1, 3_200)
-    SINGLES = dc.singles(2, [store for case in SCHEDULES for store in dc.snapshots(case)], 1_850)
+    SINGLES = dc.singles(2, [store for case in SCHEDULES for store in dc.snapshots(case)], 2_000)
     CLAIMS = dc.claims(5, 60)
     HISTORIES = dc.histories(3, 1_600)
 
@@ -88,13 +88,13 @@ class Reach(unittest.TestCase):
     """What the cases reach, counted by the model."""
 
     PRODUCER = [('producer', phase) for phase in range(1, 12)]
-    CONSUMER = [('consumer', phase) for phase in range(1, 8)]
+    CONSUMER = [('consumer', phase) for phase in range(1, 9)]
 
     def test_number_of_cases(self):
         """A generator that makes fewer cases than meant, or the same ones again."""
         self.assertGreaterEqual(sum(len(case.calls) for case in SCHEDULES), 3_200)
-        self.assertEqual((len(SINGLES), len(CLAIMS), len(HISTORIES)), (1_850, 1_308, 1_600))
-        self.assertGreater(len({(tuple(case.words), case.call) for case in SINGLES}), 1_700)
+        self.assertEqual((len(SINGLES), len(CLAIMS), len(HISTORIES)), (2_000, 1_308, 1_600))
+        self.assertGreater(len({(tuple(case.words), case.call) for case in SINGLES}), 1_850)
         self.assertGreater(len({(tuple(case.words), case.entries) for case in HISTORIES}), 1_300)
 
     def test_phases(self):
@@ -170,6 +170,25 @@ class Reach(unittest.TestCase):
         self.assertGreater(sum(record == last for _, last, record, _ in large), 5)
         self.assertGreater(sum(record == 0 for _, _, record, _ in large), 5)
 
+    def test_letting_go(self):
+        """No mark that brings the head to the end of its record, be that the tail record or not; no phase 8 with next
+        none, with a first position below 0 or above M, at the tail record, with the head elsewhere, or out of range."""
+        steps = [step for case in SINGLES for step in dc.steps_of(case)]
+        admitted = [(words, reply) for words, call, reply in steps if call == ('s', 0) and im.admission(words) == 0]
+        marks = [(marked(words), reply[0]) for words, reply in admitted if words[im.CONTENTS] == 7]
+        self.assertGreater(marks.count(('end of the tail record', 'item')), 5)
+        self.assertGreater(marks.count(('end of another', 'going')), 10)
+        self.assertGreater(marks.count(('elsewhere', 'item')), 20)
+        moves = [(moved(words), reply[0]) for words, reply in admitted if words[im.CONTENTS] == 8]
+        for why in ('next is none', 'below 0', 'above M'):
+            self.assertGreater(moves.count((why, 'refused')), 5, why)
+        self.assertGreater(moves.count(('within M', 'item')), 20)
+        in_8 = [words for words, reply in admitted if words[im.CONTENTS] == 8 and reply[0] == 'item']
+        self.assertGreater(sum(words[im.HEAD_RECORD] == words[im.TAIL_RECORD] for words in in_8), 5)
+        self.assertGreater(sum(not at_its_end(words, words[im.HEAD_POSITION]) for words in in_8), 5)
+        outside = [reply for words, call, reply in steps if len(words) > 16 and words[16] == 8 and call == ('s', 0)]
+        self.assertGreater(outside.count(('refused', 3)), 5)
+
     def test_items_left(self):
         """Final stores that hold too few items to show their order."""
         self.assertGreater(sum(len(case.expected[2]) > 1 for case in SCHEDULES), 20)
@@ -180,6 +199,28 @@ class Reach(unittest.TestCase):
         verdicts = [case.expected[:1] if case.expected[0] != 'refused' else case.expected for case in HISTORIES]
         for verdict in [('explained',), ('unexplained',)] + [('refused', number) for number in range(10, 14)]:
             self.assertGreater(verdicts.count(verdict), 60, verdict)
+
+
+def at_its_end(words, position):
+    """Whether a position is the end of the head record."""
+    return position == words[0] * words[dc.record_at(words, words[im.HEAD_RECORD]) + im.PLACE]
+
+
+def marked(words):
+    """Where a mark brings the head."""
+    position = words[im.HEAD_POSITION]
+    if words[im.CONTENTS + im.FOUND_POSITION] != position or not at_its_end(words, position + 1):
+        return 'elsewhere'
+    return 'end of the tail record' if words[im.HEAD_RECORD] == words[im.TAIL_RECORD] else 'end of another'
+
+
+def moved(words):
+    """Where the first position of the head record's next is."""
+    following = words[dc.record_at(words, words[im.HEAD_RECORD]) + im.NEXT]
+    if not following:
+        return 'next is none'
+    first = words[0] * (words[dc.record_at(words, following) + im.PLACE] - 1)
+    return 'below 0' if first < 0 else 'above M' if first > words[3] else 'within M'
 
 
 def claims_one(words, call, reply):

@@ -8,8 +8,9 @@ import unittest
 import claim_stores
 import engine_library
 import intake_model as model
+import leaving_stores
 from archives import ROOT, archive
-from test_model import random_store
+from test_model import LET_GO, let_go_run, random_store
 
 LARGEST = (64, 64, 16, 1000000)
 
@@ -74,7 +75,7 @@ class Differential(unittest.TestCase):
 
     def test_schedules(self):
         """A phase, a reply or a word that differs from the rules on stores that only the engine has written."""
-        rng, seen = random.Random(11), collections.Counter()
+        rng, seen, phases = random.Random(11), collections.Counter(), collections.Counter()
         while sum(seen.values()) < 170000:
             sizes = random_sizes(rng)
             words = [rng.getrandbits(32) for _ in range(model.needed_words(*sizes[:3]) + rng.randrange(3))]
@@ -83,10 +84,16 @@ class Differential(unittest.TestCase):
             self.assertEqual(engine.open(sizes), 0)
             self.assertEqual(engine.words(), words)
             for _ in range(rng.randrange(100, 1200)):
-                reply = self.both(engine, words, random_call(rng, sizes[2]))
+                call = random_call(rng, sizes[2])
+                steps = call[0] == 's' and call[1] <= sizes[2]
+                phase = steps and (call[1] > 0, words[16 + 8 * call[1]])
+                reply = self.both(engine, words, call)
                 seen[kind(reply)] += 1
+                phases[phase] += reply[0] != 'refused'
         for known in ('ok', 'going', 'end', 'empty', 'item', *(('refused', number) for number in (4, 5, 6, 7, 8))):
             self.assertGreaterEqual(seen[known], 50, seen)
+        for known in [(False, phase) for phase in range(1, 9)] + [(True, phase) for phase in range(1, 12)]:
+            self.assertGreaterEqual(phases[known], 50, phases)
 
     def test_damaged_stores(self):
         """A damaged store that is followed and not refused, or refused with another number, or changed by a refusal."""
@@ -120,6 +127,25 @@ class Differential(unittest.TestCase):
             seen[kind(self.on(words, ('s', 1)))] += 1
         for known in ('going', 'end', ('refused', 8)):
             self.assertGreaterEqual(seen[known], 50, seen)
+
+    def test_feeders_go_on(self):
+        """A feeder that meets 8 although the dequeue that took the head record's last item has ended, and no other was
+        started (document 02, U2)."""
+        sizes = (2, 2, 3, 99)
+        words = [0] * model.needed_words(*sizes[:3])
+        engine = engine_library.Engine(self.library, words)
+        model.open_store(words, *sizes)
+        self.assertEqual(engine.open(sizes), 0)
+        self.assertEqual(let_go_run(lambda call: self.both(engine, words, call)), LET_GO)
+
+    def test_letting_go(self):
+        """A mark that goes to phase 8 or not by another record than the head record; a phase 8 that follows no link, leaves
+        the range, looks at the tail record, or loses its item."""
+        rng, seen = random.Random(18), collections.Counter()
+        for words in leaving_stores.marking(rng) + leaving_stores.leaving(rng):
+            seen[words[16], kind(self.on(words, ('s', 0)))] += 1
+        for known in ((7, 'going'), (7, 'item'), (7, ('refused', 9)), (8, 'item'), (8, ('refused', 9))):
+            self.assertGreaterEqual(seen[known], 15, seen)
 
     def test_words_11_to_15(self):
         """A word 11 of 0 or above N, or one of words 12 to 15 that is not zero, that is let through."""

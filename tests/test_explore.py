@@ -6,8 +6,9 @@ import unittest
 import explore
 import intake_model as im
 import invariants
+import judge_model as jm
 from intake_model import EMPTY, SET, USE_RETIRED
-from test_model import TRAPS
+from test_model import LETTING_GO, TRAPS
 
 
 def held_in(v, first, last):
@@ -48,7 +49,19 @@ SITUATIONS = {
     'a claim takes the record claimed last': lambda v: free_at_claim(v) == [last_claimed(v)],
     'a record is linked for the second time': lambda v: v.hi > v.N,
     'the tail record lags': lambda v: v.tp < v.hi,
-    'the head record has its end to be left': lambda v: v.hp == v.B * v.lo and v.lo < v.tp,
+    'the head waits in 1 at the end of a record to be left': lambda v: v.consumer.phase == 1
+    and v.hp == v.B * v.lo
+    and v.lo < v.tp,
+    'the head record is left in 8': lambda v: v.consumer.phase == 8,
+    'a producer holds the record that is left in 8': lambda v: v.consumer.phase == 8
+    and v.head_record in held_in(v, 1, 11),
+    'no record is free in 4, and one will be after 8': lambda v: v.consumer.phase == 8
+    and v.in_phases(4, 4)
+    and not im.free_records(v.words)
+    and v.head_record not in held_in(v, 1, 11),
+    'an enqueue ends between the mark and the reply': lambda v: v.consumer.phase == 8
+    and v.kept.ended != v.kept.before_dequeue,
+    'nothing but a dequeue is under way, and its item is neither left nor told': lambda v: untold_alone(v),
     'the scan stands at a record\'s end': lambda v: v.consumer.phase == 3 and cursor_at_end(v),
     'the rescan stands at a record\'s end': lambda v: v.consumer.phase == 5 and cursor_at_end(v),
     'an entry is set behind the scan': lambda v: v.consumer.phase == 4 and set_behind_cursor(v),
@@ -57,6 +70,13 @@ SITUATIONS = {
     'an item is found past a set entry': lambda v: v.consumer.phase == 7 and v.consumer.found_position > v.hp
     and v.state_at(v.hp) == SET,
 }
+
+
+def untold_alone(v):
+    """A call that has ended and was not taken by what was told is not left, and only a dequeue is under way."""
+    untaken = set(v.calls_in(v.told.ended & ~v.told.taken))
+    left = {call for call, _ in im.items_left(v.words)}
+    return v.consumer.phase == 8 and not v.in_phases(1, 11) and untaken == left | {v.late[0]} != left
 
 
 def cursor_at_end(v):
@@ -82,9 +102,20 @@ class Reachable(unittest.TestCase):
         self.assertEqual(set(SITUATIONS) - met, set())
 
     def test_every_short_list_of_calls(self):
-        """A history that is not linearizable, or items left that no linearization leaves, by all orders."""
+        """A history that is not linearizable, or items left that no linearization leaves, by all orders; or what is kept
+        and what was told differ otherwise than by an item in phase 8."""
         for case in explore.HISTORY_CASES:
             self.assertIsNone(explore.explore_histories(*case).violation, case)
+
+    def test_an_item_that_is_neither_left_nor_told(self):
+        """Demand 3 read without "no call under way": here nothing but a dequeue in phase 8 is. No order without that
+        dequeue leaves the items left; one that completes it does."""
+        calls = explore.THREE_IN + explore.dequeue(3) * 2
+        packed, ghost = explore.state_after(explore.open_words(2, 2, 1, 4), calls, im.Intake, invariants.listed())
+        left = tuple(im.items_left(list(packed)))
+        self.assertEqual((packed[im.CONTENTS], left), (8, ((3, 103),)))
+        self.assertEqual(jm.linearizations_leaving(ghost.told[:-1]), {((2, 102), (3, 103))})
+        self.assertIn(left, jm.linearizations_leaving(ghost.told))
 
     def test_random_runs(self):
         """A clause or demand 3 that fails with larger records, more of them, more producers, or a stopped one."""
@@ -118,10 +149,26 @@ class Sensitivity(unittest.TestCase):
         caught = [trap.__name__ for trap in TRAPS if wrong_engine_is_caught(trap)]
         self.assertEqual(caught, ['RescansPastTheHead', 'StopsTwoShort', 'ReadsTheHeadFirst', 'ReusesHeldRecords'])
 
+    def test_wrong_ways_to_let_go_are_caught(self):
+        """An exploration blind to a phase 8 that does not retire, that gives no item or another, or that leaves the
+        tail record. Two others never stand in 8 and are linearizable; their own run shows them."""
+        caught = {engine.__name__: what_is_wrong(engine) for engine in LETTING_GO}
+        self.assertEqual(caught, {
+            'RepliesAtTheEnd': None,
+            'MovesAtTheMark': None,
+            'KeepsTheRecord': ['chain: a record of use 2 is ch of its place'],
+            'GoesToTheFront': ['told: in 1-7 and between calls what is kept'],
+            'ForgetsTheItem': [
+                'consumer 8: the item is the last one kept',
+                'consumer 8: the item is that of the position before hp',
+            ],
+            'LeavesTheTailRecord': ['consumer 8: lo < tp'],
+        })
+
     def test_wrong_answers_break_demand_3(self):
         """A check of demand 3 by all orders, or by the polynomial checks, that passes wrong answers."""
         for engine in (OneCallLate, AnswersEmptyUnread):
-            self.assertIsNotNone(explore.explore_histories(2, 2, 1, 2, 20, engine).violation)
+            self.assertIsNotNone(explore.explore_histories(2, 2, 1, 2, 20, engine=engine).violation)
             recorder = im.Recorder(2, 2, 1, 9, engine=engine)
             for v in range(2):
                 recorder.run([('e', 1, v)] + [('s', 1)] * 6)
@@ -141,6 +188,13 @@ class Sensitivity(unittest.TestCase):
             if len(failed) == len(invariants.CLAUSES):
                 break
         self.assertEqual(set(invariants.CLAUSES) - failed, set())
+
+
+def what_is_wrong(engine):
+    """The clauses that the first bad state breaks, over the states of a case in which head records are drained; None if
+    all hold."""
+    violation = explore.explore(2, 2, 1, 5, engine=engine).violation
+    return violation and violation[1]
 
 
 def wrong_engine_is_caught(engine):
@@ -174,18 +228,28 @@ def damaged_words(rng, words):
     return words
 
 
-def damaged_ghost(rng, ghost):
+def damaged_past(rng, past):
     changes = {
-        'own': tuple(rng.sample(ghost.own, len(ghost.own)))[rng.randint(0, 1) :] + (rng.randint(0, 13),),
-        'ended': ghost.ended ^ 2 << rng.randrange(12),
-        'taken': ghost.taken ^ 2 << rng.randrange(12),
-        'values': ghost.values[1:],
+        'ended': past.ended ^ 2 << rng.randrange(12),
+        'taken': past.taken ^ 2 << rng.randrange(12),
+        'values': past.values[1:],
         'before_dequeue': rng.randrange(2**13),
-        'ended_before': tuple(rng.randrange(2**13) & ~1 for _ in ghost.ended_before),
+        'ended_before': tuple(rng.randrange(2**13) & ~1 for _ in past.ended_before),
         'good': False,
         'running': (),
     }
-    field = rng.choice([None, *changes])
+    field = rng.choice(list(changes))
+    return past._replace(**{field: changes[field]})
+
+
+def damaged_ghost(rng, ghost):
+    changes = {
+        'own': tuple(rng.sample(ghost.own, len(ghost.own)))[rng.randint(0, 1) :] + (rng.randint(0, 13),),
+        'kept': damaged_past(rng, ghost.kept),
+        'told': damaged_past(rng, ghost.told),
+        'late': rng.choice((None, (rng.randint(1, 12), 7))),
+    }
+    field = rng.choice([None, 'own', 'late', 'told', 'told', *['kept'] * 4])
     return ghost if field is None else ghost._replace(**{field: changes[field]})
 
 

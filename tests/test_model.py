@@ -1,10 +1,12 @@
-"""The model against document 01 and U1 of document 02: runs, claims, refusals, damaged stores, and the four traps."""
+"""The model against document 01 and U1 and U2 of document 02: runs, claims, drained records, refusals, damaged stores,
+and the four traps."""
 
 import random
 import unittest
 
 import claim_stores
 import intake_model as im
+import leaving_stores
 from intake_model import Intake, Recorder, needed_words, open_store, start_dequeue, start_enqueue, step
 
 D = [('d',)]
@@ -149,16 +151,6 @@ class Runs(unittest.TestCase):
         self.assertEqual(im.free_records(recorder.words), [2])
         self.assertEqual(recorder.run(S(1, 4)), [GOING, GOING, GOING, END])
 
-    def test_head_record_is_retired_by_the_next_dequeue(self):
-        """A head record retired too early, or not given back to the free ones."""
-        recorder = Recorder(2, 2, 1, 9)
-        for v in range(3):
-            enqueue_whole(recorder, 1, v)
-        self.assertEqual([dequeue_whole(recorder) for _ in range(2)], [('item', 1, 0), ('item', 2, 1)])
-        self.assertEqual(im.free_records(recorder.words), [])
-        self.assertEqual(dequeue_whole(recorder), ('item', 3, 2))
-        self.assertEqual(im.free_records(recorder.words), [0])
-
     def test_items_left_by_position(self):
         """Items left in record order instead of queue order: here record 0 comes after record 1."""
         recorder = Recorder(2, 2, 1, 9)
@@ -207,13 +199,13 @@ class Claims(unittest.TestCase):
     def test_the_one_claimed_last_comes_last(self):
         """A claim that takes the record claimed last, given back since, before another one; or that never takes it."""
         self.assertEqual(given_back_run(Intake, 4, 0), self.GIVEN_BACK + [(3, 4)])
-        self.assertEqual(given_back_run(Intake, 3, 3), self.GIVEN_BACK + [(0, 1)])
+        self.assertEqual(given_back_run(Intake, 3, 2), self.GIVEN_BACK + [(0, 1)])
         self.assertEqual(given_back_run(Intake, 3, 0), self.GIVEN_BACK + [(2, 3)])
 
     def test_wrong_claims(self):
         """Runs too weak to see a claim that starts at the record claimed last, stops at the end, or leaves word 11."""
         self.assertEqual(given_back_run(StartsAtTheLast, 4, 0)[-1], (2, 3))
-        self.assertEqual(given_back_run(StartsAtTheLast, 3, 3)[-1], (2, 3))
+        self.assertEqual(given_back_run(StartsAtTheLast, 3, 2)[-1], (2, 3))
         self.assertEqual(one_round_run(StopsAtTheEnd)[3], (None, 4))
         self.assertEqual(given_back_run(StopsAtTheEnd, 3, 0)[-1], (None, 3))
         self.assertEqual(one_round_run(LeavesWord11)[0], (1, 1))
@@ -307,7 +299,7 @@ def one_round_run(engine):
 
 def given_back_run(engine, N, dequeues):
     """B = 2. Producer 1 in phase 4 and producer 2 in phase 10, both holding record 0, claim records 1 and 2. Producer 1
-    links; producer 2 gives record 2 back. Producer 1 ends. After so many dequeues (three leave record 0 free) it
+    links; producer 2 gives record 2 back. Producer 1 ends. After so many dequeues (two leave record 0 free) it
     enqueues at position 3, and claims."""
     recorder = ClaimRecorder(2, N, 2, 9, engine=engine)
     enqueue_whole(recorder, 1, 0)
@@ -335,6 +327,236 @@ def late_set_run(engine):
     recorder.run(E(1, 70) + S(1, 3) + D + S(0, 2) + S(1))
     enqueue_whole(recorder, 2, 80)
     return recorder.run(S(0, 5))
+
+
+# Letting a drained record go (document 02, U2): wrong engines, then the runs.
+
+
+class RepliesAtTheEnd(Intake):
+    """Phase 7 replies its item at the record's end too; there is no phase 8."""
+
+    def mark(self):
+        reply = super().mark()
+        return self.reply_item() if reply == GOING else reply
+
+
+class MovesAtTheMark(Intake):
+    """Phase 7 makes the move itself."""
+
+    def mark(self):
+        reply = super().mark()
+        return self.let_go() if reply == GOING else reply
+
+
+class KeepsTheRecord(Intake):
+    """Phase 8 moves the head and does not retire the old record."""
+
+    def let_go(self):
+        left = self.w[im.HEAD_RECORD] - 1
+        reply = super().let_go()
+        self.put_part(left, im.USE, im.USE_LINKED)
+        return reply
+
+
+class GoesToTheFront(Intake):
+    """Phase 8 goes to phase 1 and replies no item."""
+
+    def let_go(self):
+        self.leave_head()
+        return self.to(1)
+
+
+class ForgetsTheItem(Intake):
+    """Phase 7 clears the item's words on its way to 8."""
+
+    def mark(self):
+        reply = super().mark()
+        if reply == GOING:
+            self.put(im.ITEM_CALL, 0)
+            self.put(im.ITEM_VALUE, 0)
+        return reply
+
+
+class LeavesTheTailRecord(Intake):
+    """Phase 7 goes to 8 at the record's end, whether or not the head record is the tail record."""
+
+    def head_is_tail(self):
+        return self.mine(im.PHASE) == 1 and super().head_is_tail()
+
+
+LETTING_GO = (
+    RepliesAtTheEnd, MovesAtTheMark, KeepsTheRecord, GoesToTheFront, ForgetsTheItem, LeavesTheTailRecord,
+)
+
+
+class LettingGo(unittest.TestCase):
+    """The dequeue that takes the head record's last item leaves that record, if it is not the tail record."""
+
+    def test_feeders_go_on(self):
+        """A feeder that meets 8 although the dequeue that took the head record's last item has ended, and no other was
+        started."""
+        recorder = Recorder(2, 2, 3, 99)
+        self.assertEqual(let_go_run(recorder.call), LET_GO)
+        self.assertEqual(recorder.under_way(), [])
+
+    def test_wrong_ways_to_let_go(self):
+        """A run too weak to see a dequeue that leaves the drained record to the next one, that leaves it without a step
+        of its own, that does not retire it, that goes on to the front, or that gives another item."""
+        met, drained, went_on = LET_GO[0]
+        stays = [refused(8)] * 6
+        ends_early = drained[:3] + [('item', 2, 1), refused(7)]
+        self.assertEqual(first_round(RepliesAtTheEnd), (met, ends_early, stays))
+        self.assertEqual(first_round(MovesAtTheMark), (met, ends_early, went_on))
+        self.assertEqual(first_round(KeepsTheRecord), (met, drained, stays))
+        self.assertEqual(first_round(GoesToTheFront), (met, drained[:4] + [GOING], went_on))
+        self.assertEqual(first_round(ForgetsTheItem), (met, drained[:4] + [('item', 0, 0)], went_on))
+
+    def test_step_by_step(self):
+        """A record retired before phase 8, words of found left in phase 8, or an item that is not kept for it."""
+        recorder = Recorder(2, 2, 1, 9)
+        for v in range(3):
+            enqueue_whole(recorder, 1, 70 + v)
+        self.assertEqual(dequeue_whole(recorder), ('item', 1, 70))
+        self.assertEqual(recorder.run(D + S(0, 3)), [OK, GOING, GOING, GOING])
+        words = recorder.words
+        self.assertEqual((words[im.HEAD_RECORD], words[im.HEAD_POSITION]), (1, 2))
+        self.assertEqual(words[16:24], [8, 0, 0, 0, 0, 2, 71, 0])
+        self.assertEqual((im.items_left(words), im.free_records(words)), ([(3, 72)], []))
+        self.assertEqual(recorder.history[-1], (3, 0, 0, 0))
+        self.assertEqual(recorder.call(('s', 0)), ('item', 2, 71))
+        self.assertEqual((words[im.HEAD_RECORD], words[im.HEAD_POSITION]), (2, 2))
+        self.assertEqual(words[16:24], [0] * 8)
+        self.assertEqual(im.free_records(words), [0])
+
+    def test_the_tail_record_is_not_left(self):
+        """A dequeue that goes to 8 where the head record is the tail record: it has no next, or one linked ahead."""
+        for steps in (4, 6):
+            recorder = Recorder(2, 2, 1, 9)
+            enqueue_whole(recorder, 1, 70)
+            recorder.run(E(1, 71) + S(1, steps))
+            self.assertEqual(recorder.run(D + S(0, 3)), [OK, GOING, GOING, ('item', 1, 70)])
+            self.assertEqual(recorder.run(D + S(0, 3)), [OK, GOING, GOING, ('item', 2, 71)])
+            self.assertEqual(recorder.run(D + S(0)), [OK, EMPTY])
+        self.assertEqual(tail_record_run(LeavesTheTailRecord), [OK, GOING, GOING, GOING, refused(9)])
+        self.assertEqual(tail_record_run(Intake), [OK, GOING, GOING, ('item', 2, 71), refused(7)])
+
+    def test_head_that_waits_at_the_end(self):
+        """A phase 1 without its move: the record was the tail record when its last item was taken, and is no longer."""
+        recorder = Recorder(2, 2, 1, 9)
+        for v in (70, 71):
+            enqueue_whole(recorder, 1, v)
+        for call in (1, 2):
+            self.assertEqual(recorder.run(D + S(0, 3))[-1], ('item', call, 69 + call))
+        self.assertEqual(enqueue_whole(recorder, 1, 72), 7)
+        self.assertEqual((recorder.words[im.HEAD_POSITION], im.free_records(recorder.words)), (2, []))
+        self.assertEqual(recorder.run(D + S(0)), [OK, GOING])
+        self.assertEqual(im.free_records(recorder.words), [0])
+        self.assertEqual(recorder.run(S(0, 3)), [GOING, GOING, ('item', 3, 72)])
+
+    def test_head_that_passes_to_the_end(self):
+        """A move that is not made where phase 1 brings the head to the record's end: its last item was taken first."""
+        recorder = Recorder(2, 2, 2, 9)
+        recorder.run(E(1, 70) + S(1, 3))
+        for v in (71, 72):
+            enqueue_whole(recorder, 2, v)
+        self.assertEqual(dequeue_whole(recorder), ('item', 2, 71))
+        self.assertEqual(recorder.call(('s', 1)), END)
+        self.assertEqual(recorder.run(D + S(0, 3)), [OK, GOING, GOING, ('item', 1, 70)])
+        self.assertEqual(recorder.run(D + S(0, 5)), [OK] + [GOING] * 4 + [('item', 3, 72)])
+
+    def test_any_store_in_7(self):
+        """A mark that goes to 8 or not by another record than the head record, or where the head did not advance; that
+        writes and is refused; or that looks at something else."""
+        seen = set()
+        for words in leaving_stores.marking(random.Random(6)):
+            tail_record, head, position = words[7:10]
+            found, at, call, value = words[19:23]
+            end, head_end = (2 * place_of(words, number) if number else 0 for number in (found, head))
+            after = list(words)
+            reply = step(after, 0)
+            if not end - 2 <= at < end or at == position == words[3]:
+                expected = (refused(9), words)
+            else:
+                changes = {leaving_stores.record_at(found) + 4 + 3 * (at % 2): 2, 9: position + (at == position)}
+                late = at == position and position + 1 == head_end and head != tail_record
+                consumer = [8, 0, 0, 0, 0, call, value, 0] if late else [0] * 8
+                changes |= {16 + k: word for k, word in enumerate(consumer)}
+                expected = (GOING if late else ('item', call, value), changed(words, changes))
+            self.assertEqual((reply, after), expected)
+            seen.add((reply[0], at == position, position + 1 == head_end, head == tail_record))
+        ends = {('going', True, True, False), ('item', True, True, True), ('item', True, False, False)}
+        self.assertLessEqual(ends | {('item', True, False, True), ('refused', True, False, True)}, seen)
+
+    def test_any_store_in_8(self):
+        """A move that follows no link, leaves the range, looks at the tail record or the head position, or retires
+        another record than the head record."""
+        seen = set()
+        for words in leaving_stores.leaving(random.Random(7)):
+            head, (call, value) = words[8], words[21:23]
+            following = words[leaving_stores.record_at(head) + 1]
+            first = 2 * (place_of(words, following) - 1) if following else None
+            after = list(words)
+            reply = step(after, 0)
+            if first is None or not 0 <= first <= words[3]:
+                expected = (refused(9), words)
+            else:
+                changes = {8: following, 9: first, leaving_stores.record_at(head) + 3: 3}
+                expected = (('item', call, value), changed(words, changes | {16 + k: 0 for k in range(8)}))
+            self.assertEqual((reply, after), expected)
+            seen.add((reply[0], first))
+        refusals = {('refused', first) for first in (None, -2, 10, 1_000_002)}
+        self.assertEqual(seen, refusals | {('item', first) for first in (0, 2, 8)})
+
+
+# For each round of the run below what producer 3 met, the dequeue of the last item, and how producer 3 went on.
+LET_GO = [
+    (
+        [('ok', 5 + 2 * k), GOING, GOING, GOING, refused(8)],
+        [OK, GOING, GOING, GOING, ('item', 2 + 2 * k, 1 + 2 * k)],
+        [GOING, GOING, GOING, GOING, GOING, END],
+    )
+    for k in range(3)
+]
+
+
+def let_go_run(call, rounds=3):
+    """B = 2, N = 2. Two producers fill both records. In each round producer 3 wants another record and meets 8. One
+    item of the head record is taken, then its last, and producer 3 goes on to its end, with no other dequeue. The next
+    round begins when its record is full too. `call` runs a call and gives its reply."""
+
+    def run(calls):
+        return [call(each) for each in calls]
+
+    run(E(1, 0) + S(1, 4) + E(2, 1) + S(2, 6) + E(1, 2) + S(1, 7) + E(2, 3) + S(2, 5))
+    replies = []
+    for k in range(rounds):
+        met = run(E(3, 4 + 2 * k) + S(3, 4))
+        run(D + S(0, 3))
+        replies.append((met, run(D + S(0, 4)), run(S(3, 6))))
+        run(E(1, 5 + 2 * k) + S(1, 5))
+    return replies
+
+
+def first_round(engine):
+    return let_go_run(Recorder(2, 2, 3, 99, engine=engine).call, 1)[0]
+
+
+def tail_record_run(engine):
+    """Two enqueues on a store whose second record is claimed and not linked, so that the head record has no next; the
+    second of two dequeues, and one step more."""
+    recorder = Recorder(2, 2, 1, 9, engine=engine)
+    enqueue_whole(recorder, 1, 70)
+    recorder.run(E(1, 71) + S(1, 5))
+    dequeue_whole(recorder)
+    return recorder.run(D + S(0, 4))
+
+
+def place_of(words, number):
+    return words[leaving_stores.record_at(number)]
+
+
+def changed(words, changes):
+    return [changes.get(k, word) for k, word in enumerate(words)]
 
 
 # Traps on the way: wrong engines.
@@ -432,14 +654,14 @@ def drained_record_run(engine):
 
 
 def stopped_holder_run(engine):
-    """Producer 1 takes 2 and stops before phase 6 with record 0 held. Producer 2 goes on; three dequeues retire
+    """Producer 1 takes 2 and stops before phase 6 with record 0 held. Producer 2 goes on; two dequeues retire
     record 0. Producer 2 wants a third place; then producer 1 steps."""
     recorder = Recorder(2, 2, 2, 9, engine=engine)
     for v in range(2):
         enqueue_whole(recorder, 2, v)
     recorder.run(E(1, 2) + S(1, 3))
     enqueue_whole(recorder, 2, 3)
-    for _ in range(3):
+    for _ in range(2):
         dequeue_whole(recorder)
     return enqueue_whole(recorder, 2, 4), recorder.call(('s', 1))
 
@@ -513,7 +735,7 @@ class Refusals(unittest.TestCase):
         words = opened(2, 3, 1, 4)
         limits = {4: (16, 16), 5: (32, 32), 6: (0, 4), 7: (1, 3), 8: (1, 3), 9: (0, 4), 10: (0, 4)}
         limits |= {11: (1, 3)} | {k: (0, 0) for k in range(12, 16)}
-        limits |= {16: (0, 7), 24: (0, 11)} | {k: (0, 0) for k in (*range(17, 24), *range(25, 32))}
+        limits |= {16: (0, 8), 24: (0, 11)} | {k: (0, 0) for k in (*range(17, 24), *range(25, 32))}
         for r in (32, 42, 52):
             limits |= {r: (0, 500_002), r + 1: (0, 3), r + 2: (0, 3), r + 3: (0, 3)}
             for entry in (r + 4, r + 7):
@@ -536,6 +758,7 @@ class Refusals(unittest.TestCase):
         self.assert_thread_limits(0, 5, [3, 4, 3, 4, 0, 0, 0])
         self.assert_thread_limits(0, 6, [0, 0, 3, 4, 0, 0, 0])
         self.assert_thread_limits(0, 7, [0, 0, 3, 4, 4, top, 0])
+        self.assert_thread_limits(0, 8, [0, 0, 0, 0, 4, top, 0])
 
     def assert_thread_limits(self, t, phase, tops):
         words = opened(2, 3, 1, 4)
@@ -575,15 +798,14 @@ class Refusals(unittest.TestCase):
             self.assert_refused(7, words, step, t)
 
     def test_8_then_going_once_a_record_is_free(self):
-        """A claim that stays refused after a record has been retired."""
+        """A claim that stays refused after a record has been retired, or is accepted before."""
         recorder = Recorder(2, 2, 1, 9)
         for v in range(4):
             enqueue_whole(recorder, 1, v)
         self.assertEqual(enqueue_whole(recorder, 1, 4), (4, 8))
-        self.assertEqual([dequeue_whole(recorder)[1] for _ in range(2)], [1, 2])
-        self.assertEqual(recorder.call(('s', 1)), refused(8))
-        self.assertEqual(dequeue_whole(recorder)[1], 3)
-        self.assertEqual(recorder.run(S(1, 6)), [GOING] * 5 + [END])
+        self.assertEqual(dequeue_whole(recorder)[1], 1)
+        self.assertEqual(recorder.run(S(1) + D + S(0, 3) + S(1)), [refused(8), OK, GOING, GOING, GOING, refused(8)])
+        self.assertEqual(recorder.run(S(0) + S(1, 6)), [('item', 2, 1)] + [GOING] * 5 + [END])
 
     def test_9_needed_link_is_none(self):
         """A link followed though it is none."""
@@ -614,7 +836,7 @@ class Refusals(unittest.TestCase):
 class Damage(unittest.TestCase):
     """Stores that the engine did not write."""
 
-    CAN_MEET_9 = {('producer', k) for k in (1, 3, 5, 6, 7, 8, 9, 11)} | {('consumer', k) for k in range(1, 8)}
+    CAN_MEET_9 = {('producer', k) for k in (1, 3, 5, 6, 7, 8, 9, 11)} | {('consumer', k) for k in range(1, 9)}
 
     def check(self, words, call):
         """No call raises; a refusal changes nothing; an accepted call leaves words in range. The reply."""

@@ -40,7 +40,7 @@ def parse(line):
 
 
 def expected(data):
-    """What document 01 says the program prints."""
+    """What the papers say the program prints."""
     if len(data) > MOST_INPUT:
         return b'too long\n'
     words, history, starts, out = [0] * STORE_WORDS, [], {}, []
@@ -98,7 +98,7 @@ def shown(data, output):
 
 
 class Runs(unittest.TestCase):
-    """Expected outputs written by hand from document 01; tests/runs/README.md."""
+    """Expected outputs written by hand from documents 01 and 02; tests/runs/README.md."""
 
     def test_run_files(self):
         """A line form, a refusal, a phase or a kind of bad line that is not as document 01 has it."""

@@ -32,8 +32,8 @@ static int producer_ok(const Store *z, const uint32_t *w) {
 
 static int consumer_ok(const Store *z, const uint32_t *w) {
     uint32_t p = w[PHASE];
-    if (p > 7 || w[7] != 0) return 0;
-    int cursor = p >= 3 && p <= 5, found = p >= 5, item = p == 7;
+    if (p > 8 || w[7] != 0) return 0;
+    int cursor = p >= 3 && p <= 5, found = p >= 5 && p <= 7, item = p >= 7;
     if (cursor ? !link_ok(z, w[1]) || !number_ok(z, w[2]) : (w[1] | w[2]) != 0) return 0;
     if (found ? !link_ok(z, w[3]) || !number_ok(z, w[4]) : (w[3] | w[4]) != 0) return 0;
     return item ? number_ok(z, w[5]) : (w[5] | w[6]) == 0;
@@ -235,6 +235,20 @@ static int cross(Store *z, const uint32_t *r, uint32_t *to, uint32_t *at) {
     return 1;
 }
 
+/* the record behind the head record becomes head record, and the old one is retired */
+static int leave_head(Store *z) {
+    uint32_t *s = z->s, *r = record(z, s[HEAD_RECORD]);
+    if (!cross(z, r, &s[HEAD_RECORD], &s[HEAD_POSITION])) return 0;
+    r[USE] = 3;
+    return 1;
+}
+
+static uint32_t give(uint32_t *w, uint32_t reply[4]) {
+    reply[0] = w[ITEM_NUMBER];
+    reply[1] = w[ITEM_VALUE];
+    return end(w, 103);
+}
+
 static uint32_t consume(Store *z, uint32_t reply[4]) {
     uint32_t *w = thread(z, 0), *s = z->s, *r, *e, to, at;
     switch (w[PHASE]) {
@@ -242,11 +256,7 @@ static uint32_t consume(Store *z, uint32_t reply[4]) {
         r = record(z, s[HEAD_RECORD]);
         if (s[HEAD_POSITION] == z->B * r[PLACE]) {
             if (s[HEAD_RECORD] == s[TAIL_RECORD]) return end(w, 102);
-            if (!cross(z, r, &to, &at)) return 9;
-            s[HEAD_RECORD] = to;
-            s[HEAD_POSITION] = at;
-            r[USE] = 3;
-            return 100;
+            return leave_head(z) ? 100 : 9;
         }
         if (!(e = entry(z, r, s[HEAD_POSITION]))) return 9;
         if (e[0] == 0) {
@@ -324,16 +334,22 @@ static uint32_t consume(Store *z, uint32_t reply[4]) {
         w[ITEM_VALUE] = e[2];
         w[PHASE] = 7;
         return 100;
-    default:
+    case 7:
         if (!w[FOUND_RECORD] || !(e = entry(z, record(z, w[FOUND_RECORD]), w[FOUND_POSITION]))) return 9;
-        if (w[FOUND_POSITION] == s[HEAD_POSITION]) {
-            if (s[HEAD_POSITION] == z->M) return 9;
-            s[HEAD_POSITION]++;
+        if (w[FOUND_POSITION] != s[HEAD_POSITION]) {
+            e[0] = 2;
+            return give(w, reply);
         }
+        if (s[HEAD_POSITION] == z->M) return 9;
         e[0] = 2;
-        reply[0] = w[ITEM_NUMBER];
-        reply[1] = w[ITEM_VALUE];
-        return end(w, 103);
+        s[HEAD_POSITION]++;
+        r = record(z, s[HEAD_RECORD]);
+        if (s[HEAD_POSITION] != z->B * r[PLACE] || s[HEAD_RECORD] == s[TAIL_RECORD]) return give(w, reply);
+        w[FOUND_RECORD] = w[FOUND_POSITION] = 0;
+        w[PHASE] = 8;
+        return 100;
+    default:
+        return leave_head(z) ? give(w, reply) : 9;
     }
 }
 

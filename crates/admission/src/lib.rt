@@ -200,7 +200,7 @@ fn producers_in_range(s: &[u32], z: Shape) -> bool
     ok
 }
 
-// Phase 0 to 7 of the consumer, and the words that the phase uses: cursor record and position, found record and position, the
+// Phase 0 to 8 of the consumer, and the words that the phase uses: cursor record and position, found record and position, the
 // item's call number and value.
 fn consumer_in_range(s: &[u32], z: Shape) -> bool
     requires { ⌜ Room (sizes z) (now s) ⌝ }
@@ -220,6 +220,7 @@ fn consumer_in_range(s: &[u32], z: Shape) -> bool
         5 => row_at_most(s, at, n, m, n, m, 0, 0),
         6 => row_at_most(s, at, 0, 0, n, m, 0, 0),
         7 => row_at_most(s, at, 0, 0, n, m, m, ANY),
+        8 => row_at_most(s, at, 0, 0, 0, 0, m, ANY),
         _ => row_at_most(s, at, n, m, 0, 0, 0, 0),
     }
 }

@@ -5,7 +5,7 @@
 use mathlib.Core.Path.{_≡_}
 use mathlib.Core.List.{[], _∷_}
 use Prim.Native.Nat.{ℕ}
-use Rattle.history.specs.Event.{History, enqueueStarted, enqueueEnded, dequeueStarted, gaveItem, gaveEmpty}
+use Rattle.history.specs.Event.{Event, History, enqueueStarted, enqueueEnded, dequeueStarted, gaveItem, gaveEmpty}
 use Rattle.criterion.specs.Explained.{Started, Begun, Ended, Taken, EndedBefore, current}
 
 -- g is the history that is kept, h the one that was told. They parted when item (n, v) was marked: in g it was given there and the
@@ -14,6 +14,14 @@ pub data Late (n v : ℕ) : (g h : History) → Type 0 where
   marked : {h : History} → Late n v (dequeueStarted ∷ gaveItem n v ∷ h) h
   thenStarted : {t m w : ℕ} {g h : History} → Late n v g h → Late n v (enqueueStarted t m w ∷ g) (enqueueStarted t m w ∷ h)
   thenEnded : {t m w : ℕ} {g h : History} → Late n v g h → Late n v (enqueueEnded t m w ∷ g) (enqueueEnded t m w ∷ h)
+
+-- an event of an enqueue
+abbrev pub OfEnqueue : Event → Type 0
+OfEnqueue (enqueueStarted t n v) = Unit
+OfEnqueue (enqueueEnded t n v) = Unit
+OfEnqueue dequeueStarted = ⊥
+OfEnqueue (gaveItem n v) = ⊥
+OfEnqueue gaveEmpty = ⊥
 
 -- A history without its last item's end, and without what the consumer did after that.
 abbrev pub withdrawn : History → History

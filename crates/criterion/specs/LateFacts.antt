@@ -3,11 +3,12 @@
 use mathlib.Core.Path.{_≡_, refl, sym, ap, ap₂, subst, transport⁻¹, _∙_}
 use mathlib.Core.Logic.{_⊎_, inl, inr}
 use mathlib.Core.Bool.{true, cond}
-use mathlib.Core.List.{_∷_}
+use mathlib.Core.List.{[], _∷_, _++_}
 use mathlib.Core.Option.{none, some}
 use Prim.Native.Nat.{ℕ}
 use lib.Dec.{eqb}
-use Rattle.history.specs.Event.{History, enqueueStarted, enqueueEnded, dequeueStarted, gaveItem}
+use Rattle.history.specs.Lists.{All}
+use Rattle.history.specs.Event.{History, enqueueStarted, enqueueEnded, dequeueStarted, gaveItem, gaveEmpty}
 use Rattle.history.specs.Form.{wellFormed}
 use Rattle.criterion.specs.Explained.{Started, Begun, Taken, EndedBefore, MayGive, Explained, dequeuing}
 use Rattle.criterion.specs.Following.{tail-formed}
@@ -15,9 +16,26 @@ use Rattle.criterion.specs.Growth.{number-is-begun, enqueue-may-start, e
 use Rattle.criterion.specs.Times.{started-when}
 use Rattle.criterion.specs.Tidy.{enqueue-of-start}
 use Rattle.criterion.specs.UnderWay.{start-was-idle, start-is-new, end-was-current, item-was-asked}
-use Rattle.criterion.specs.Late.{Late, marked, thenStarted, thenEnded, withdrawn, SameEnqueues}
+use Rattle.criterion.specs.Late.{Late, marked, thenStarted, thenEnded, OfEnqueue, withdrawn, SameEnqueues}
+
+-- Enqueue events are added to what is kept and to what was told.
+pub withdrawn-adds : (es : History) → All OfEnqueue es → (g : History) → withdrawn (es ++ g) ≡ es ++ withdrawn g
+withdrawn-adds [] a g = refl
+withdrawn-adds (enqueueStarted t m w ∷ es) a g = ap (λ (k : History). enqueueStarted t m w ∷ k) (withdrawn-adds es (a .1) g)
+withdrawn-adds (enqueueEnded t m w ∷ es) a g = ap (λ (k : History). enqueueEnded t m w ∷ k) (withdrawn-adds es (a .1) g)
+withdrawn-adds (dequeueStarted ∷ es) a g = absurd (a .0)
+withdrawn-adds (gaveItem m w ∷ es) a g = absurd (a .0)
+withdrawn-adds (gaveEmpty ∷ es) a g = absurd (a .0)
 
 module _ {n v : ℕ} where
+  pub late-adds : (es : History) → All OfEnqueue es → {g h : History} → Late n v g h → Late n v (es ++ g) (es ++ h)
+  late-adds [] a l = l
+  late-adds (enqueueStarted t m w ∷ es) a l = thenStarted (late-adds es (a .1) l)
+  late-adds (enqueueEnded t m w ∷ es) a l = thenEnded (late-adds es (a .1) l)
+  late-adds (dequeueStarted ∷ es) a l = absurd (a .0)
+  late-adds (gaveItem m w ∷ es) a l = absurd (a .0)
+  late-adds (gaveEmpty ∷ es) a l = absurd (a .0)
+
   pub late-withdrawn : {g h : History} → Late n v g h → withdrawn g ≡ h
   late-withdrawn marked = refl
   late-withdrawn (thenStarted {t} {m} {w} l) = ap (λ (k : History). enqueueStarted t m w ∷ k) (late-withdrawn l)

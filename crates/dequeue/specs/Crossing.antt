@@ -5,7 +5,7 @@ use mathlib.Core.List.{List, [], _∷_}
 use Prim.Native.Nat.{ℕ, suc, _*_}
 use lib.Dec.{leb}
 use Rattle.rules.specs.Sizes.{Sizes}
-use Rattle.rules.specs.Cell.{Reader, reader, _:=_, headRecord, headPosition, cursorRecord, cursorPosition, place, next, used}
+use Rattle.rules.specs.Cell.{Reader, reader, _:=_, cursorRecord, cursorPosition, place, next}
 use Rattle.rules.specs.Rule.{Effect, refuse, goes, need}
 use Rattle.dequeue.specs.declared.Crossing.{Crossing}
 use Rattle.dequeue.specs.declared.Crossing.the-variants.{None, To}
@@ -30,10 +30,6 @@ Crosses z σ r (To l p) = CrossesTo z σ r l p
 
 pub record Crossed (z : Sizes) (m : List ℕ) (r : ℕ) (x : Crossing) : Type 0 where
   pub crosses : Crosses z (reader z m) r x
-
--- phase 1, the head at the end of its record h
-abbrev pub toHead : (h n p : ℕ) → Effect
-toHead h n p = goes (headRecord := suc n ∷ headPosition := p ∷ used h := 3 ∷ [])
 
 -- phase 3, crossing
 abbrev pub toCursor : (n p : ℕ) → Effect

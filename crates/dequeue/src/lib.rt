@@ -1,12 +1,12 @@
 // The consumer's phases 1 to 4, a function each (document 01, "Calls"). The words are admitted.
 ghost use mathlib.Core.Path.{_≡_};
 ghost use Prim.Native.Nat.{_<_};
-ghost use Rattle.rules.specs.Rule.{cross};
-ghost use Rattle.rules.specs.Consumer.{front, readTail, scan, readEntry};
+ghost use Rattle.rules.specs.Rule.{goes, cross};
+ghost use Rattle.rules.specs.Consumer.{moveHead, front, readTail, scan, readEntry};
 ghost use Rattle.store.specs.Shape.{sizes};
 ghost use Rattle.store.specs.Outcome.{left, does};
 ghost use Rattle.store.specs.Store.{Admitted};
-ghost use Rattle.dequeue.specs.Crossing.{Crossed, toHead, toCursor};
+ghost use Rattle.dequeue.specs.Crossing.{Crossed, toCursor};
 use store::Reply;
 use store::Shape;
 use store::Slot;
@@ -55,11 +55,11 @@ pub fn cross_from(s: &[u32], z: Shape, r: u32) -> Crossing
     Crossing::To { link, position }
 }
 
-// Next becomes head record, head position its first, the old one is retired.
-fn move_head(s: &mut [u32], z: Shape, h: u32) -> Reply
+// The move past the end of the head record: next becomes head record, head position its first, the old one is retired.
+pub fn move_head(s: &mut [u32], z: Shape, h: u32) -> Reply
     requires { ⌜ Admitted (sizes z) (now s) ⌝ }
     requires { ⌜ h < z .records ⌝ }
-    ensures { λ r. ⌜ left r (now (s .exit)) ≡ does (λ z σ. cross z σ h (toHead h)) z (now (s .entry)) ⌝ }
+    ensures { λ r. ⌜ left r (now (s .exit)) ≡ does (λ z σ. moveHead z σ h goes) z (now (s .entry)) ⌝ }
 {
     let Crossing::To { link, position } = cross_from(s, z, h) else {
         return Reply::Refused(9);

@@ -26,6 +26,7 @@ use opening::open_store;
 use rescan::mark_handled;
 use rescan::read_item;
 use rescan::rescan_on;
+use rescan::retire_head;
 use starting::begin_dequeue;
 use starting::begin_enqueue;
 use store::Reply;
@@ -51,7 +52,8 @@ fn step_thread(s: &mut [u32], z: Shape, t: u32) -> Reply
             5 => rescan_on(s, z),
             6 => read_item(s, z),
             7 => mark_handled(s, z),
-            0 | 8..=4294967295 => Reply::Refused(7),
+            8 => retire_head(s, z),
+            0 | 9..=4294967295 => Reply::Refused(7),
         };
     }
     let phase = read_producer(s, z, t).phase;

@@ -8,7 +8,7 @@ use native.Mathlib.Omega.{arith}
 use Rattle.history.specs.Event.{History}
 use Rattle.history.specs.Linearization.{Item}
 use Rattle.criterion.specs.Explained.{Started, Ended, Taken, EndedBefore, EndedBeforeDequeue}
-use Rattle.model.specs.State.{Entry, blank, put, Producer, idle, started, seeking, ahead, shifting, behind, writing, setting, done, Consumer, resting, front, reading, scanning, looking, rescanning, found, holding, State, callOf}
+use Rattle.model.specs.State.{Entry, blank, put, Producer, idle, started, seeking, ahead, shifting, behind, writing, setting, done, Consumer, resting, front, reading, scanning, looking, rescanning, found, holding, retiring, State, callOf}
 use Rattle.model.specs.Invariant.{Open, AtPosition, ProducerOk, ConsumerOk, Passed, Rescanned, Reached, Found}
 
 -- call n stays as it is: started, open, taken
@@ -172,3 +172,4 @@ module _ (B : ℕ) (s s′ : State) (w : Watched s s′) where
   consumer-kept (found f g) o = (inside-kept (o .0), found-kept f g (o .1), rescanned-kept f f (o .1 .1) (o .2))
   consumer-kept (holding f g x) o =
       (inside-kept (o .0), found-kept f g (o .1), rescanned-kept f f (o .1 .1) (o .2), w .stays-content f (o .1 .2) ∙ o .3)
+  consumer-kept retiring o = (rw (w .numbers .2, w .numbers .3) (o .0), omega (arith, w .numbers))

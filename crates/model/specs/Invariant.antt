@@ -14,7 +14,7 @@ use Prim.Native.Nat.{ℕ, suc, _+_, _*_, _≤_, _<_}
 use Rattle.history.specs.Event.{History}
 use Rattle.history.specs.Linearization.{Item}
 use Rattle.criterion.specs.Explained.{Started, Begun, Ended, Taken, EndedBefore, EndedBeforeDequeue, Explained, current, dequeuing}
-use Rattle.model.specs.State.{Entry, blank, put, gone, Producer, idle, started, seeking, ahead, shifting, behind, writing, setting, done, Consumer, resting, front, reading, scanning, looking, rescanning, found, holding, State, callOf}
+use Rattle.model.specs.State.{Entry, blank, put, gone, Producer, idle, started, seeking, ahead, shifting, behind, writing, setting, done, Consumer, resting, front, reading, scanning, looking, rescanning, found, holding, retiring, State, callOf}
 
 -- the head is in the head record or at its end, and no place overtakes the next
 pub record Places (B tail hp lo tp hi : ℕ) : Type 0 where
@@ -94,6 +94,10 @@ module _ (B : ℕ) (s : State) where
   ProducerOk (done n v L k) =
       Open n v history × (L < tail) × (owner L ≡ n) × (k ≤ tp) × Inside B L k × (Taken n history ⊎ (entry L ≡ put))
 
+  -- every position from p up to q is handled
+  abbrev pub HandledFrom : (p q : ℕ) → Type 0
+  HandledFrom p q = (r : ℕ) → p ≤ r → r < q → entry r ≡ gone
+
   -- no set entry below c belongs to an enqueue that had ended before this dequeue started
   abbrev pub Passed : ℕ → Type 0
   Passed c = (p : ℕ) → p < c → entry p ≡ put → EndedBeforeDequeue (owner p) history → ⊥
@@ -119,6 +123,7 @@ module _ (B : ℕ) (s : State) where
   ConsumerOk (rescanning c k f g) = (hp < B * lo) × (hp ≤ c) × (c < f) × Reached c k × Found f g × Rescanned c f
   ConsumerOk (found f g) = (hp < B * lo) × Found f g × Rescanned f f
   ConsumerOk (holding f g x) = (hp < B * lo) × Found f g × Rescanned f f × (content f ≡ x)
+  ConsumerOk retiring = (hp ≡ B * lo) × (lo < tp)
 
 -- Whether a dequeue is under way.
 abbrev pub isBusy : Consumer → Bool
@@ -130,6 +135,7 @@ isBusy (looking c k) = true
 isBusy (rescanning c k f g) = true
 isBusy (found f g) = true
 isBusy (holding f g x) = true
+isBusy retiring = true
 
 pub record Invariant (B : ℕ) (s : State) : Type 0 where
   pub places : Places B (s .tail) (s .hp) (s .lo) (s .tp) (s .hi)

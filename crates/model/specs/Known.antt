@@ -6,7 +6,7 @@ use native.Mathlib.Decide.{decLe, decLt}
 use native.Mathlib.Omega.{arith}
 use Rattle.criterion.specs.Explained.{Begun, Ended, Taken}
 use Rattle.model.specs.State.{Entry, blank, put, gone, State}
-use Rattle.model.specs.Invariant.{Has, Open, Invariant}
+use Rattle.model.specs.Invariant.{Has, Open, HandledFrom, Invariant}
 use Rattle.model.specs.Facts.{put-not-blank, put-not-gone, gone-not-blank, started-begun}
 
 -- a bound by contradiction
@@ -42,6 +42,18 @@ module _ (B : ℕ) (s : State) (i : Invariant B s) where
   pub blank-past-head : (p : ℕ) → s .entry p ≡ blank → s .hp ≤ p
   blank-past-head p e =
       by-cases (decLe (s .hp) p) (λ g. g) (λ ng. absurd (gone-not-blank _ (i .entries .gone-below p (omega arith)) e))
+
+  -- nothing is handled at or past tail
+  pub handled-to-tail : (p q : ℕ) → p ≤ s .tail → HandledFrom B s p q → q ≤ s .tail
+  handled-to-tail p q l handled =
+      by-cases (decLe q (s .tail)) (λ g. g)
+      (λ ng. absurd (gone-not-blank _ (handled (s .tail) l (omega arith)) (i .entries .blank-past (s .tail) (omega arith))))
+
+  -- what holds of every set entry below p holds below q, where every position between is handled
+  pub put-below : (P : ℕ → Type 0) (p q : ℕ) → HandledFrom B s p q → ((r : ℕ) → r < p → s .entry r ≡ put → P r)
+      → (r : ℕ) → r < q → s .entry r ≡ put → P r
+  put-below P p q handled below r l e =
+      by-cases (decLt r p) (λ b. below r b e) (λ nb. absurd (put-not-gone _ e (handled r (omega arith) l)))
 
   -- the owner of a set entry is not taken
   pub put-untaken : (p n : ℕ) → s .entry p ≡ put → s .owner p ≡ n → Taken n (s .history) → ⊥

@@ -5,7 +5,7 @@ use Prim.Native.Nat.{ℕ, suc, _+_, _*_}
 use lib.Dec.{leb, ltb}
 use Rattle.history.specs.Event.{Event, enqueueStarted, enqueueEnded, dequeueStarted, gaveItem, gaveEmpty}
 use Rattle.history.specs.Linearization.{Item}
-use Rattle.model.specs.State.{Entry, put, gone, Producer, idle, started, seeking, ahead, shifting, behind, writing, setting, done, Consumer, resting, front, State, override}
+use Rattle.model.specs.State.{Entry, put, gone, Producer, idle, started, seeking, ahead, shifting, behind, writing, setting, done, Consumer, resting, front, retiring, State, override}
 
 -- the state with thread t's producer, or with the consumer, changed
 abbrev pub withProducer : State → ℕ → Producer → State
@@ -191,17 +191,22 @@ beginDequeue s = withEvent (withConsumer s front) dequeueStarted
 abbrev pub answerEmpty : State → State
 answerEmpty s = withEvent (withConsumer s resting) gaveEmpty
 
--- 1 at the end of the head record: the next one becomes head record.
-abbrev pub retireHead : State → State
-retireHead s = withPlaces s (s .hp) (suc (s .lo)) (s .tp) (s .hi)
+-- 1 and 8 at the end of the head record: the one that begins where place k ends becomes head record. (In the list it is the next one;
+-- k is then the head record's own place.)
+abbrev pub retireHead : (B : ℕ) → State → (k : ℕ) → State
+retireHead B s k = withPlaces s (B * k) (suc k) (s .tp) (s .hi)
 
 -- 1 at a handled entry.
 abbrev pub advanceHead : State → State
 advanceHead s = withPlaces s (suc (s .hp)) (s .lo) (s .tp) (s .hi)
 
--- 7, from holding f g x, where found is past the head, and where it is the head.
+-- 7, from holding f g x, where found is past the head, and where it is the head. (Where 8 follows: drainFront.)
 abbrev pub takeItem : State → (f : ℕ) → Item → State
 takeItem s f x = withEvent (withConsumer (withEntry s f gone) resting) (gaveItem (x .number) (x .value))
 
 abbrev pub takeFront : State → (f : ℕ) → Item → State
 takeFront s f x = withPlaces (takeItem s f x) (suc (s .hp)) (s .lo) (s .tp) (s .hi)
+
+-- 7 where 8 follows: the item is given at its mark, and the next dequeue opened there.
+abbrev pub drainFront : State → (f : ℕ) → Item → State
+drainFront s f x = withConsumer (beginDequeue (takeFront s f x)) retiring

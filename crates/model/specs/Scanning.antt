@@ -1,17 +1,19 @@
--- Consumer moves from the head along the records, phases 1 to 6, keep the invariant. From the frame of moves that change the
--- consumer and the head.
+-- Consumer moves from the head along the records, phases 1 to 6 and 8, keep the invariant. From the frame of moves that change the
+-- consumer and the head. A move of the head record and a crossing lead from the end of one record to the beginning of some later one
+-- where every position between is handled; of two records that follow on each other there is none between.
 use mathlib.Core.Path.{_≡_, refl, sym, subst}
-use mathlib.Core.Logic.{_≢_}
-use Prim.Native.Nat.{ℕ, suc, _*_, _<_}
-use native.Mathlib.Nat.{lt-of-mul-lt-mul-left}
+use mathlib.Core.Logic.{_≢_, by-cases}
+use Prim.Native.Nat.{ℕ, suc, _*_, _≤_, _<_}
+use native.Mathlib.Decide.{decLe, decLt}
+use native.Mathlib.Nat.{lt-of-mul-lt-mul-left, mul-le-mul-left}
 use native.Mathlib.Omega.{arith}
 use Rattle.criterion.specs.Explained.{EndedBefore, EndedBeforeDequeue}
 use Rattle.model.specs.State.{blank, put, gone, front, reading, scanning, looking, rescanning, found, holding, State}
-use Rattle.model.specs.Invariant.{ConsumerOk, Invariant, Rescanned}
+use Rattle.model.specs.Invariant.{HandledFrom, ConsumerOk, Invariant, Rescanned}
 use Rattle.model.specs.Moves.{withConsumer, retireHead, advanceHead}
-use Rattle.model.specs.Facts.{put-not-blank, gone-not-blank}
+use Rattle.model.specs.Facts.{put-not-blank, put-not-gone, gone-not-blank}
 use Rattle.model.specs.Threads.{consumer-moves, consumer-goes-on}
-use Rattle.model.specs.Known.{lt-unless, below-suc, put-below-tail, none-put-below-head}
+use Rattle.model.specs.Known.{lt-unless, below-suc, put-below-tail, none-put-below-head, handled-to-tail, put-below}
 use Rattle.model.specs.Dequeues.{consumer-clause}
 
 module _ (B : ℕ) (s : State) (i : Invariant B s) where
@@ -19,10 +21,13 @@ module _ (B : ℕ) (s : State) (i : Invariant B s) where
 
   -- the head, and the head record
 
-  pub retire-head : s .consumer ≡ front → hp ≡ B * lo → lo ≢ tp → Invariant B (retireHead s)
-  retire-head e at-end more =
-      consumer-moves B s i hp (suc lo) (s .consumer) (omega arith) (omega (arith, i .places)) (omega arith) (omega arith)
-      (i .places .head-below) (i .entries .gone-below) refl (subst (ConsumerOk B (retireHead s)) (sym e) tt)
+  -- to the record that begins where place k ends, of a consumer whose phase says nothing of the head
+  pub retire-head : (k : ℕ) → lo ≤ k → k < tp → HandledFrom B s hp (B * k) → ConsumerOk B (retireHead B s k) (s .consumer)
+      → Invariant B (retireHead B s k)
+  retire-head k from to handled ok =
+      consumer-moves B s i (B * k) (suc k) (s .consumer) (omega arith) (omega arith) (omega arith) (omega arith)
+      (handled-to-tail B s i hp (B * k) (i .places .head-below) handled)
+      (λ p l. by-cases (decLt p hp) (λ b. i .entries .gone-below p b) (λ nb. handled p (omega arith) l)) refl ok
 
   pub advance-head : s .consumer ≡ front → hp ≢ B * lo → entry hp ≡ gone → Invariant B (advanceHead s)
   advance-head e inside is-gone =
@@ -62,10 +67,17 @@ module _ (B : ℕ) (s : State) (i : Invariant B s) where
 
   -- the first scan
 
-  pub scan-cross : (c k : ℕ) → s .consumer ≡ scanning c k → c ≡ B * k → k ≢ tp → Invariant B (withConsumer s (scanning c (suc k)))
-  scan-cross c k e at-end more =
+  pub scan-cross : (c k j : ℕ) → s .consumer ≡ scanning c k → c ≡ B * k → k ≤ j → j < tp → HandledFrom B s c (B * j)
+      → Invariant B (withConsumer s (scanning (B * j) (suc j)))
+  scan-cross c k j e at-end from to handled =
       let o = consumer-clause B s i _ e in
-      consumer-goes-on B s i _ (scanning c (suc k)) e refl (o .0, o .1, o .2, omega arith, o .4)
+      consumer-goes-on B s i _ (scanning (B * j) (suc j)) e refl (
+        o .0,
+        omega (arith, mul-le-mul-left B from),
+        handled-to-tail B s i c (B * j) (o .2) handled,
+        omega arith,
+        put-below B s i (λ p. EndedBeforeDequeue (owner p) history → ⊥) c (B * j) handled (o .4),
+      )
 
   pub scan-look : (c k : ℕ) → s .consumer ≡ scanning c k → c ≢ B * k → c ≢ tail → Invariant B (withConsumer s (looking c k))
   scan-look c k e inside more =
@@ -97,12 +109,28 @@ module _ (B : ℕ) (s : State) (i : Invariant B s) where
 
   -- the rescan
 
-  pub rescan-cross : (c k f g : ℕ) → s .consumer ≡ rescanning c k f g → c ≡ B * k
-      → Invariant B (withConsumer s (rescanning c (suc k) f g))
-  rescan-cross c k f g e at-end =
-      let o = consumer-clause B s i _ e in
-      let before : k < g = lt-of-mul-lt-mul-left B (omega arith) in
-      consumer-goes-on B s i _ (rescanning c (suc k) f g) e refl (o .0, o .1, o .2, omega arith, o .4, o .5)
+  -- where it lands, it is not past found
+  module _ (c k f g j : ℕ) (e : s .consumer ≡ rescanning c k f g) (at-end : c ≡ B * k) (from : k ≤ j) (handled : HandledFrom B s c (B * j)) where
+    up-to-found : B * j ≤ f
+    up-to-found =
+        let o = consumer-clause B s i _ e in
+        by-cases (decLe (B * j) f) (λ l. l) (λ nl. absurd (put-not-gone _ (o .4 .2) (handled f (omega arith) (omega arith))))
+
+    rescanned-to : Rescanned B s (B * j) f
+    rescanned-to =
+        put-below B s i (λ p. EndedBefore (owner p) (owner f) history → ⊥) c (B * j) handled (consumer-clause B s i _ e .5)
+
+    pub rescan-cross : B * j ≢ f → Invariant B (withConsumer s (rescanning (B * j) (suc j) f g))
+    rescan-cross more =
+        let o = consumer-clause B s i _ e in
+        let before : j < g = lt-of-mul-lt-mul-left B (omega (arith, up-to-found)) in
+        consumer-goes-on B s i _ (rescanning (B * j) (suc j) f g) e refl
+        (o .0, omega (arith, mul-le-mul-left B from), omega (arith, up-to-found), omega arith, o .4, rescanned-to)
+
+    pub rescan-cross-done : B * j ≡ f → Invariant B (withConsumer s (found f g))
+    rescan-cross-done last =
+        let o = consumer-clause B s i _ e in
+        consumer-goes-on B s i _ (found f g) e refl (o .0, o .4, subst (λ (d : ℕ). Rescanned B s d f) last rescanned-to)
 
   module _ (c k f g : ℕ) (e : s .consumer ≡ rescanning c k f g) (inside : c ≢ B * k) where
     pub rescan-again : entry c ≡ put → c ≢ hp → Invariant B (withConsumer s (rescanning hp lo c k))

@@ -2,27 +2,36 @@
 -- next dequeue opened there, gives the invariant over what is told, with the item's end last and the consumer resting. From
 -- criterion's LateFacts and Settle.
 --
--- How document 02 uses it. U2: at the mark the kept history takes the item's end and a start (`take-item` or `take-front`, then
--- `begin-dequeue`), and `marked` relates it to what was told; each enqueue event is added to both (`thenStarted`, `thenEnded`).
--- In phase 8 `late-formed`, `late-dequeuing` and `late-linearizable` speak of what was told; where phase 8 replies the item,
--- `settled-formed` and `settle-keeps` make the told history the kept one. U5: a drain under way keeps `Late` of its last item
--- between its history and `withdrawn` of it: `marked` at each mark, kept by the enqueue events in between; it ends by the same two.
+-- Phase 7 that leads to 8 (`drain-front`): at the mark the kept history takes the item's end and a start, and `marked` relates it to
+-- what was told; each enqueue event is then added to both. Where phase 8 replies the item, `settle-keeps` makes the told history the
+-- kept one.
 -- Of the consumer nothing is asked: a resting one has no clause, and what the others say of the last dequeue (`Passed`) is said of
 -- the one opened at the mark, which is withdrawn.
 use mathlib.Core.Path.{_≡_, refl, sym, transport, transport⁻¹, _∙_}
 use mathlib.Core.Logic.{⊎-map}
 use mathlib.Core.Bool.{true}
 use mathlib.Core.List.{_∷_}
-use Prim.Native.Nat.{ℕ}
+use Prim.Native.Nat.{ℕ, suc, _*_, _<_}
 use native.Mathlib.Omega.{arith}
 use Rattle.history.specs.Event.{History, gaveItem}
 use Rattle.history.specs.Form.{wellFormed}
+use Rattle.history.specs.Linearization.{Item}
 use Rattle.criterion.specs.Late.{Late, SameEnqueues}
 use Rattle.criterion.specs.LateFacts.{late-same}
 use Rattle.criterion.specs.Settle.{settled-explained}
-use Rattle.model.specs.State.{resting, State}
+use Rattle.model.specs.State.{resting, front, holding, retiring, State}
 use Rattle.model.specs.Invariant.{Invariant}
+use Rattle.model.specs.Moves.{beginDequeue, takeFront, drainFront}
 use Rattle.model.specs.Frame.{Kept, producer-kept, kept-call}
+use Rattle.model.specs.Threads.{consumer-goes-on}
+use Rattle.model.specs.Dequeues.{begin-dequeue, take-front}
+
+-- The head record's last item is taken.
+pub drain-front : (B : ℕ) (s : State) (i : Invariant B s) (f g : ℕ) (x : Item) → s .consumer ≡ holding f g x → f ≡ s .hp
+    → suc (s .hp) ≡ B * s .lo → s .lo < s .tp → Invariant B (drainFront s f x)
+drain-front B s i f g x e at-head at-end more =
+    let taken : Invariant B (takeFront s f x) = take-front B s i f g x e at-head in
+    consumer-goes-on B (beginDequeue (takeFront s f x)) (begin-dequeue B (takeFront s f x) taken) front retiring refl refl (at-end, more)
 
 -- the item's end is told: the consumer rests
 abbrev pub settled : State → (n v : ℕ) → History → State

@@ -28,7 +28,7 @@ pub data Producer : Type 0 where
   done : (n v L k : ℕ) → Producer
 
 -- The consumer with its cursor at position c in the record of place k, found at position f in the record of place g, and the item
--- read there: idle, and phases 1 to 7.
+-- read there: idle, and phases 1 to 8.
 pub data Consumer : Type 0 where
   resting : Consumer
   front : Consumer
@@ -38,6 +38,7 @@ pub data Consumer : Type 0 where
   rescanning : (c k f g : ℕ) → Consumer
   found : (f g : ℕ) → Consumer
   holding : (f g : ℕ) (x : Item) → Consumer
+  retiring : Consumer
 
 -- tail and head position, the places of the head, tail and last record, enqueue starts; by position: its entry, the call that
 -- owns it, what was written there; the threads; the history.

@@ -1,26 +1,36 @@
--- Demand 3, proved: along every list of calls from an accepted open the store stays one that only the engine has written.
-use mathlib.Core.Path.{_≡_, refl, ap, ap₂, sym, _∙_, subst⁻¹}
+-- Demand 3, proved: along every list of calls from an accepted open the store stays one that only the engine has written, and its history
+-- is what was told of the one that is kept.
+use mathlib.Core.Path.{_≡_, refl, ap, ap₂, sym, _∙_, subst, subst⁻¹}
 use mathlib.Core.Logic.{_≢_}
+use mathlib.Core.Bool.{Bool, true, false, cond}
 use mathlib.Core.List.{List, [], _∷_, _++_}
 use Prim.Native.Nat.{ℕ, _≤_}
 use lib.ListN.{length}
 use Rattle.history.specs.Lists.{All}
 use Rattle.history.specs.Event.{History}
-use Rattle.history.specs.Linearization.{Linearization}
+use Rattle.history.specs.Calls.{Call, deq, endOf, calls}
+use Rattle.history.specs.Form.{wellFormed}
+use Rattle.history.specs.Linearization.{Queue, Linearization, Linearizable, Settled}
+use Rattle.criterion.specs.Explained.{Explained}
+use Rattle.criterion.specs.Members.{all-at}
+use Rattle.criterion.specs.Growth.{dequeuing-is-open}
 use Rattle.criterion.specs.Criterion.{sound, criterion}
 use Rattle.criterion.specs.Order.{order}
+use Rattle.criterion.specs.Late.{Late, withdrawn}
+use Rattle.criterion.specs.LateFacts.{late-formed, late-dequeuing}
+use Rattle.criterion.specs.Settle.{late-linearizable}
 use Rattle.rules.specs.Sizes.{Sizes, storeWords}
 use Rattle.rules.specs.Cell.{Reader, reader}
 use Rattle.rules.specs.Free.{nextFree}
 use Rattle.rules.specs.Rule.{Effect, refuse, reply, refused, accepted, ok}
 use Rattle.rules.specs.Request.{Request, Result, applied, effect, result, open-store}
-use Rattle.rules.specs.Play.{Played, replyEvents, events, playOne, play}
+use Rattle.rules.specs.Play.{Played, replyEvents, events, playOne, play, itemsLeft}
 use Rattle.rules.specs.Readback.{reader-writes, length-writes}
 use Rattle.rules.specs.Refusal.{accepted-not-refused, by-open}
 use Rattle.model.specs.Items.{items, items-rest}
 use Rattle.model.specs.State.{State}
 use Rattle.simulation.specs.View.{Ghost, view}
-use Rattle.simulation.specs.Good.{Good, Fine}
+use Rattle.simulation.specs.Good.{Good, Fine, untold, told}
 use Rattle.memory.specs.Loose.{LooseChoice}
 use Rattle.simulation.specs.Every.{effectTaking, effect-is, effect-fine, next-choice}
 use Rattle.simulation.specs.Opened.{open-fits, openReader, openGhost, open-reads, open-good}
@@ -33,28 +43,58 @@ pub record Maintained (z : Sizes) (p : Played) : Type 0 where
   pub fits : storeWords z ≤ length (p .words)
   pub beside : Ghost
   pub good : Good z (reader z (p .words)) beside
-  pub same : beside .history ≡ p .history
+  pub same : told (reader z (p .words)) (beside .history) ≡ p .history
   pub answered : All (λ r. (r ≢ refused 3) × (r ≢ refused 9)) (p .replies)
 
 -- two refusals with one number
 refused-number : {a b : ℕ} → refused a ≡ refused b → a ≡ b
 refused-number e = cc
 
--- Of what is kept, what is owed.
+-- What is owed of a history, where the store holds these items.
+record Owed (left : Queue) (h : History) : Type 0 where
+  formed : wellFormed h ≡ true
+  linearizable : Linearizable h
+  leaves : Settled h → (order : List Call) × Linearization h order left
+
+module _ (z : Sizes) (σ : Reader) (γ : Ghost) (good : Good z σ γ) where
+  explained : Explained (γ .history)
+  explained = good .model .past .explained
+
+  -- The kept history may leave what the position machine holds.
+  of-kept : Owed (itemsLeft z σ) (γ .history)
+  of-kept =
+      let s : State = view σ γ in
+      let left : Linearization (γ .history) (order (γ .history) (items s)) (items s) =
+      sound (γ .history) (good .formed) explained (items s) (items-rest (z .B) s (good .model)) in
+      record {
+        formed = good .formed;
+        linearizable = criterion (γ .history) (good .formed) .0 explained;
+        leaves = λ settled. (order (γ .history) (items s), rw (items-left z σ γ good) left);
+      }
+
+  -- While an item is not yet told its dequeue is under way. (It is in neither the store nor the history.)
+  of-late : {n v : ℕ} → Late n v (γ .history) (withdrawn (γ .history)) → Owed (itemsLeft z σ) (withdrawn (γ .history))
+  of-late late =
+      let h : History = withdrawn (γ .history) in
+      let (d, there, open-ended) = dequeuing-is-open h (late-dequeuing late (good .formed)) in
+      record {
+        formed = late-formed late (good .formed);
+        linearizable = late-linearizable late (good .formed) explained;
+        leaves = λ settled. absurd (all-at (λ c. endOf c ≢ 0) (calls h) settled (deq d) there open-ended);
+      }
+
+  of-told : Owed (itemsLeft z σ) (told σ (γ .history))
+  of-told = go (untold σ) refl
+    where
+      go : (b : Bool) → untold σ ≡ b → Owed (itemsLeft z σ) (cond b (withdrawn (γ .history)) (γ .history))
+      go true e = of-late (good .pending e)
+      go false e = of-kept
+
 owed : {z : Sizes} {p : Played} → Maintained z p → Ordered z p
 owed {z} {p} k =
-    let h : History = k .beside .history in
-    let s : State = view (reader z (p .words)) (k .beside) in
-    let left : Linearization h (order h (items s)) (items s) =
-    sound h (k .good .formed) (k .good .model .past .explained) (items s) (items-rest (z .B) s (k .good .model)) in
-    record {
-      formed = rw (← k .same) (k .good .formed);
-      linearizable = rw (← k .same) (criterion h (k .good .formed) .0 (k .good .model .past .explained));
-      leaves =
-          λ settled. rw (← k .same)
-          (order h (items s), rw (items-left z (reader z (p .words)) (k .beside) (k .good)) left);
-      answered = k .answered;
-    }
+    let o : Owed (itemsLeft z (reader z (p .words))) (p .history) =
+    subst (Owed (itemsLeft z (reader z (p .words)))) (k .same) (of-told z (reader z (p .words)) (k .beside) (k .good)) in
+    record { formed = o .formed; linearizable = o .linearizable; leaves = o .leaves; answered = k .answered }
 
 -- What stands after a call with this result, and after one whose claim takes this record (plus one; zero for none).
 abbrev pub played : Request → Played → Result → Played
@@ -90,7 +130,10 @@ module _ {z : Sizes} {p : Played} (k : Maintained z p) (q : Request) where
         fits = rw (length-writes z (p .words) ws) (k .fits);
         beside = g .next;
         good = subst⁻¹ (λ (τ : Reader). Good z τ (g .next)) (reader-writes z (p .words) ws (k .fits) (g .there)) (g .good);
-        same = g .grown ∙ ap (λ (h : History). replyEvents q h r ++ h) (k .same);
+        same =
+            ap (λ (τ : Reader). told τ (g .next .history)) (reader-writes z (p .words) ws (k .fits) (g .there))
+            ∙ g .grown
+            ∙ ap (λ (h : History). replyEvents q h r ++ h) (k .same);
         answered = ((accepted-not-refused, accepted-not-refused), k .answered);
       }
 
@@ -120,7 +163,7 @@ module _ (z : Sizes) (m : List ℕ) where
         fits = open-fits z m;
         beside = openGhost;
         good = subst⁻¹ (λ (τ : Reader). Good z τ openGhost) (open-reads z e m) (open-good z e);
-        same = refl;
+        same = ap (λ (τ : Reader). told τ []) (open-reads z e m);
         answered = tt;
       })
 

@@ -15,7 +15,7 @@ use Rattle.rules.specs.Range.{inRange}
 use Rattle.rules.specs.Free.{nextFree}
 use Rattle.rules.specs.Rule.{Reply, ok, started, going, ended, empty, item, Effect, refuse, reply, need, upTo, within, index, atEnd}
 use Rattle.rules.specs.Producer.{linked, takePosition, loadTail, lookNext, claimRecord, linkClaimed, shiftTail, goBack, writeEntry, setEntry, claimAhead, linkAhead, producerRules, producerStep}
-use Rattle.rules.specs.Consumer.{byState, front, readTail, scan, readEntry, rescan, readItem, markHandled, consumerRules, consumerStep}
+use Rattle.rules.specs.Consumer.{byState, front, readTail, scan, readEntry, rescan, readItem, drainedAt, markHandled, retireHead, consumerRules, consumerStep}
 use Rattle.rules.specs.Request.{Request, startEnqueue, startDequeue, step, startingEnqueue, startingDequeue, stepping, effect, sizesOf, admitted}
 use Rattle.rules.specs.Update.{both, neither}
 use Rattle.rules.specs.Readback.{WriteThere}
@@ -147,7 +147,15 @@ module _ (z : Sizes) (σ : Reader) (range : InRange z σ) (t : ℕ) where
   mark-sound =
       needs (σ foundRecord) _ found-most
       λ r l. in-record r (σ foundPosition) _
-      λ b. either (eqb (σ foundPosition) (σ headPosition)) _ _ (up-to (z .M) (suc (σ headPosition)) _ (omega arith)) (omega arith)
+      λ b. either (eqb (σ foundPosition) (σ headPosition)) _ _
+      (up-to (z .M) (suc (σ headPosition)) _ (needs (σ headRecord) _ head-most λ h k. either (drainedAt z σ h (suc (σ headPosition))) _ _ (omega arith) (omega arith)))
+      (omega arith)
+
+  retire-sound : S (retireHead z σ)
+  unfolding retireHead
+  retire-sound =
+      needs (σ headRecord) _ head-most
+      λ h l. needs (σ (next h)) _ (next-most h l) λ n k. places (σ (place n)) _ λ y. up-to (z .M) (z .B * y) _ (omega arith)
 
   consumer-sound : S (consumerStep z σ)
   unfolding consumerStep
@@ -162,7 +170,8 @@ module _ (z : Sizes) (σ : Reader) (range : InRange z σ) (t : ℕ) where
       by-phase (suc (suc (suc (suc (suc zero))))) = rescan-sound
       by-phase (suc (suc (suc (suc (suc (suc zero)))))) = read-item-sound
       by-phase (suc (suc (suc (suc (suc (suc (suc zero))))))) = mark-sound
-      by-phase (suc (suc (suc (suc (suc (suc (suc (suc p)))))))) = omega arith
+      by-phase (suc (suc (suc (suc (suc (suc (suc (suc zero)))))))) = retire-sound
+      by-phase (suc (suc (suc (suc (suc (suc (suc (suc (suc p))))))))) = omega arith
 
   -- A producer's phases.
   module _ (there : (1 ≤ t) × (t ≤ z .P)) where

@@ -9,7 +9,7 @@ use lib.ListN.{length, getD}
 use borrow.Author.Tests.{leb-true, eqb-true}
 use Rattle.rules.specs.Sizes.{Sizes, lastClaimedWord}
 use Rattle.rules.specs.Cell.{Reader, content, lastClaimed, consumer, producer, part}
-use Rattle.rules.specs.Range.{Sort, unused, exactly, number, link, record-number, most, any, ofSort, ofSorts, threadInRange, lastClaimedSort, consumerSorts, producerSorts}
+use Rattle.rules.specs.Range.{Sort, unused, exactly, number, link, record-number, most, any, ofSort, ofSorts, threadInRange, lastClaimedSort, consumerSorts, producerSorts, lastConsumerPhase, lastProducerPhase}
 use Rattle.rules.specs.Update.{both, true-false}
 use Rattle.rules.specs.InRange.{InRange, sortOf}
 
@@ -63,10 +63,10 @@ thread-link z last table row k l n e =
 
 module _ {z : Sizes} {σ : Reader} (range : InRange z σ) where
   pub consumer-link : (k : ℕ) → links k consumerSorts ≡ true → σ (consumer (suc k)) ≤ z .N
-  consumer-link k l = thread-link z 7 consumerSorts (λ j. σ (consumer j)) k l refl (range .consuming)
+  consumer-link k l = thread-link z lastConsumerPhase consumerSorts (λ j. σ (consumer j)) k l refl (range .consuming)
 
   pub producer-link : (t : ℕ) → (1 ≤ t) × (t ≤ z .P) → (k : ℕ) → links k producerSorts ≡ true → σ (producer t (suc k)) ≤ z .N
-  producer-link t a k l = thread-link z 11 producerSorts (λ j. σ (producer t j)) k l refl (range .producing t (a .0) (a .1))
+  producer-link t a k l = thread-link z lastProducerPhase producerSorts (λ j. σ (producer t j)) k l refl (range .producing t (a .0) (a .1))
 
   pub last-claimed-link : σ lastClaimed ≤ z .N
   unfolding isLink

@@ -1,8 +1,8 @@
--- The consumer's step on two stores alike, phases 1 to 7: answers alike. From what the stores share of linked records, the only
+-- The consumer's step on two stores alike, phases 1 to 8: answers alike. From what the stores share of linked records, the only
 -- ones that the consumer comes to.
 use mathlib.Core.Path.{_≡_, refl, ap}
 use mathlib.Core.Bool.{cond}
-use mathlib.Core.List.{List, [], _∷_}
+use mathlib.Core.List.{List, [], _∷_, _++_}
 use Prim.Native.Nat.{ℕ, zero, suc}
 use native.Mathlib.Omega.{arith}
 use lib.Dec.{eqb}
@@ -10,7 +10,7 @@ use Rattle.rules.specs.Sizes.{Sizes}
 use Rattle.rules.specs.Cell.{Reader, Write, _:=_, clearConsumer, held, tail, tailRecord, headRecord, headPosition, consumerPhase, cursorRecord, cursorPosition, foundRecord, foundPosition, itemNumber, itemValue, place, used, state, entryNumber, entryValue}
 use Rattle.rules.specs.Update.{after}
 use Rattle.rules.specs.Rule.{Effect, going, empty, item, reply, goes, atEnd, cross, need}
-use Rattle.rules.specs.Consumer.{byState, endsEmpty, front, readTail, scan, readEntry, rescanned, rescan, readItem, markHandled}
+use Rattle.rules.specs.Consumer.{moveHead, byState, endsEmpty, front, readTail, scan, readEntry, rescanned, rescan, readItem, drainedAt, markHandled, retireHead}
 use Rattle.memory.specs.Memory.{Memory}
 use Rattle.renaming.specs.Renaming.{renamed, writesTo}
 use Rattle.renaming.specs.Alike.{Alike}
@@ -77,20 +77,30 @@ module _ {z : Sizes} {σ τ : Reader} (pair : Twins z σ τ) where
   at-found : (k k′ : ℕ → Effect) → ((r : ℕ) → σ (used r) ≡ 2 → Like z σ τ (k r) (k′ (f r))) → Like z σ τ (need (σ foundRecord) k) (need (τ foundRecord) k′)
   at-found k k′ each = by-need (pair .stores) (σ foundRecord) (τ foundRecord) k k′ (a .words foundRecord tt) (λ r q. each r (found-linked m r q))
 
+  at-head : (k k′ : ℕ → Effect) → ((h : ℕ) → σ (used h) ≡ 2 → Like z σ τ (k h) (k′ (f h))) → Like z σ τ (need (σ headRecord) k) (need (τ headRecord) k′)
+  at-head k k′ each = by-need (pair .stores) (σ headRecord) (τ headRecord) k k′ head-same (λ h q. each h (head-linked m h q))
+
+  -- the move past the end of the head record
+  abbrev moved : (h n p : ℕ) → List Write
+  moved h n p = headRecord := suc n ∷ headPosition := p ∷ used h := 3 ∷ []
+
+  moves : (h : ℕ) → σ (used h) ≡ 2 → (k k′ : List Write → Effect) → ((n p : ℕ) → Like z σ τ (k (moved h n p)) (k′ (moved (f h) (f n) p)))
+      → Like z σ τ (moveHead z σ h k) (moveHead z τ (f h) k′)
+  moves h u k k′ each = crosses h (λ n p. k (moved h n p)) (λ n p. k′ (moved (f h) n p)) u (λ n p l. each n p)
+
   -- 1. Front.
   pub front-alike : Like z σ τ (front z σ) (front z τ)
   unfolding front
   front-alike =
-      by-need (pair .stores) (σ headRecord) (τ headRecord) _ _ head-same
-      (λ h q.
-      let u : σ (used h) ≡ 2 = head-linked m h q in
+      at-head _ _
+      (λ h u.
       by-cond (atEnd z σ h (σ headPosition)) (atEnd z τ (f h) (τ headPosition)) (end-same h u _ _ position-same)
       (λ b.
       by-cond (eqb (σ tailRecord) (suc h)) (eqb (τ tailRecord) (suc (f h))) (tail-test pair h)
       (λ c. ends-empty)
       (λ c.
-      crosses h (λ n p. goes (headRecord := suc n ∷ headPosition := p ∷ used h := 3 ∷ [])) (λ n p. goes (headRecord := suc n ∷ headPosition := p ∷ used (f h) := 3 ∷ [])) u
-      (λ n p l. by-plain (pair .stores) going (headRecord := suc n ∷ headPosition := p ∷ used h := 3 ∷ []) _ refl (λ s w. not-relinked (eqb h s) 3 (σ (used s)) (λ x. omega arith) w) (λ t s e. e))))
+      moves h u goes goes
+      (λ n p. by-plain (pair .stores) going (moved h n p) _ refl (λ s w. not-relinked (eqb h s) 3 (σ (used s)) (λ x. omega arith) w) (λ t s e. e))))
       (λ b.
       by-inside h (f h) (σ headPosition) (τ headPosition) (place-same h u) position-same
       (λ i.
@@ -197,7 +207,28 @@ module _ {z : Sizes} {σ τ : Reader} (pair : Twins z σ τ) where
       by-plain (pair .stores) going (itemNumber := σ (entryNumber r i) ∷ itemValue := σ (entryValue r i) ∷ consumerPhase := 7 ∷ [])
       (itemNumber := τ (entryNumber (f r) i) ∷ itemValue := τ (entryValue (f r) i) ∷ consumerPhase := 7 ∷ []) (rw (number, what) refl) (λ s w. w) (λ t s e. e)))
 
-  -- 7. Mark handled. Reply item.
+  -- where the item is replied
+  gives : (ws vs : List Write) → vs ≡ writesTo f ws
+      → ((s : ℕ) → after σ ws (used s) ≡ 2 → σ (used s) ≡ 2)
+      → ((t s : ℕ) → after σ ws (held t) ≡ suc s → σ (held t) ≡ suc s)
+      → Like z σ τ (reply (item (σ itemNumber) (σ itemValue)) ws) (reply (item (τ itemNumber) (τ itemValue)) vs)
+  gives ws vs e links holds =
+      let number : τ itemNumber ≡ σ itemNumber = a .words itemNumber tt in
+      let what : τ itemValue ≡ σ itemValue = a .words itemValue tt in
+      rw (number, what) (by-plain (pair .stores) (item (σ itemNumber) (σ itemValue)) ws vs e links holds)
+
+  -- 7. Mark handled. To 8, or reply item.
+  abbrev marked : Reader → (r i : ℕ) → List Write → List Write
+  marked κ r i rest = state r i := 2 ∷ headPosition := suc (κ headPosition) ∷ rest
+
+  abbrev toRetire : List Write
+  toRetire = foundRecord := 0 ∷ foundPosition := 0 ∷ consumerPhase := 8 ∷ []
+
+  abbrev drains : Reader → (r i h : ℕ) → Effect
+  drains κ r i h =
+      cond (drainedAt z κ h (suc (κ headPosition))) (goes (marked κ r i toRetire))
+      (reply (item (κ itemNumber) (κ itemValue)) (marked κ r i (clearConsumer ∷ [])))
+
   pub mark-handled-alike : Like z σ τ (markHandled z σ) (markHandled z τ)
   unfolding markHandled
   mark-handled-alike =
@@ -208,15 +239,21 @@ module _ {z : Sizes} {σ τ : Reader} (pair : Twins z σ τ) where
       by-cond (eqb (σ foundPosition) (σ headPosition)) (eqb (τ foundPosition) (τ headPosition)) (rw (found-same, position-same) refl)
       (λ b.
       by-up-to (z .M) (suc (σ headPosition)) (suc (τ headPosition)) (ap suc position-same)
-      (gives (state r i := 2 ∷ headPosition := suc (σ headPosition) ∷ clearConsumer ∷ [])
-      (state (f r) i := 2 ∷ headPosition := suc (τ headPosition) ∷ clearConsumer ∷ []) (rw position-same refl) (λ s w. w) (λ t s e. e)))
+      (at-head (drains σ r i) (drains τ (f r) i)
+      (λ h l.
+      by-cond (drainedAt z σ h (suc (σ headPosition))) (drainedAt z τ (f h) (suc (τ headPosition)))
+      (rw (end-same h l (suc (σ headPosition)) (suc (τ headPosition)) (ap suc position-same), tail-test pair h) refl)
+      (λ c. by-plain (pair .stores) going (marked σ r i toRetire) (marked τ (f r) i toRetire) (rw position-same refl) (λ s w. w) (λ t s e. e))
+      (λ c.
+      gives (marked σ r i (clearConsumer ∷ [])) (marked τ (f r) i (clearConsumer ∷ [])) (rw position-same refl) (λ s w. w) (λ t s e. e)))))
       (λ b. gives (state r i := 2 ∷ clearConsumer ∷ []) (state (f r) i := 2 ∷ clearConsumer ∷ []) refl (λ s w. w) (λ t s e. e))))
-    where
-      gives : (ws vs : List Write) → vs ≡ writesTo f ws
-          → ((s : ℕ) → after σ ws (used s) ≡ 2 → σ (used s) ≡ 2)
-          → ((t s : ℕ) → after σ ws (held t) ≡ suc s → σ (held t) ≡ suc s)
-          → Like z σ τ (reply (item (σ itemNumber) (σ itemValue)) ws) (reply (item (τ itemNumber) (τ itemValue)) vs)
-      gives ws vs e links holds =
-          let number : τ itemNumber ≡ σ itemNumber = a .words itemNumber tt in
-          let what : τ itemValue ≡ σ itemValue = a .words itemValue tt in
-          rw (number, what) (by-plain (pair .stores) (item (σ itemNumber) (σ itemValue)) ws vs e links holds)
+
+  -- 8. The move past the end of the head record. Reply item.
+  pub retire-head-alike : Like z σ τ (retireHead z σ) (retireHead z τ)
+  unfolding retireHead
+  retire-head-alike =
+      at-head _ _
+      (λ h u.
+      moves h u (λ ws. reply (item (σ itemNumber) (σ itemValue)) (ws ++ (clearConsumer ∷ []))) (λ ws. reply (item (τ itemNumber) (τ itemValue)) (ws ++ (clearConsumer ∷ [])))
+      (λ n p. gives (moved h n p ++ (clearConsumer ∷ [])) (moved (f h) (f n) p ++ (clearConsumer ∷ [])) refl
+      (λ s w. not-relinked (eqb h s) 3 (σ (used s)) (λ x. omega arith) w) (λ t s e. e)))

@@ -20,7 +20,7 @@ use Rattle.renaming.specs.AlikeEffects.{Like, by-refusal, by-cond, by-pl
 use Rattle.renaming.specs.AlikeRecords.{Twins}
 use Rattle.renaming.specs.AlikeProducer.{take-position-alike, load-tail-alike, look-next-alike, link-claimed-alike, link-ahead-alike, shift-tail-alike, go-back-alike, write-entry-alike, set-entry-alike}
 use Rattle.renaming.specs.AlikeClaims.{BothChoose, claim-record-alike, claim-ahead-alike}
-use Rattle.renaming.specs.AlikeConsumer.{front-alike, read-tail-alike, scan-alike, read-entry-alike, rescan-alike, read-item-alike, mark-handled-alike}
+use Rattle.renaming.specs.AlikeConsumer.{front-alike, read-tail-alike, scan-alike, read-entry-alike, rescan-alike, read-item-alike, mark-handled-alike, retire-head-alike}
 
 module _ {z : Sizes} {σ τ : Reader} (pair : Twins z σ τ) where
   idle-alike : Like z σ τ (refuse 7) (refuse 7)
@@ -45,7 +45,8 @@ module _ {z : Sizes} {σ τ : Reader} (pair : Twins z σ τ) where
       by-phase (suc (suc (suc (suc (suc zero))))) = rescan-alike pair
       by-phase (suc (suc (suc (suc (suc (suc zero)))))) = read-item-alike pair
       by-phase (suc (suc (suc (suc (suc (suc (suc zero))))))) = mark-handled-alike pair
-      by-phase (suc (suc (suc (suc (suc (suc (suc (suc p)))))))) = idle-alike
+      by-phase (suc (suc (suc (suc (suc (suc (suc (suc zero)))))))) = retire-head-alike pair
+      by-phase (suc (suc (suc (suc (suc (suc (suc (suc (suc p))))))))) = idle-alike
 
   producer-alike : (t : ℕ) → (1 ≤ t) × (t ≤ z .P) → (c d : ℕ) → BothChoose z σ τ c d → Like z σ τ (producerStep c z σ t) (producerStep d z τ t)
   unfolding producerStep

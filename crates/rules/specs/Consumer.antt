@@ -1,5 +1,5 @@
--- The consumer's phases 1 to 7 (document 01, "Calls"). Each rule stands under the sentence that it renders.
-use mathlib.Core.Bool.{cond}
+-- The consumer's phases 1 to 8 (document 01, "Calls"; document 02, U2). Each rule stands under the sentence that it renders.
+use mathlib.Core.Bool.{Bool, _&&_, not, cond}
 use mathlib.Core.List.{List, [], _∷_, _++_}
 use Prim.Native.Nat.{ℕ, zero, suc, _+_}
 use lib.Dec.{eqb}
@@ -19,6 +19,10 @@ abbrev pub endsEmpty : Effect
 endsEmpty = reply empty (clearConsumer ∷ [])
 
 module _ (z : Sizes) (σ : Reader) where
+  -- The move past the end of the head record h: next becomes head record, head position its first, the old one is retired.
+  abbrev pub moveHead : (h : ℕ) → (List Write → Effect) → Effect
+  moveHead h f = cross z σ h λ n p. f (headRecord := suc n ∷ headPosition := p ∷ used h := 3 ∷ [])
+
   -- 1. Front. At the end of the head record: empty if it is also the tail record; otherwise next becomes head record, head
   -- position its first, the old one is retired; stay. Else read the entry: handled advances the head; set goes to 6 with found
   -- the head; empty goes to 2.
@@ -26,8 +30,7 @@ module _ (z : Sizes) (σ : Reader) where
   front =
       need (σ headRecord)
       λ h. cond (atEnd z σ h (σ headPosition))
-      (cond (eqb (σ tailRecord) (suc h)) endsEmpty
-      (cross z σ h λ n p. goes (headRecord := suc n ∷ headPosition := p ∷ used h := 3 ∷ [])))
+      (cond (eqb (σ tailRecord) (suc h)) endsEmpty (moveHead h goes))
       (inside z σ h (σ headPosition)
       λ i. byState (σ (state h i))
       (goes (consumerPhase := 2 ∷ []))
@@ -95,19 +98,43 @@ module _ (z : Sizes) (σ : Reader) where
       λ r. inside z σ r (σ foundPosition)
       λ i. goes (itemNumber := σ (entryNumber r i) ∷ itemValue := σ (entryValue r i) ∷ consumerPhase := 7 ∷ [])
 
-  -- 7. Mark handled; if found is the head position, it advances. Reply item.
+  -- The head record is drained by a head at position p: it ends there, and it is not the tail record.
+  abbrev pub drainedAt : (h p : ℕ) → Bool
+  drainedAt h p = atEnd z σ h p && not (eqb (σ tailRecord) (suc h))
+
+  -- Found, entry i of record r, is the head position. If its advance brings the head to the head record's end and the head record is not
+  -- the tail record, to 8; otherwise reply item.
+  abbrev pub markFront : (r i : ℕ) → Effect
+  markFront r i =
+      upTo (z .M) (suc (σ headPosition))
+      (need (σ headRecord)
+      λ h. cond (drainedAt h (suc (σ headPosition)))
+      (goes
+      (state r i := 2
+      ∷ headPosition := suc (σ headPosition)
+      ∷ foundRecord := 0
+      ∷ foundPosition := 0
+      ∷ consumerPhase := 8
+      ∷ []))
+      (reply (item (σ itemNumber) (σ itemValue)) (state r i := 2 ∷ headPosition := suc (σ headPosition) ∷ clearConsumer ∷ [])))
+
+  -- 7. Mark handled; if found is the head position, it advances. Reply item, or to 8.
   unfoldable pub markHandled : Effect
   markHandled =
       need (σ foundRecord)
       λ r. inside z σ r (σ foundPosition)
-      λ i. cond (eqb (σ foundPosition) (σ headPosition))
-      (upTo (z .M) (suc (σ headPosition))
-      (reply (item (σ itemNumber) (σ itemValue)) (state r i := 2 ∷ headPosition := suc (σ headPosition) ∷ clearConsumer ∷ [])))
+      λ i. cond (eqb (σ foundPosition) (σ headPosition)) (markFront r i)
       (reply (item (σ itemNumber) (σ itemValue)) (state r i := 2 ∷ clearConsumer ∷ []))
+
+  -- 8. The move and retirement of phase 1. Reply item.
+  unfoldable pub retireHead : Effect
+  retireHead =
+      need (σ headRecord)
+      λ h. moveHead h λ moved. reply (item (σ itemNumber) (σ itemValue)) (moved ++ (clearConsumer ∷ []))
 
 -- The consumer's rule in each phase; refusal 7 while it is idle.
 abbrev pub consumerRules : List (Sizes → Reader → Effect)
-consumerRules = (λ z σ. refuse 7) ∷ front ∷ readTail ∷ scan ∷ readEntry ∷ rescan ∷ readItem ∷ markHandled ∷ []
+consumerRules = (λ z σ. refuse 7) ∷ front ∷ readTail ∷ scan ∷ readEntry ∷ rescan ∷ readItem ∷ markHandled ∷ retireHead ∷ []
 
 unfoldable pub consumerStep : Sizes → Reader → Effect
 consumerStep z σ = getD consumerRules (σ (consumerPhase)) (λ z σ. refuse 7) z σ

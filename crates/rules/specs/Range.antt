@@ -113,13 +113,16 @@ foundSorts = unused ∷ unused ∷ link ∷ number ∷ unused ∷ unused ∷ unu
 abbrev pub itemSorts : List Sort
 itemSorts = unused ∷ unused ∷ link ∷ number ∷ number ∷ any ∷ unused ∷ []
 
--- phases 0 to 7
+abbrev pub retiringSorts : List Sort
+retiringSorts = unused ∷ unused ∷ unused ∷ unused ∷ number ∷ any ∷ unused ∷ []
+
+-- phases 0 to 8
 abbrev pub lastConsumerPhase : ℕ
-lastConsumerPhase = 7
+lastConsumerPhase = 8
 
 abbrev pub consumerSorts : List (List Sort)
 consumerSorts =
-    idleSorts ∷ idleSorts ∷ idleSorts ∷ cursorSorts ∷ cursorSorts ∷ rescanSorts ∷ foundSorts ∷ itemSorts ∷ []
+    idleSorts ∷ idleSorts ∷ idleSorts ∷ cursorSorts ∷ cursorSorts ∷ rescanSorts ∷ foundSorts ∷ itemSorts ∷ retiringSorts ∷ []
 
 -- words k, k + 1, .. of a row are of these sorts
 abbrev pub ofSorts : Sizes → (ℕ → ℕ) → ℕ → List Sort → Bool

@@ -10,7 +10,7 @@ use Rattle.rules.specs.Range.{inRange}
 use Rattle.rules.specs.Free.{free, nextFree}
 use Rattle.rules.specs.Rule.{Reply, Response, refused, accepted, ok, started, going, ended, empty, item}
 use Rattle.rules.specs.Producer.{takePosition, loadTail, lookNext, claimRecord, linkClaimed, shiftTail, goBack, writeEntry, setEntry, claimAhead, linkAhead, producerStep}
-use Rattle.rules.specs.Consumer.{front, readTail, scan, readEntry, rescan, readItem, markHandled, consumerStep}
+use Rattle.rules.specs.Consumer.{front, readTail, scan, readEntry, rescan, readItem, markHandled, retireHead, consumerStep}
 use Rattle.rules.specs.Request.{Request, startEnqueue, startDequeue, step, applied, opened, open-store, startingEnqueue, startingDequeue, stepping, effect, admitted, result}
 use Rattle.rules.specs.Play.{Played, play}
 
@@ -39,7 +39,7 @@ goings (suc n) = going ∷ goings n
 
 -- What the rules make of some calls on these words, the replies that they give to them, and to an open and the calls after it.
 unfoldable pub playedOn : List Request → List ℕ → Played
-unfolding play result admitted applied effect startingEnqueue startingDequeue stepping reader writes inRange free nextFree takePosition loadTail lookNext claimRecord linkClaimed shiftTail goBack writeEntry setEntry claimAhead linkAhead producerStep front readTail scan readEntry rescan readItem markHandled consumerStep
+unfolding play result admitted applied effect startingEnqueue startingDequeue stepping reader writes inRange free nextFree takePosition loadTail lookNext claimRecord linkClaimed shiftTail goBack writeEntry setEntry claimAhead linkAhead producerStep front readTail scan readEntry rescan readItem markHandled retireHead consumerStep
 playedOn qs m = play qs (record { words = m; replies = []; history = [] })
 
 unfoldable pub repliesTo : List Request → List ℕ → List Response

@@ -4,7 +4,7 @@ use mathlib.Core.List.{List, [], _∷_, _++_, map}
 use Prim.Native.Nat.{ℕ, suc}
 use lib.ListN.{replicate}
 use Rattle.rules.specs.Sizes.{Sizes, storeWords}
-use Rattle.rules.specs.Cell.{Write, reader, writes, _:=_, lastClaimed, phase, held, claimed, used}
+use Rattle.rules.specs.Cell.{Write, reader, writes, _:=_, lastClaimed, tailRecord, headPosition, consumerPhase, foundRecord, foundPosition, itemNumber, itemValue, phase, held, claimed, place, next, used}
 use Rattle.rules.specs.Rule.{Response, refused, accepted, ok, started, going, ended, empty, item}
 use Rattle.rules.specs.Request.{Request, startEnqueue, startDequeue, step, opened}
 use Rattle.rules.specs.Runs.{Trial, sized, times, all, goings, playedOn, repliesTo, replay}
@@ -199,6 +199,36 @@ witnesses =
           ++ (ok ∷ goings 7)
           ++ (going ∷ going ∷ ended ∷ goings 2 ++ (item 1 10 ∷ [])));
     }
+    -- A drained record is let go (document 02, U2). Two records are full, and the fifth enqueue meets 8. The dequeue that takes the head
+    -- record's last item goes to phase 8, which retires it: with no further dequeue the producer claims it and ends.
+    ∷ record {
+      words = 52;
+      sizes = sized 2 2 1 9;
+      requests =
+          startEnqueue 1 10
+          ∷ times 4 (step 1)
+          ++ (startEnqueue 1 11 ∷ times 6 (step 1))
+          ++ (startEnqueue 1 12 ∷ times 7 (step 1))
+          ++ (startEnqueue 1 13 ∷ times 5 (step 1))
+          ++ (startEnqueue 1 14 ∷ times 4 (step 1))
+          ++ (startDequeue ∷ times 3 (step 0))
+          ++ (step 1 ∷ startDequeue ∷ times 4 (step 0))
+          ++ times 6 (step 1)
+          ++ (startDequeue ∷ times 3 (step 0));
+      replies =
+          all
+          (ok ∷ (started 1 ∷ goings 3 ++ (ended ∷ []))
+          ++ (started 2 ∷ goings 5 ++ (ended ∷ []))
+          ++ (started 3 ∷ goings 6 ++ (ended ∷ []))
+          ++ (started 4 ∷ goings 4 ++ (ended ∷ []))
+          ++ (started 5 ∷ goings 3))
+          ++ (refused 8 ∷ [])
+          ++ all (ok ∷ goings 2 ++ (item 1 10 ∷ []))
+          ++ (refused 8 ∷ [])
+          ++ all (ok ∷ goings 3 ++ (item 2 11 ∷ []))
+          ++ all (goings 5 ++ (ended ∷ []))
+          ++ all (ok ∷ goings 2 ++ (item 3 12 ∷ []));
+    }
     -- Refusals 4, 5 and 7 in their order: idle threads, threads that are not there, and threads with a call under way, the producer when
     -- no start is left (5, not 6).
     ∷ record {
@@ -247,6 +277,10 @@ probe p =
     let z = p .sizes in
     repliesTo (p .requests) (writes z (opened z (replicate (storeWords z) 0)) (p .cells))
 
+-- the consumer in phase 8 with item 3 7, and these cells
+abbrev retiring : List Write → List Write
+retiring ws = consumerPhase := 8 ∷ itemNumber := 3 ∷ itemValue := 7 ∷ ws
+
 abbrev pub probes : List Probe
 probes =
     -- A claimed record is held: record 1 is retired, and producer 2 has claimed it. Producer 1 finds none free.
@@ -255,6 +289,32 @@ probes =
       cells = used 1 := 3 ∷ phase 1 := 4 ∷ held 1 := 1 ∷ phase 2 := 5 ∷ held 2 := 1 ∷ claimed 2 := 2 ∷ [];
       requests = step 1 ∷ [];
       replies = refused 8 ∷ [];
+    }
+    -- Phase 8 with no next, a next of no place, and one whose first position is past M.
+    ∷ record { sizes = sized 2 2 1 9; cells = retiring []; requests = step 0 ∷ []; replies = refused 9 ∷ [] }
+    ∷ record { sizes = sized 2 2 1 9; cells = retiring (next 0 := 2 ∷ []); requests = step 0 ∷ []; replies = refused 9 ∷ [] }
+    ∷ record { sizes = sized 2 2 1 9; cells = retiring (next 0 := 2 ∷ place 1 := 6 ∷ []); requests = step 0 ∷ []; replies = refused 9 ∷ [] }
+    -- It looks neither at the head position nor at the tail record: the head stands at position 0, and its record is the tail record.
+    ∷ record { sizes = sized 2 2 1 9; cells = retiring (next 0 := 2 ∷ place 1 := 2 ∷ []); requests = step 0 ∷ []; replies = all (item 3 7 ∷ []) }
+    -- In phase 8 found is not in use; a phase 9 there is not.
+    ∷ record { sizes = sized 2 2 1 9; cells = retiring (foundRecord := 1 ∷ []); requests = step 0 ∷ []; replies = refused 3 ∷ [] }
+    ∷ record { sizes = sized 2 2 1 9; cells = retiring (consumerPhase := 9 ∷ []); requests = step 0 ∷ []; replies = refused 3 ∷ [] }
+    -- Phase 7 leads to 8 at the head record's end, and not at that of found's record: the head stands at 3 and its record ends at 2, found's
+    -- ends at 4.
+    ∷ record {
+      sizes = sized 2 3 1 9;
+      cells =
+          itemNumber := 3
+          ∷ itemValue := 7
+          ∷ consumerPhase := 7
+          ∷ place 1 := 2
+          ∷ tailRecord := 3
+          ∷ foundRecord := 2
+          ∷ foundPosition := 3
+          ∷ headPosition := 3
+          ∷ [];
+      requests = step 0 ∷ [];
+      replies = all (item 3 7 ∷ []);
     }
     ∷ []
 

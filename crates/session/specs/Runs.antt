@@ -8,7 +8,7 @@ use Rattle.rules.specs.Cell.{reader, writes}
 use Rattle.rules.specs.Range.{inRange}
 use Rattle.rules.specs.Free.{free, nextFree}
 use Rattle.rules.specs.Producer.{takePosition, loadTail, lookNext, claimRecord, linkClaimed, shiftTail, goBack, writeEntry, setEntry, claimAhead, linkAhead, producerStep}
-use Rattle.rules.specs.Consumer.{front, readTail, scan, readEntry, rescan, readItem, markHandled, consumerStep}
+use Rattle.rules.specs.Consumer.{front, readTail, scan, readEntry, rescan, readItem, markHandled, retireHead, consumerStep}
 use Rattle.rules.specs.Request.{applied, opened, open-store, startingEnqueue, startingDequeue, stepping, effect, admitted, result}
 use Rattle.protocol.specs.Words.{okLine, goingLine, endLine, emptyLine, badLine, explainedLine}
 use Rattle.protocol.specs.Line.{linesOf, startsWith, fieldAt, lastAt, openLine, enqueueLine, stepLine, dequeueLine, parseLine}
@@ -66,5 +66,5 @@ table =
 
 -- Every run of the table prints what the table says.
 pub runs-as-written : map (λ t. output (t .input)) table ≡ map (λ t. t .printed) table
-unfolding output blank runLines opening calling linesOf startsWith fieldAt lastAt openLine enqueueLine stepLine dequeueLine parseLine printed digitsFrom numberAt digits explains result admitted applied effect startingEnqueue startingDequeue stepping open-store opened reader writes inRange free nextFree takePosition loadTail lookNext claimRecord linkClaimed shiftTail goBack writeEntry setEntry claimAhead linkAhead producerStep front readTail scan readEntry rescan readItem markHandled consumerStep
+unfolding output blank runLines opening calling linesOf startsWith fieldAt lastAt openLine enqueueLine stepLine dequeueLine parseLine printed digitsFrom numberAt digits explains result admitted applied effect startingEnqueue startingDequeue stepping open-store opened reader writes inRange free nextFree takePosition loadTail lookNext claimRecord linkClaimed shiftTail goBack writeEntry setEntry claimAhead linkAhead producerStep front readTail scan readEntry rescan readItem markHandled retireHead consumerStep
 runs-as-written = refl

@@ -1,21 +1,24 @@
--- Consumer phases 6 and 7, which read the item and take it.
-use mathlib.Core.Path.{_≡_, refl, ap, ap₂, _∙_, subst}
-use mathlib.Core.Bool.{true, cond, and-false}
-use mathlib.Core.List.{[], _∷_}
-use Prim.Native.Nat.{ℕ, suc, _≤_}
+-- Consumer phases 6 and 7, which read the item and take it; where that drains the head record, 7 leads to 8.
+use mathlib.Core.Path.{_≡_, refl, ap, ap₂, sym, _∙_, subst}
+use mathlib.Core.Logic.{_≢_}
+use mathlib.Core.Bool.{Bool, true, not, cond, and-false}
+use mathlib.Core.List.{List, [], _∷_}
+use Prim.Native.Nat.{ℕ, suc, _*_, _≤_, _<_}
 use native.Mathlib.Omega.{arith}
 use lib.Dec.{eqb}
-use borrow.Author.Tests.{eqb-true, eq-eqb}
-use Rattle.history.specs.Event.{gaveItem}
+use borrow.Author.Tests.{eqb-true, eqb-false, eq-eqb, not-true}
+use Rattle.history.specs.Event.{dequeueStarted, gaveItem}
 use Rattle.history.specs.Form.{wellFormed}
 use Rattle.history.specs.Linearization.{Item}
-use Rattle.criterion.specs.Growth.{dequeue-may-give}
+use Rattle.criterion.specs.Growth.{dequeue-may-start, dequeue-may-give}
+use Rattle.criterion.specs.Late
+use Rattle.criterion.specs.Late.{withdrawn}
 use Rattle.rules.specs.Sizes.{Sizes}
-use Rattle.rules.specs.Cell.{Reader, _:=_, clearConsumer, headPosition, consumer, consumerPhase, foundRecord, foundPosition, itemNumber, itemValue, place, used, state, entryNumber, entryValue, entry}
-use Rattle.rules.specs.Update.{after, update}
-use Rattle.rules.specs.Range.{number, foundSorts}
-use Rattle.rules.specs.Rule.{Effect, goes, item, reply, need, upTo, index, inside}
-use Rattle.rules.specs.Consumer.{readItem, markHandled}
+use Rattle.rules.specs.Cell.{Reader, Write, _:=_, clearConsumer, tailRecord, headRecord, headPosition, consumer, consumerPhase, foundRecord, foundPosition, itemNumber, itemValue, place, used, state, entryNumber, entryValue, entry}
+use Rattle.rules.specs.Update.{after, update, both}
+use Rattle.rules.specs.Range.{number, foundSorts, itemSorts}
+use Rattle.rules.specs.Rule.{Effect, going, goes, item, reply, need, atEnd, index, inside}
+use Rattle.rules.specs.Consumer.{readItem, drainedAt, markFront, markHandled}
 use Rattle.rules.specs.Request.{step}
 use Rattle.model.specs.State
 use Rattle.model.specs.State.{gone, override}
@@ -23,14 +26,16 @@ use Rattle.model.specs.Facts.{override-same, override-other}
 use Rattle.model.specs.Invariant.{Inside, Found, isBusy}
 use Rattle.model.specs.Scanning.{read-item}
 use Rattle.model.specs.Dequeues.{take-item, take-front}
+use Rattle.model.specs.Settling.{drain-front}
 use Rattle.model.specs.Bounds.{found-found, holding-found}
 use Rattle.memory.specs.Memory.{Memory}
 use Rattle.simulation.specs.View.{Ghost, placesOf, placeOf, view, AgreesWith}
 use Rattle.simulation.specs.Good.{Good, Goes, Fine, by-need, by-cond, by-up-to}
-use Rattle.simulation.specs.Rows.{ConsumerWords, of-sort, has-sort}
+use Rattle.simulation.specs.Told.{tells-kept, not-yet}
+use Rattle.simulation.specs.Rows.{ConsumerWords, consumer-row-of, of-sort, has-sort}
 use Rattle.simulation.specs.Entries.{other-record, other-entry, by-inside, Slot, slot, slot-changes, slot-number, slot-value}
 use Rattle.simulation.specs.ConsumerCursor.{some-record}
-use Rattle.simulation.specs.ConsumerSteps.{consumer-words, consumer-at, tail-fits, resting-in-range, consumer-goes, consumer-light}
+use Rattle.simulation.specs.ConsumerSteps.{consumer-words, consumer-at, tail-fits, head-placed, head-linked, not-tail-record, resting-in-range, consumer-goes, consumer-light}
 
 module _ (z : Sizes) (σ : Reader) (γ : Ghost) (good : Good z σ γ) where
   m : Memory z σ (γ .shape)
@@ -59,7 +64,7 @@ module _ (z : Sizes) (σ : Reader) (γ : Ghost) (good : Good z σ γ) where
   read-item-fine e =
       at-found found (λ r i. goes (itemNumber := σ (entryNumber r i) ∷ itemValue := σ (entryValue r i) ∷ consumerPhase := 7 ∷ []))
       (λ r q s.
-      consumer-goes z σ γ good
+      consumer-goes z σ γ good (not-yet σ e (omega arith))
       (itemNumber := σ (entryNumber r (index z σ r (σ foundPosition))) ∷ itemValue := σ (entryValue r (index z σ r (σ foundPosition))) ∷ consumerPhase := 7 ∷ [])
       7
       _
@@ -91,7 +96,8 @@ module _ (z : Sizes) (σ : Reader) (γ : Ghost) (good : Good z σ γ) where
       words : ConsumerWords z (λ j. σ (consumer j)) foundSorts
       words = consumer-words z σ γ good 6 e
 
-  -- 7. Mark handled; if found is the head position, it advances. Reply item.
+  -- 7. Mark handled; if found is the head position, it advances. If that brings the head to the head record's end and the head record
+  -- is not the tail record, to 8. Otherwise reply item.
   module _ (e : σ consumerPhase ≡ 7) (r : ℕ) (q : σ foundRecord ≡ suc r) (s : Slot z σ (γ .shape) r (σ foundPosition)) where
     abbrev i : ℕ
     i = index z σ r (σ foundPosition)
@@ -133,7 +139,7 @@ module _ (z : Sizes) (σ : Reader) (γ : Ghost) (good : Good z σ γ) where
         marked
         (take-item (z .B) (view σ γ) (good .model) _ _ _ seen)
         formed
-        refl
+        (tells-kept σ (after σ (state r i := 2 ∷ clearConsumer ∷ [])) (step 0) (item (σ itemNumber) (σ itemValue)) (γ .history) _ (not-yet σ e (omega arith)) refl refl)
         (omega arith)
 
     takes-front : σ foundPosition ≡ σ headPosition → suc (σ headPosition) ≤ z .M
@@ -152,23 +158,61 @@ module _ (z : Sizes) (σ : Reader) (γ : Ghost) (good : Good z σ γ) where
         marked
         (take-front (z .B) (view σ γ) (good .model) _ _ _ seen f)
         formed
-        refl
+        (tells-kept σ (after σ (state r i := 2 ∷ headPosition := suc (σ headPosition) ∷ clearConsumer ∷ [])) (step 0) (item (σ itemNumber) (σ itemValue)) (γ .history) _ (not-yet σ e (omega arith)) refl refl)
         (omega arith)
+
+    -- the record's last item is taken: in what is kept it is given here, and the next dequeue opened
+    drains : σ foundPosition ≡ σ headPosition → suc (σ headPosition) ≤ z .M → suc (σ headPosition) ≡ z .B * γ .shape .lo → γ .shape .lo < γ .shape .tp
+        → Goes z σ γ (step 0) going (state r i := 2 ∷ headPosition := suc (σ headPosition) ∷ foundRecord := 0 ∷ foundPosition := 0 ∷ consumerPhase := 8 ∷ [])
+    drains f room at-end more =
+        consumer-light z σ γ good going ws (override (γ .entry) (σ foundPosition) gone)
+        (dequeueStarted ∷ gaveItem (σ itemNumber) (σ itemValue) ∷ γ .history)
+        (refl, (of-sort z number (suc (σ headPosition)) room, (refl, (refl, (refl, tt)))))
+        ((s .fits, s .here .below, omega arith), (omega arith, (omega arith, (omega arith, (omega arith, tt)))))
+        (record { parts = λ y k. refl; entries = light })
+        (λ u k. refl)
+        (refl, refl)
+        (consumer-row-of z (λ k. after σ ws (consumer k)) 8 refl (omega arith)
+        (record { cursor-record = words .cursor-record; cursor-position = words .cursor-position; found-record = refl; found-position = refl; item-number = words .item-number; item-value = tt; spare = words .spare }))
+        (m .cursor, tt)
+        marked
+        (drain-front (z .B) (view σ γ) (good .model) _ _ _ seen f at-end more)
+        (dequeue-may-start (gaveItem (σ itemNumber) (σ itemValue) ∷ γ .history) formed refl)
+        (record {
+          pending = λ x. Late.marked;
+          grown = ap (λ (b : Bool). cond b (withdrawn (γ .history)) (γ .history)) (sym (not-yet σ e (omega arith)));
+        })
+        (omega arith)
+      where
+        ws : List Write
+        ws = state r i := 2 ∷ headPosition := suc (σ headPosition) ∷ foundRecord := 0 ∷ foundPosition := 0 ∷ consumerPhase := 8 ∷ []
+
+        words : ConsumerWords z (λ j. σ (consumer j)) itemSorts
+        words = consumer-words z σ γ good 7 e
 
   pub mark-handled-fine : σ consumerPhase ≡ 7 → Fine z σ γ (step 0) (markHandled z σ)
   unfolding markHandled
   mark-handled-fine e =
       at-found found
       (λ r i. cond (eqb (σ foundPosition) (σ headPosition))
-      (upTo (z .M) (suc (σ headPosition))
-      (reply (item (σ itemNumber) (σ itemValue)) (state r i := 2 ∷ headPosition := suc (σ headPosition) ∷ clearConsumer ∷ [])))
+      (markFront z σ r i)
       (reply (item (σ itemNumber) (σ itemValue)) (state r i := 2 ∷ clearConsumer ∷ [])))
       (λ r q s.
       by-cond (Fine z σ γ (step 0)) (eqb (σ foundPosition) (σ headPosition)) _ _
       (λ b.
       let f : σ foundPosition ≡ σ headPosition = eqb-true (σ foundPosition) (σ headPosition) b in
       let room : suc (σ headPosition) ≤ z .M = omega (arith, found .1, tail-fits z σ γ good) in
-      by-up-to (Fine z σ γ (step 0)) (z .M) (suc (σ headPosition)) _ room (takes-front e r q s f room))
+      by-up-to (Fine z σ γ (step 0)) (z .M) (suc (σ headPosition)) _ room
+      (by-need (Fine z σ γ (step 0)) (σ headRecord) _ (λ x. omega (arith, m .head-is))
+      (λ h w.
+      by-cond (Fine z σ γ (step 0)) (drainedAt z σ h (suc (σ headPosition))) _ _
+      (λ d.
+      let is = both (atEnd z σ h (suc (σ headPosition))) (not (eqb (σ tailRecord) (suc h))) d in
+      let linked : σ (used h) ≡ 2 = rw w at (head-linked z σ γ good) in
+      let placed : σ (place h) ≡ γ .shape .lo = ap (placeOf (placesOf σ)) (sym w) ∙ head-placed z σ γ good in
+      let other : σ (place h) ≢ γ .shape .tp = not-tail-record z σ γ good h linked (eqb-false (σ tailRecord) (suc h) (not-true (eqb (σ tailRecord) (suc h)) (is .1))) in
+      drains e r q s f room (eqb-true (suc (σ headPosition)) (z .B * σ (place h)) (is .0) ∙ ap (λ (x : ℕ). z .B * x) placed) (omega (arith, m .head-tail)))
+      (λ d. takes-front e r q s f room))))
       (λ b. takes-item e r q s))
     where
       found : Found (z .B) (view σ γ) (σ foundPosition) (placeOf (placesOf σ) (σ foundRecord))

@@ -10,17 +10,20 @@ use borrow.Author.Tests.{eqb-true, eqb-false}
 use Rattle.rules.specs.Sizes.{Sizes}
 use Rattle.rules.specs.Cell.{Reader, _:=_, headRecord, headPosition, consumer, consumerPhase, cursorRecord, cursorPosition, foundRecord, foundPosition, place, state}
 use Rattle.rules.specs.Range.{rescanSorts}
-use Rattle.rules.specs.Rule.{upTo, atEnd, index, cross}
+use Rattle.rules.specs.Rule.{goes, upTo, atEnd, index, cross}
 use Rattle.rules.specs.Consumer.{rescanned, rescan}
 use Rattle.rules.specs.Request.{step}
 use Rattle.model.specs.State
 use Rattle.model.specs.State.{put}
+use Rattle.model.specs.Invariant.{Invariant}
+use Rattle.model.specs.Moves.{withConsumer}
 use Rattle.model.specs.Dequeues.{consumer-clause}
-use Rattle.model.specs.Scanning.{rescan-cross, rescan-again, rescan-front, rescan-pass, rescan-done}
+use Rattle.model.specs.Scanning.{rescan-cross, rescan-cross-done, rescan-again, rescan-front, rescan-pass, rescan-done}
 use Rattle.model.specs.Bounds.{rescanning-crosses, rescanning-before-found, rescanning-inside, rescanning-below-tail}
 use Rattle.memory.specs.Memory.{Memory}
 use Rattle.simulation.specs.View.{Ghost, placesOf, placeOf, view}
 use Rattle.simulation.specs.Good.{Good, Fine, by-need, by-cond, by-up-to}
+use Rattle.simulation.specs.Told.{not-yet}
 use Rattle.simulation.specs.Rows.{ConsumerWords}
 use Rattle.simulation.specs.Entries.{by-inside, slot-state}
 use Rattle.simulation.specs.ConsumerCursor.{head-most, position-most, linked-most, some-record, stays, placed, linked, at-end, entry-slot}
@@ -52,6 +55,19 @@ module _ (z : Sizes) (σ : Reader) (γ : Ghost) (good : Good z σ γ) (e : σ co
   room : suc (σ cursorPosition) ≤ z .M
   room = omega (arith, rescanning-below-tail (z .B) (view σ γ) (good .model) _ _ _ _ seen, tail-fits z σ γ good)
 
+  -- The cursor comes to found.
+  comes-to-found : Invariant (z .B) (withConsumer (view σ γ) (State.found (σ foundPosition) g))
+      → Fine z σ γ (step 0) (goes (cursorRecord := 0 ∷ cursorPosition := 0 ∷ consumerPhase := 6 ∷ []))
+  comes-to-found model =
+      consumer-goes z σ γ good (not-yet σ e (omega arith)) (cursorRecord := 0 ∷ cursorPosition := 0 ∷ consumerPhase := 6 ∷ []) 6 _
+      ((refl, omega arith), ((refl, omega arith), ((refl, omega arith), tt)))
+      refl
+      (omega arith)
+      (record { cursor-record = refl; cursor-position = refl; found-record = words .found-record; found-position = words .found-position; item-number = words .item-number; item-value = words .item-value; spare = words .spare })
+      (tt, m .found)
+      refl
+      model
+
   -- It crosses, when the cursor stands at a record's end.
   crosses : (r : ℕ) (q : σ cursorRecord ≡ suc r) → σ cursorPosition ≡ z .B * σ (place r)
       → Fine z σ γ (step 0)
@@ -64,17 +80,21 @@ module _ (z : Sizes) (σ : Reader) (γ : Ghost) (good : Good z σ γ) (e : σ co
       (omega (arith, room))
       (λ n is u w.
       by-cond (Fine z σ γ (step 0)) (eqb (z .B * σ (place r)) (σ foundPosition)) _ _
-      (λ b. absurd (omega (arith, before-found, eqb-true (z .B * σ (place r)) (σ foundPosition) b)))
       (λ b.
-      consumer-goes z σ γ good (cursorRecord := suc n ∷ cursorPosition := z .B * σ (place r) ∷ []) 5 _
+      comes-to-found
+      (rescan-cross-done (z .B) (view σ γ) (good .model) _ _ _ _ (σ (place r)) seen end′ (omega (arith, placed z σ γ good r q)) (λ p l h. absurd (omega arith))
+      (eqb-true (z .B * σ (place r)) (σ foundPosition) b)))
+      (λ b.
+      consumer-goes z σ γ good (not-yet σ e (omega arith)) (cursorRecord := suc n ∷ cursorPosition := z .B * σ (place r) ∷ []) 5 _
       ((refl, omega arith), ((refl, omega arith), tt))
       e
       (omega arith)
       (record { cursor-record = linked-most z σ γ good n u; cursor-position = omega (arith, room); found-record = words .found-record; found-position = words .found-position; item-number = words .item-number; item-value = words .item-value; spare = words .spare })
       (u, m .found)
       (stays z σ γ good 5 e (z .B * σ (place r)) (σ (place n)) (σ foundPosition) _ _
-      ∙ ap₂ (λ (c j : ℕ). State.rescanning c j (σ foundPosition) g) (sym end) (w ∙ ap suc (sym (placed z σ γ good r q))))
-      (rescan-cross (z .B) (view σ γ) (good .model) _ _ _ _ seen end′)))
+      ∙ ap (λ (j : ℕ). State.rescanning (z .B * σ (place r)) j (σ foundPosition) g) w)
+      (rescan-cross (z .B) (view σ γ) (good .model) _ _ _ _ (σ (place r)) seen end′ (omega (arith, placed z σ γ good r q)) (λ p l h. absurd (omega arith))
+      (eqb-false (z .B * σ (place r)) (σ foundPosition) b))))
 
   -- A set entry becomes found and the cursor returns to the head.
   finds : (r : ℕ) (q : σ cursorRecord ≡ suc r) → σ cursorPosition ≢ z .B * k → γ .entry (σ cursorPosition) ≡ put
@@ -85,7 +105,7 @@ module _ (z : Sizes) (σ : Reader) (γ : Ghost) (good : Good z σ γ) (e : σ co
   finds r q n p =
       by-cond (Fine z σ γ (step 0)) (eqb (σ headPosition) (σ cursorPosition)) _ _
       (λ b.
-      consumer-goes z σ γ good
+      consumer-goes z σ γ good (not-yet σ e (omega arith))
       (foundRecord := suc r ∷ foundPosition := σ cursorPosition ∷ cursorRecord := 0 ∷ cursorPosition := 0 ∷ consumerPhase := 6 ∷ [])
       6
       _
@@ -97,7 +117,7 @@ module _ (z : Sizes) (σ : Reader) (γ : Ghost) (good : Good z σ γ) (e : σ co
       (ap (State.found (σ cursorPosition)) (sym (placed z σ γ good r q)))
       (rescan-front (z .B) (view σ γ) (good .model) _ _ _ _ seen n p (sym (eqb-true (σ headPosition) (σ cursorPosition) b))))
       (λ b.
-      consumer-goes z σ γ good
+      consumer-goes z σ γ good (not-yet σ e (omega arith))
       (foundRecord := suc r ∷ foundPosition := σ cursorPosition ∷ cursorRecord := σ headRecord ∷ cursorPosition := σ headPosition ∷ [])
       5
       _
@@ -119,16 +139,10 @@ module _ (z : Sizes) (σ : Reader) (γ : Ghost) (good : Good z σ γ) (e : σ co
       by-up-to (Fine z σ γ (step 0)) (z .M) (suc (σ cursorPosition)) _ room
       (by-cond (Fine z σ γ (step 0)) (eqb (suc (σ cursorPosition)) (σ foundPosition)) _ _
       (λ b.
-      consumer-goes z σ γ good (cursorRecord := 0 ∷ cursorPosition := 0 ∷ consumerPhase := 6 ∷ []) 6 _
-      ((refl, omega arith), ((refl, omega arith), ((refl, omega arith), tt)))
-      refl
-      (omega arith)
-      (record { cursor-record = refl; cursor-position = refl; found-record = words .found-record; found-position = words .found-position; item-number = words .item-number; item-value = words .item-value; spare = words .spare })
-      (tt, m .found)
-      refl
+      comes-to-found
       (rescan-done (z .B) (view σ γ) (good .model) _ _ _ _ seen n p (eqb-true (suc (σ cursorPosition)) (σ foundPosition) b)))
       (λ b.
-      consumer-goes z σ γ good (cursorPosition := suc (σ cursorPosition) ∷ []) 5 _ ((refl, omega arith), tt) e (omega arith)
+      consumer-goes z σ γ good (not-yet σ e (omega arith)) (cursorPosition := suc (σ cursorPosition) ∷ []) 5 _ ((refl, omega arith), tt) e (omega arith)
       (record { cursor-record = words .cursor-record; cursor-position = room; found-record = words .found-record; found-position = words .found-position; item-number = words .item-number; item-value = words .item-value; spare = words .spare })
       (m .cursor, m .found)
       (stays z σ γ good 5 e (suc (σ cursorPosition)) _ _ _ _)

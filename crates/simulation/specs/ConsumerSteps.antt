@@ -2,7 +2,7 @@
 use mathlib.Core.Path.{_≡_, refl, ap, sym, _∙_}
 use mathlib.Core.Logic.{_≢_}
 use mathlib.Core.Bool.{true, false}
-use mathlib.Core.List.{List, [], _∷_, _++_}
+use mathlib.Core.List.{List, [], _∷_}
 use Prim.Native.Nat.{ℕ, suc, _+_, _*_, _≤_, _<_}
 use native.Mathlib.Omega.{arith}
 use lib.Dec.{eqb}
@@ -15,11 +15,10 @@ use Rattle.criterion.specs.Growth.{dequeue-may-be-empty}
 use Rattle.rules.specs.Sizes.{Sizes}
 use Rattle.rules.specs.Cell.{Reader, Write, clearConsumer, consumer, consumerPhase, cursorRecord, cursorPosition, foundRecord, foundPosition, itemNumber, itemValue, tail, tailRecord, headRecord, place, next, used, ofConsumer}
 use Rattle.rules.specs.Update.{after, Own}
-use Rattle.rules.specs.Range.{lastConsumerPhase, number, consumerSorts, consumerInRange}
+use Rattle.rules.specs.Range.{number, consumerSorts, consumerInRange}
 use Rattle.rules.specs.Rule.{Effect, Reply, going, empty, cross}
 use Rattle.rules.specs.Consumer.{byState, endsEmpty}
 use Rattle.rules.specs.Request.{step}
-use Rattle.rules.specs.Play.{replyEvents}
 use Rattle.rules.specs.Readback.{WriteThere}
 use Rattle.rules.specs.InRange.{InSort, writes-keep-range}
 use Rattle.model.specs.State.{Entry, blank, put, gone, Consumer, resting}
@@ -28,7 +27,8 @@ use Rattle.model.specs.Moves.{withConsumer, answerEmpty}
 use Rattle.memory.specs.Memory.{rowOf, Linked}
 use Rattle.memory.specs.Light.{Light, consumer-keeps}
 use Rattle.simulation.specs.View.{Ghost, placesOf, placeOf, consumerAt, consumerOf, view, codeOf, AgreesWith}
-use Rattle.simulation.specs.Good.{Good, Goes, Fine, places-stay, by-need, by-up-to}
+use Rattle.simulation.specs.Good.{Good, Goes, Fine, untold, Tells, places-stay, by-need, by-up-to}
+use Rattle.simulation.specs.Told.{tells-kept, not-yet}
 use Rattle.simulation.specs.Rows.{has-sort, ConsumerWords, consumer-row-has, consumer-row-of}
 use Rattle.simulation.specs.OwnWords.{consumer-own}
 
@@ -117,27 +117,27 @@ module _ (z : Sizes) (σ : Reader) (γ : Ghost) (good : Good z σ γ) where
       (record { cursor-record = none 1; cursor-position = none 2; found-record = none 3; found-position = none 4; item-number = none 5; item-value = none 6; spare = none 7 })
 
   -- The dequeue answers empty.
-  pub answers-empty : isBusy (view σ γ .consumer) ≡ true → Invariant (z .B) (answerEmpty (view σ γ)) → Fine z σ γ (step 0) endsEmpty
-  answers-empty busy model =
-      consumer-own z σ γ good (step 0) refl empty (clearConsumer ∷ []) resting (gaveEmpty ∷ γ .history) ((refl, omega arith), tt)
+  pub answers-empty : untold σ ≡ false → isBusy (view σ γ .consumer) ≡ true → Invariant (z .B) (answerEmpty (view σ γ)) → Fine z σ γ (step 0) endsEmpty
+  answers-empty early busy model =
+      consumer-own z σ γ good (clearConsumer ∷ []) ((refl, omega arith), tt) (step 0) refl empty resting (gaveEmpty ∷ γ .history)
       (resting-in-range (after σ (clearConsumer ∷ [])) (λ k. refl))
       (tt, tt)
       refl
       model
       (dequeue-may-be-empty (γ .history) (good .formed) (good .model .calls .of-consumer ∙ busy))
-      refl
+      (tells-kept σ (after σ (clearConsumer ∷ [])) (step 0) empty (γ .history) (gaveEmpty ∷ γ .history) early refl refl)
 
   -- A step of the consumer that writes its own words alone, and goes on to phase p.
-  pub consumer-goes : (ws : List Write) (p : ℕ) (x : Consumer) → All (Own ofConsumer) ws → after σ ws consumerPhase ≡ p → p ≤ lastConsumerPhase
+  pub consumer-goes : untold σ ≡ false → (ws : List Write) (p : ℕ) (x : Consumer) → All (Own ofConsumer) ws → after σ ws consumerPhase ≡ p → p < 8
       → ConsumerWords z (λ k. after σ ws (consumer k)) (getD consumerSorts p [])
       → Linked σ (after σ ws cursorRecord) × Linked σ (after σ ws foundRecord)
       → consumerOf (after σ ws) ≡ x
       → Invariant (z .B) (withConsumer (view σ γ) x)
       → Goes z σ γ (step 0) going ws
-  consumer-goes ws p x own phase l row linked seen model =
-      consumer-own z σ γ good (step 0) refl going ws x (γ .history) own (consumer-row-of z (λ k. after σ ws (consumer k)) p phase l row) linked seen model
+  consumer-goes early ws p x own phase l row linked seen model =
+      consumer-own z σ γ good ws own (step 0) refl going x (γ .history) (consumer-row-of z (λ k. after σ ws (consumer k)) p phase (omega arith) row) linked seen model
       (good .formed)
-      refl
+      (tells-kept σ (after σ ws) (step 0) going (γ .history) (γ .history) early (not-yet (after σ ws) phase l) refl)
 
   -- A step of the consumer that writes none of the records' words outside the entries, nor the head record.
   pub consumer-light : (r : Reply) (ws : List Write) (entries : ℕ → Entry) (h : History)
@@ -152,10 +152,10 @@ module _ (z : Sizes) (σ : Reader) (γ : Ghost) (good : Good z σ γ) where
       → AgreesWith (z .B) (after σ ws) γ′
       → Invariant (z .B) (view (after σ ws) γ′)
       → wellFormed h ≡ true
-      → h ≡ replyEvents (step 0) (γ .history) r ++ γ .history
+      → Tells σ (after σ ws) (step 0) r (γ .history) h
       → σ tail ≤ after σ ws tail
       → Goes z σ γ (step 0) r ws
-  consumer-light r ws entries h in-sort there light rows ends in-row linked agrees model formed grown grows =
+  consumer-light r ws entries h in-sort there light rows ends in-row linked agrees model formed tells grows =
       record {
         there = there;
         next = record { shape = γ .shape; entry = entries; owner = γ .owner; content = γ .content; history = h };
@@ -167,7 +167,8 @@ module _ (z : Sizes) (σ : Reader) (γ : Ghost) (good : Good z σ γ) where
               agrees = agrees;
               model = model;
               formed = formed;
+              pending = tells .pending;
             };
-        grown = grown;
+        grown = tells .grown;
         moved = places-stay z 0 σ (γ .shape) (γ .shape) ws in-sort (λ x. light .parts x 0) grows (omega arith) (omega arith);
       }

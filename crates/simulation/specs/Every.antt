@@ -22,6 +22,7 @@ use Rattle.simulation.specs.ProducerWalk.{load-tail-fine, look-next-fine
 use Rattle.simulation.specs.ProducerClaim.{claim-record-fine, claim-ahead-fine}
 use Rattle.simulation.specs.ProducerLink.{link-claimed-fine, link-ahead-fine}
 use Rattle.simulation.specs.ProducerEntry.{take-position-fine, write-entry-fine, set-entry-fine}
+use Rattle.simulation.specs.ConsumerRetire.{retire-head-fine}
 use Rattle.simulation.specs.ConsumerFront.{front-fine, read-tail-fine}
 use Rattle.simulation.specs.ConsumerScan.{scan-fine, read-entry-fine}
 use Rattle.simulation.specs.ConsumerRescan.{rescan-fine}
@@ -59,7 +60,8 @@ module _ (z : Sizes) (σ : Reader) (γ : Ghost) (good : Good z σ γ) where
       by-phase (suc (suc (suc (suc (suc zero))))) e = rescan-fine z σ γ good e
       by-phase (suc (suc (suc (suc (suc (suc zero)))))) e = read-item-fine z σ γ good e
       by-phase (suc (suc (suc (suc (suc (suc (suc zero))))))) e = mark-handled-fine z σ γ good e
-      by-phase (suc (suc (suc (suc (suc (suc (suc (suc p)))))))) e = idle-fine (step 0)
+      by-phase (suc (suc (suc (suc (suc (suc (suc (suc zero)))))))) e = retire-head-fine z σ γ good e
+      by-phase (suc (suc (suc (suc (suc (suc (suc (suc (suc p))))))))) e = idle-fine (step 0)
 
   producer-fine : (t : ℕ) → (1 ≤ t) × (t ≤ z .P) → (c : ℕ) → LooseChoice z σ c → Fine z σ γ (step t) (producerStep c z σ t)
   unfolding producerStep

@@ -1,15 +1,21 @@
 -- What holds of a store that only the engine has written: its words are in range, its records are in order, and the position
--- machine that it stands for keeps its invariant.
+-- machine that it stands for keeps its invariant over the history that is kept.
+--
+-- Kept and told. In phase 8 an item is marked and not yet told. The kept history has its end, and a dequeue opened there; what was told
+-- has neither. In every other phase they are the same.
 use mathlib.Core.Path.{_≡_, refl, sym}
 use mathlib.Core.Logic.{_≢_}
 use mathlib.Core.Bool.{Bool, true, false, cond}
 use mathlib.Core.List.{List, _++_}
 use Prim.Native.Nat.{ℕ, zero, suc, _≤_}
+use lib.Dec.{eqb}
 use borrow.Author.Tests.{le-leb}
 use Rattle.history.specs.Lists.{All}
+use Rattle.history.specs.Event.{History}
 use Rattle.history.specs.Form.{wellFormed}
+use Rattle.criterion.specs.Late.{Late, withdrawn}
 use Rattle.rules.specs.Sizes.{Sizes, sizesInRange}
-use Rattle.rules.specs.Cell.{Cell, Reader, Write, tail, place}
+use Rattle.rules.specs.Cell.{Cell, Reader, Write, tail, consumerPhase, itemNumber, itemValue, place}
 use Rattle.rules.specs.Update.{areaOf, after}
 use Rattle.rules.specs.Rule.{Effect, refuse, reply, need, upTo}
 use Rattle.rules.specs.Request.{Request}
@@ -20,6 +26,18 @@ use Rattle.model.specs.Invariant.{Invariant}
 use Rattle.memory.specs.Memory.{ChainShape, Memory}
 use Rattle.simulation.specs.View.{Ghost, view, AgreesWith}
 
+-- an item is marked and not yet told
+abbrev pub untold : Reader → Bool
+untold σ = eqb (σ consumerPhase) 8
+
+-- What was told, of the kept history g.
+abbrev pub told : Reader → History → History
+told σ g = cond (untold σ) (withdrawn g) g
+
+-- the item that is not yet told is the last one given in the kept history, and since then there were enqueue events alone
+abbrev pub Pending : Reader → History → Type 0
+Pending σ g = untold σ ≡ true → Late (σ itemNumber) (σ itemValue) g (withdrawn g)
+
 pub record Good (z : Sizes) (σ : Reader) (γ : Ghost) : Type 0 where
   pub sizes : sizesInRange z ≡ true
   pub range : InRange z σ
@@ -27,6 +45,7 @@ pub record Good (z : Sizes) (σ : Reader) (γ : Ghost) : Type 0 where
   pub agrees : AgreesWith (z .B) σ γ
   pub model : Invariant (z .B) (view σ γ)
   pub formed : wellFormed (γ .history) ≡ true
+  pub pending : Pending σ (γ .history)
 
 -- What a call of thread t moves: other threads' words stay; tail, the place of the tail record and the last place only grow; a
 -- record with a place up to the old last one had it before.
@@ -43,13 +62,17 @@ pub places-stay : (z : Sizes) (t : ℕ) (σ : Reader) (g g′ : ChainShape) (ws 
 places-stay z t σ g g′ ws in-sort places a b c =
     record { others = others-untouched z t σ ws in-sort; tail-grows = a; shifts-on = b; last-grows = c; had-place = λ r l h. sym (places r) }
 
--- An answer to request q that goes on so: a refusal is none of 3 and 9, and a reply leaves such a store, with the history that
--- the reply makes.
+-- What a call says: what was told grows by the events of its reply.
+pub record Tells (σ σ′ : Reader) (q : Request) (r : Rattle.rules.specs.Rule.Reply) (g g′ : History) : Type 0 where
+  pub pending : Pending σ′ g′
+  pub grown : told σ′ g′ ≡ replyEvents q (told σ g) r ++ told σ g
+
+-- An answer to request q that goes on so: a refusal is none of 3 and 9, and a reply leaves such a store, with what it tells.
 pub record Goes (z : Sizes) (σ : Reader) (γ : Ghost) (q : Request) (r : Rattle.rules.specs.Rule.Reply) (ws : List Write) : Type 0 where
   pub there : All (WriteThere z) ws
   pub next : Ghost
   pub good : Good z (after σ ws) next
-  pub grown : next .history ≡ replyEvents q (γ .history) r ++ γ .history
+  pub grown : told (after σ ws) (next .history) ≡ replyEvents q (told σ (γ .history)) r ++ told σ (γ .history)
   pub moved : Moved (threadOf q) σ (after σ ws) (γ .shape) (next .shape)
 
 abbrev pub Fine : (z : Sizes) (σ : Reader) (γ : Ghost) → Request → Effect → Type 0

@@ -1,5 +1,6 @@
 pub mod View
 pub mod Good
+pub mod Told
 pub mod Rows
 pub mod Limits
 pub mod ProducerSteps
@@ -12,6 +13,7 @@ pub mod ProducerClaim
 pub mod ProducerLink
 pub mod ProducerEntry
 pub mod ConsumerSteps
+pub mod ConsumerRetire
 pub mod ConsumerFront
 pub mod ConsumerCursor
 pub mod ConsumerScan

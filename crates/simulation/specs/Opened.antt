@@ -1,7 +1,7 @@
 -- An opened store, whatever the words held before.
 use mathlib.Core.Path.{_≡_, refl, ap, sym, _∙_, fun-ext}
 use mathlib.Core.Logic.{⊎-elim}
-use mathlib.Core.Bool.{Bool, true, false, cond}
+use mathlib.Core.Bool.{Bool, true, false, cond, false≢true}
 use mathlib.Core.List.{List, [], _++_}
 use Prim.Native.Nat.{ℕ, zero, suc, _+_, _≤_, _<_}
 use native.Mathlib.Omega.{arith}
@@ -175,4 +175,5 @@ module _ (z : Sizes) (sizes : sizesInRange z ≡ true) where
         agrees = record { states = λ k i a b s. refl; numbers = λ k i a b s. refl; values = λ k i a b s. refl; fresh = λ p h. refl };
         model = initial-keeps (z .B);
         formed = refl;
+        pending = λ e. absurd (false≢true e);
       }

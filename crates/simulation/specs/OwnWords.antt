@@ -24,7 +24,8 @@ use Rattle.memory.specs.Memory.{ThreadOk, rowOf, Linked}
 use Rattle.memory.specs.OtherThreads.{others-kept}
 use Rattle.memory.specs.Light.{consumer-keeps}
 use Rattle.simulation.specs.View.{Ghost, placesOf, placeOf, producerOf, producersOf, consumerFrom, consumerOf, view, Agrees, cellOf}
-use Rattle.simulation.specs.Good.{Good, Goes, Moved, places-stay}
+use Rattle.simulation.specs.Good.{Good, Goes, Moved, Pending, Tells, places-stay}
+use Rattle.simulation.specs.Told.{ToEnqueue}
 use Rattle.simulation.specs.RecordSteps.{seen-as}
 use Rattle.simulation.specs.ProducerSteps.{producers-after, producer-goes}
 
@@ -97,7 +98,7 @@ module _ (z : Sizes) (σ : Reader) (γ : Ghost) (good : Good z σ γ) where
   cells-same σ′ e = fun-ext (λ r. fun-ext (λ i. fun-ext (λ k. sym (e r i k))))
 
   -- A step of producer t that writes its own words alone.
-  pub producer-own : (t : ℕ) → (1 ≤ t) × (t ≤ z .P) → (r : Reply) (ws : List Write) (x : Producer) (h : History)
+  pub producer-own : (t : ℕ) → (1 ≤ t) × (t ≤ z .P) → (r : Reply) → ToEnqueue r → (ws : List Write) (x : Producer) (h : History)
       → All (Own (ofProducer t)) ws
       → producerInRange z (after σ ws) t ≡ true
       → ThreadOk (z .N) (γ .shape .lo) σ (rowOf (after σ ws) t)
@@ -107,8 +108,8 @@ module _ (z : Sizes) (σ : Reader) (γ : Ghost) (good : Good z σ γ) where
       → wellFormed h ≡ true
       → h ≡ replyEvents (step t) (γ .history) r ++ γ .history
       → Goes z σ γ (step t) r ws
-  producer-own t a r ws x h own in-row thread none seen model formed grown =
-      producer-goes z σ γ good t a r ws (γ .shape .tp) (γ .entry) (γ .owner) (γ .content) h in-sort
+  producer-own t a r to ws x h own in-row thread none seen model formed grown =
+      producer-goes z σ γ good t a r to ws (γ .shape .tp) (γ .entry) (γ .owner) (γ .content) h in-sort
       (own-there z t (ofProducer t) (of-producer z t a) ws own)
       (record { parts = λ y k. same (part y k) refl; entries = λ y n i k. same (entry y i k) refl })
       (same headRecord refl, same cursorRecord refl, same foundRecord refl)
@@ -135,49 +136,57 @@ module _ (z : Sizes) (σ : Reader) (γ : Ghost) (good : Good z σ γ) where
       in-sort = own-in-sort z t (ofProducer t) (of-producer z t a) ws own
 
   -- A step of the consumer that writes its own words alone.
-  pub consumer-own : (q : Request) → threadOf q ≡ 0 → (r : Reply) (ws : List Write) (x : Consumer) (h : History)
-      → All (Own ofConsumer) ws
-      → consumerInRange z (after σ ws) ≡ true
-      → Linked σ (after σ ws cursorRecord) × Linked σ (after σ ws foundRecord)
-      → consumerOf (after σ ws) ≡ x
-      → Invariant (z .B) (withHistory (withConsumer (view σ γ) x) h)
-      → wellFormed h ≡ true
-      → h ≡ replyEvents q (γ .history) r ++ γ .history
-      → Goes z σ γ q r ws
-  consumer-own q of r ws x h own in-row linked seen model formed grown =
-      record {
-        there = own-there z 0 ofConsumer (a-consumer z) ws own;
-        next = later γ h;
-        good =
-            record {
-              sizes = good .sizes;
-              range = writes-keep-range z 0 σ ws in-sort (good .range) (λ e. in-row) (λ l. absurd (omega arith));
-              memory =
-                  consumer-keeps z σ σ′ (γ .shape) (good .memory)
-                  (record { parts = λ y k. same (part y k) refl; entries = λ y n i k. same (entry y i k) refl })
-                  (λ u k. same (producer u k) refl)
-                  (same tailRecord refl)
-                  (same headRecord refl)
-                  (linked .0)
-                  (linked .1);
-              agrees = subst (Agrees (z .B) (γ .shape .lo) (γ .shape .hi) (γ .shape .at) (γ .entry) (γ .content)) (cells-same σ′ (λ y i k. same (entry y i k) refl)) (good .agrees);
-              model =
-                  seen-as model (sym (same tail refl)) (sym (same headPosition refl)) (sym (same starts refl))
-                  (fun-ext (λ u. ap₂ producerOf (sym (places-same σ′ (λ y k. same (part y k) refl))) (fun-ext (λ k. sym (same (producer u k) refl)))))
-                  (sym seen);
-              formed = formed;
-            };
-        grown = grown;
-        moved =
-            subst⁻¹ (λ (t : ℕ). Moved t σ σ′ (γ .shape) (γ .shape)) of
-            (places-stay z 0 σ (γ .shape) (γ .shape) ws in-sort (λ x. same (place x) refl) (omega (arith, same tail refl)) (omega arith) (omega arith));
-      }
-    where
-      σ′ : Reader
-      σ′ = after σ ws
+  module _ (ws : List Write) (own : All (Own ofConsumer) ws) where
+    same : (c : Cell) → OtherKind ofConsumer (areaOf c) → after σ ws c ≡ σ c
+    same = own-leaves ofConsumer σ ws own
 
-      same : (c : Cell) → OtherKind ofConsumer (areaOf c) → σ′ c ≡ σ c
-      same = own-leaves ofConsumer σ ws own
+    in-sort : All (InSort z 0) ws
+    in-sort = own-in-sort z 0 ofConsumer (a-consumer z) ws own
 
-      in-sort : All (InSort z 0) ws
-      in-sort = own-in-sort z 0 ofConsumer (a-consumer z) ws own
+    pub consumer-keeps-good : (x : Consumer) (h : History)
+        → consumerInRange z (after σ ws) ≡ true
+        → Linked σ (after σ ws cursorRecord) × Linked σ (after σ ws foundRecord)
+        → consumerOf (after σ ws) ≡ x
+        → Invariant (z .B) (withHistory (withConsumer (view σ γ) x) h)
+        → wellFormed h ≡ true
+        → Pending (after σ ws) h
+        → Good z (after σ ws) (later γ h)
+    consumer-keeps-good x h in-row linked seen model formed pending =
+        record {
+          sizes = good .sizes;
+          range = writes-keep-range z 0 σ ws in-sort (good .range) (λ e. in-row) (λ l. absurd (omega arith));
+          memory =
+              consumer-keeps z σ (after σ ws) (γ .shape) (good .memory)
+              (record { parts = λ y k. same (part y k) refl; entries = λ y n i k. same (entry y i k) refl })
+              (λ u k. same (producer u k) refl)
+              (same tailRecord refl)
+              (same headRecord refl)
+              (linked .0)
+              (linked .1);
+          agrees = subst (Agrees (z .B) (γ .shape .lo) (γ .shape .hi) (γ .shape .at) (γ .entry) (γ .content)) (cells-same (after σ ws) (λ y i k. same (entry y i k) refl)) (good .agrees);
+          model =
+              seen-as model (sym (same tail refl)) (sym (same headPosition refl)) (sym (same starts refl))
+              (fun-ext (λ u. ap₂ producerOf (sym (places-same (after σ ws) (λ y k. same (part y k) refl))) (fun-ext (λ k. sym (same (producer u k) refl)))))
+              (sym seen);
+          formed = formed;
+          pending = pending;
+        }
+
+    pub consumer-own : (q : Request) → threadOf q ≡ 0 → (r : Reply) (x : Consumer) (h : History)
+        → consumerInRange z (after σ ws) ≡ true
+        → Linked σ (after σ ws cursorRecord) × Linked σ (after σ ws foundRecord)
+        → consumerOf (after σ ws) ≡ x
+        → Invariant (z .B) (withHistory (withConsumer (view σ γ) x) h)
+        → wellFormed h ≡ true
+        → Tells σ (after σ ws) q r (γ .history) h
+        → Goes z σ γ q r ws
+    consumer-own q of r x h in-row linked seen model formed tells =
+        record {
+          there = own-there z 0 ofConsumer (a-consumer z) ws own;
+          next = later γ h;
+          good = consumer-keeps-good x h in-row linked seen model formed (tells .pending);
+          grown = tells .grown;
+          moved =
+              subst⁻¹ (λ (t : ℕ). Moved t σ (after σ ws) (γ .shape) (γ .shape)) of
+              (places-stay z 0 σ (γ .shape) (γ .shape) ws in-sort (λ x. same (place x) refl) (omega (arith, same tail refl)) (omega arith) (omega arith));
+        }

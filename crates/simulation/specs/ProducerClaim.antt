@@ -43,7 +43,7 @@ module _ (z : Sizes) (σ : Reader) (γ : Ghost) (good : Good z σ γ) (t : ℕ) 
       → p′ ≤ lastProducerPhase → ProducerWords z (rowOf (after σ (claimWrites t r p′)) t) (getD producerSorts p′ [])
       → Goes z σ γ (step t) going (claimWrites t r p′)
   claims p p′ r e past fits loose same-seen l row =
-      record-goes z σ γ good t a-producer (step t) going ws γ in-sort
+      record-goes z σ γ good t a-producer (step t) going tt ws γ in-sort
       (fits, ((fits, omega arith), (tt, ((a-producer .0, a-producer .1, omega arith), ((a-producer .0, a-producer .1, omega arith), tt)))))
       (producer-row-of z (rowOf σ′ t) p′ new-phase l row)
       (claim-keeps z σ (γ .shape) m t r p′ a-producer fits loose holds-one)
@@ -113,7 +113,7 @@ module _ (z : Sizes) (σ : Reader) (γ : Ghost) (good : Good z σ γ) (t : ℕ) 
       let row : (k : ℕ) → after σ (clearProducer t ∷ []) (producer t k) ≡ 0 = λ k. rw self refl in
       let seen = seen-at z σ γ good t a-producer 10 e in
       let is = ap callOf seen in
-      producer-own z σ γ good t a-producer ended (clearProducer t ∷ []) idle (enqueueEnded t (σ (call t)) (σ (value t)) ∷ γ .history)
+      producer-own z σ γ good t a-producer ended tt (clearProducer t ∷ []) idle (enqueueEnded t (σ (call t)) (σ (value t)) ∷ γ .history)
       ((refl, omega arith), tt)
       (idle-in-range z (γ .shape .lo) σ (rowOf (after σ (clearProducer t ∷ [])) t) row)
       (idle-thread z (γ .shape .lo) σ (rowOf (after σ (clearProducer t ∷ [])) t) row)

@@ -33,6 +33,7 @@ use Rattle.memory.specs.Memory.{Holdable, ThreadOk, rowOf, held-is}
 use Rattle.memory.specs.OtherThreads.{others-kept}
 use Rattle.simulation.specs.View.{Ghost, placesOf, placeOf, producersOf, consumerFrom, view}
 use Rattle.simulation.specs.Good.{Good, Goes, Fine, by-need, by-cond, by-up-to}
+use Rattle.simulation.specs.Told.{ToEnqueue}
 use Rattle.simulation.specs.Rows.{ProducerWords, of-sort, has-sort, producer-row-of}
 use Rattle.simulation.specs.ProducerSteps.{as-seen, at-twice, producers-after, unclaimed, own-words, seen-at, producer-goes}
 use Rattle.simulation.specs.OwnWords.{of-producer, own-in-sort, own-there, withHistory}
@@ -52,7 +53,7 @@ module _ (z : Sizes) (σ : Reader) (γ : Ghost) (good : Good z σ γ) (t : ℕ) 
   unfolding takePosition
   take-position-fine e =
       by-up-to (Fine z σ γ (step t)) (z .M) (suc (σ tail)) _ room
-      (producer-goes z σ γ good t a-producer going takeWrites (γ .shape .tp) (γ .entry) (override (γ .owner) (σ tail) (σ (call t))) (γ .content) (γ .history)
+      (producer-goes z σ γ good t a-producer going tt takeWrites (γ .shape .tp) (γ .entry) (override (γ .owner) (σ tail) (σ (call t))) (γ .content) (γ .history)
       in-sort
       ((a-producer .0, a-producer .1, omega arith), (omega arith, ((a-producer .0, a-producer .1, omega arith), tt)))
       (record { parts = λ x j. refl; entries = λ x u i j. refl })
@@ -124,7 +125,7 @@ module _ (z : Sizes) (σ : Reader) (γ : Ghost) (good : Good z σ γ) (t : ℕ) 
 
       writes : (h : ℕ) → Slot z σ (γ .shape) h (σ (position t)) → Goes z σ γ (step t) going (writeWrites h (index z σ h (σ (position t))))
       writes h s =
-          producer-goes z σ γ good t a-producer going ws (γ .shape .tp) (γ .entry) (γ .owner) (override (γ .content) (σ (position t)) what) (γ .history)
+          producer-goes z σ γ good t a-producer going tt ws (γ .shape .tp) (γ .entry) (γ .owner) (override (γ .content) (σ (position t)) what) (γ .history)
           in-sort
           ((s .fits, s .here .below, omega arith), ((s .fits, s .here .below, omega arith), ((a-producer .0, a-producer .1, omega arith), tt)))
           (record { parts = λ x j. refl; entries = λ x n b j. rw (other-record σ h (s .linked) x n, and-false (eqb (index z σ h (σ (position t))) b), and-false (eqb 2 j), and-false (eqb 1 j)) refl })
@@ -177,7 +178,7 @@ module _ (z : Sizes) (σ : Reader) (γ : Ghost) (good : Good z σ γ) (t : ℕ) 
     setting-words = own-words z σ γ good t a-producer 9 e
 
     -- the rest of the step, of t's own words
-    sets : (rest : List Write) (r : Reply) (x : Producer) (H : History) → All (Own (ofProducer t)) rest
+    sets : (rest : List Write) (r : Reply) → ToEnqueue r → (x : Producer) (H : History) → All (Own (ofProducer t)) rest
         → producerInRange z (after σ (state h i := 1 ∷ rest)) t ≡ true
         → ThreadOk (z .N) (γ .shape .lo) σ (rowOf (after σ (state h i := 1 ∷ rest)) t)
         → rowOf (after σ (state h i := 1 ∷ rest)) t 5 ≡ 0
@@ -187,8 +188,8 @@ module _ (z : Sizes) (σ : Reader) (γ : Ghost) (good : Good z σ γ) (t : ℕ) 
         → H ≡ replyEvents (step t) (γ .history) r ++ γ .history
         → Goes z σ γ (step t) r (state h i := 1 ∷ rest)
     unfolding i
-    sets rest r x H own in-row thread none seen model formed grown =
-        producer-goes z σ γ good t a-producer r ws (γ .shape .tp) (override (γ .entry) (σ (position t)) put) (γ .owner) (γ .content) H
+    sets rest r to x H own in-row thread none seen model formed grown =
+        producer-goes z σ γ good t a-producer r to ws (γ .shape .tp) (override (γ .entry) (σ (position t)) put) (γ .owner) (γ .content) H
         in-sort
         ((s .fits, s .here .below, omega arith), own-there z t (ofProducer t) (of-producer z t a-producer) rest own)
         (record {
@@ -233,7 +234,7 @@ module _ (z : Sizes) (σ : Reader) (γ : Ghost) (good : Good z σ γ) (t : ℕ) 
     goes-ahead : σ (backed t) ≡ 0 → Goes z σ γ (step t) going (state h i := 1 ∷ phase t := 10 ∷ [])
     unfolding i
     goes-ahead flag =
-        sets (phase t := 10 ∷ []) going _ (γ .history) ((refl, omega arith), tt)
+        sets (phase t := 10 ∷ []) going tt _ (γ .history) ((refl, omega arith), tt)
         (producer-row-of z (rowOf σ′ t) 10 ten (omega arith)
         (record { call = setting-words .call; value = tt; position = setting-words .position; held = setting-words .held; claimed = setting-words .claimed; backed = flag; spare = setting-words .spare }))
         (unclaimed (z .N) (γ .shape .lo) σ (rowOf σ′ t) (good .memory .threads t .holding) (setting-words .claimed)
@@ -254,7 +255,7 @@ module _ (z : Sizes) (σ : Reader) (γ : Ghost) (good : Good z σ γ) (t : ℕ) 
     ends : Goes z σ γ (step t) ended (state h i := 1 ∷ clearProducer t ∷ [])
     unfolding i
     ends =
-        sets (clearProducer t ∷ []) ended idle (enqueueEnded t (σ (call t)) (σ (value t)) ∷ γ .history) ((refl, omega arith), tt)
+        sets (clearProducer t ∷ []) ended tt idle (enqueueEnded t (σ (call t)) (σ (value t)) ∷ γ .history) ((refl, omega arith), tt)
         (idle-in-range z (γ .shape .lo) σ (rowOf σ′ t) row)
         (idle-thread z (γ .shape .lo) σ (rowOf σ′ t) row)
         (row 5)

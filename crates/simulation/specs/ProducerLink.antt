@@ -35,6 +35,7 @@ use Rattle.memory.specs.OtherThreads.{Untouched, OthersKept, others-kept}
 use Rattle.memory.specs.Linking.{LetGo, give-back-keeps, link-keeps}
 use Rattle.simulation.specs.View.{Ghost, placesOf, placeOf, producerAt, producerOf, producersOf, view, cellOf}
 use Rattle.simulation.specs.Good.{Good, Goes, Fine, places-stay, by-need, by-cond, by-up-to}
+use Rattle.simulation.specs.Told.{ToEnqueue}
 use Rattle.simulation.specs.Rows.{of-sort, has-sort, producer-row-of}
 use Rattle.simulation.specs.Limits.{limits, place-fits}
 use Rattle.simulation.specs.ProducerSteps.{producers-after, own-words, seen-at}
@@ -68,7 +69,7 @@ module _ (z : Sizes) (σ : Reader) (γ : Ghost) (good : Good z σ γ) (t : ℕ) 
       (place-same σ σ′ c places (rowOf σ′ t 4) (λ e. ⊎-elim (λ q. not-held t (sym q ∙ e)) (λ q. omega arith) (let-go .holds-on)))
 
   -- How the step goes on: what thread t writes of its own words, what it replies, how it is seen then, and the history.
-  module _ (rest : List Write) (own : All (Own (ofProducer t)) rest) (r : Reply) (x : Producer) (H : History)
+  module _ (rest : List Write) (own : All (Own (ofProducer t)) rest) (r : Reply) (to : ToEnqueue r) (x : Producer) (H : History)
       (formed : wellFormed H ≡ true) (grown : H ≡ replyEvents (step t) (γ .history) r ++ γ .history) where
     -- giving it back
     abbrev pub giveWrites : List Write
@@ -89,7 +90,7 @@ module _ (z : Sizes) (σ : Reader) (γ : Ghost) (good : Good z σ γ) (t : ℕ) 
         (model : Invariant (z .B) (withHistory (withProducer (view σ γ) t x) H)) where
       pub gives : Goes z σ γ (step t) r giveWrites
       gives =
-          record-goes z σ γ good t a-producer (step t) r giveWrites (later γ H) in-sort ((c-blank .fits, omega arith), rest-there) in-row
+          record-goes z σ γ good t a-producer (step t) r to giveWrites (later γ H) in-sort ((c-blank .fits, omega arith), rest-there) in-row
           (give-back-keeps z σ σ′ (γ .shape) m t h c a-producer holds claims kept let-go
           (same tailRecord refl)
           (same headRecord refl)
@@ -196,7 +197,7 @@ module _ (z : Sizes) (σ : Reader) (γ : Ghost) (good : Good z σ γ) (t : ℕ) 
       pub links : Goes z σ γ (step t) r linkWrites
       unfolding σ′ τ
       links =
-          record-goes z σ γ good t a-producer (step t) r linkWrites linkedGhost in-sort there in-row
+          record-goes z σ γ good t a-producer (step t) r to linkWrites linkedGhost in-sort there in-row
           (link-keeps z σ σ′ (γ .shape) m t h c a-producer holds claims kept let-go
           (same tailRecord refl)
           (same headRecord refl)
@@ -302,7 +303,7 @@ module _ (z : Sizes) (σ : Reader) (γ : Ghost) (good : Good z σ γ) (t : ℕ) 
       by-linked 5 (λ ws. goes (ws ++ onward)) e (omega arith) (inl refl)
       (λ h c q w none fits.
       let now : Onward (linkedThen h c onward) = record { in-phase = rw self refl; call = refl; position = refl; held = refl; claimed = rw self refl; backed = refl; spare = refl } in
-      links z σ γ good t a-producer h c q w onward own going _ (γ .history) (good .formed) refl none fits
+      links z σ γ good t a-producer h c q w onward own going tt _ (γ .history) (good .formed) refl none fits
       (onward-in-range (linkedThen h c onward) e now)
       (onward-lets-go (linkedThen h c onward) now)
       (rw self refl)
@@ -310,7 +311,7 @@ module _ (z : Sizes) (σ : Reader) (γ : Ghost) (good : Good z σ γ) (t : ℕ) 
       (rw q (omega (arith, held-last (good .memory) t h q none .1)))))
       (λ h c q w below.
       let now : Onward (after σ (used c := 0 ∷ onward)) = record { in-phase = rw self refl; call = refl; position = refl; held = refl; claimed = rw self refl; backed = refl; spare = refl } in
-      gives z σ γ good t a-producer h c q w onward own going _ (γ .history) (good .formed) refl
+      gives z σ γ good t a-producer h c q w onward own going tt _ (γ .history) (good .formed) refl
       (onward-in-range (after σ (used c := 0 ∷ onward)) e now)
       (onward-lets-go (after σ (used c := 0 ∷ onward)) now)
       (rw self refl)
@@ -343,14 +344,14 @@ module _ (z : Sizes) (σ : Reader) (γ : Ghost) (good : Good z σ γ) (t : ℕ) 
       by-linked 11 (λ ws. reply ended (ws ++ idling)) e (omega arith) (inr refl)
       (λ h c q w none fits.
       let now : (j : ℕ) → linkedThen h c idling (producer t j) ≡ 0 = λ j. rw self refl in
-      links z σ γ good t a-producer h c q w idling own ended idle H (end-formed z σ γ good t _ is) (end-adds z σ γ good t _ is) none fits
+      links z σ γ good t a-producer h c q w idling own ended tt idle H (end-formed z σ γ good t _ is) (end-adds z σ γ good t _ is) none fits
       (idle-in-range z (γ .shape .lo) σ _ now)
       (idle-lets-go _ now)
       (idle-seen z (γ .shape .lo) σ _ now (placesOf σ))
       (finish-keeps (z .B) (linkLast (view σ γ)) (link-last (z .B) (view σ γ) (good .model)) t _ _ _ _ seen))
       (λ h c q w below.
       let now : (j : ℕ) → after σ (used c := 0 ∷ idling) (producer t j) ≡ 0 = λ j. rw self refl in
-      gives z σ γ good t a-producer h c q w idling own ended idle H (end-formed z σ γ good t _ is) (end-adds z σ γ good t _ is)
+      gives z σ γ good t a-producer h c q w idling own ended tt idle H (end-formed z σ γ good t _ is) (end-adds z σ γ good t _ is)
       (idle-in-range z (γ .shape .lo) σ _ now)
       (idle-lets-go _ now)
       (idle-seen z (γ .shape .lo) σ _ now (placesOf σ))

@@ -29,7 +29,8 @@ use Rattle.memory.specs.Memory.{ChainShape, Held, ThreadOk, rowOf}
 use Rattle.memory.specs.OtherThreads.{OthersKept, others-kept}
 use Rattle.memory.specs.Light.{Light, producer-keeps}
 use Rattle.simulation.specs.View.{Ghost, placesOf, placeOf, producerAt, producerOf, producersOf, view, Agrees, cellOf}
-use Rattle.simulation.specs.Good.{Good, Goes, places-stay}
+use Rattle.simulation.specs.Good.{Good, Goes, Tells, places-stay}
+use Rattle.simulation.specs.Told.{ToEnqueue, enqueue-tells}
 use Rattle.simulation.specs.Rows.{ProducerWords, producer-row-has}
 
 -- a state with other producers
@@ -113,7 +114,7 @@ module _ (z : Sizes) (σ : Reader) (γ : Ghost) (good : Good z σ γ) (t : ℕ) 
       → view σ γ .producer t ≡ producerAt p (σ (call t)) (σ (value t)) (σ (position t)) (placeOf (placesOf σ) (σ (held t)))
   seen-at p e = ap (λ (x : ℕ). producerAt x (σ (call t)) (σ (value t)) (σ (position t)) (placeOf (placesOf σ) (σ (held t)))) e
 
-  pub producer-goes : (r : Reply) (ws : List Write) (tp : ℕ) (entry : ℕ → Entry) (owner : ℕ → ℕ) (content : ℕ → Item) (h : History)
+  pub producer-goes : (r : Reply) → ToEnqueue r → (ws : List Write) (tp : ℕ) (entry : ℕ → Entry) (owner : ℕ → ℕ) (content : ℕ → Item) (h : History)
       → let g : ChainShape = record { lo = γ .shape .lo; tp = tp; hi = γ .shape .hi; at = γ .shape .at } in
       let γ′ : Ghost = record { shape = g; entry = entry; owner = owner; content = content; history = h } in
       All (InSort z t) ws
@@ -130,7 +131,7 @@ module _ (z : Sizes) (σ : Reader) (γ : Ghost) (good : Good z σ γ) (t : ℕ) 
       → h ≡ replyEvents (step t) (γ .history) r ++ γ .history
       → (σ tail ≤ after σ ws tail) × (γ .shape .tp ≤ tp)
       → Goes z σ γ (step t) r ws
-  producer-goes r ws tp entry owner content h in-sort there light fixed in-row own claims-none tail-at agrees model formed grown grows =
+  producer-goes r of ws tp entry owner content h in-sort there light fixed in-row own claims-none tail-at agrees model formed grown grows =
       record {
         there = there;
         next = record { shape = record { lo = γ .shape .lo; tp = tp; hi = γ .shape .hi; at = γ .shape .at }; entry = entry; owner = owner; content = content; history = h };
@@ -144,7 +145,11 @@ module _ (z : Sizes) (σ : Reader) (γ : Ghost) (good : Good z σ γ) (t : ℕ) 
               agrees = agrees;
               model = model;
               formed = formed;
+              pending = tells .pending;
             };
-        grown = grown;
+        grown = tells .grown;
         moved = places-stay z t σ (γ .shape) _ ws in-sort (λ x. light .parts x 0) (grows .0) (grows .1) (omega arith);
       }
+    where
+      tells : Tells σ (after σ ws) (step t) r (γ .history) h
+      tells = enqueue-tells z σ γ good t (a-producer .0) (step t) r of ws h in-sort grown

@@ -55,7 +55,7 @@ module _ (z : Sizes) (σ : Reader) (γ : Ghost) (good : Good z σ γ) (t : ℕ) 
       → Invariant (z .B) (withProducer (view σ γ) t y)
       → Goes z σ γ (step t) going ws
   walks p p′ x f ws y e sorts sorts′ l not-five own row fits flag holding some seen model =
-      producer-own z σ γ good t a-producer going ws y (γ .history) own
+      producer-own z σ γ good t a-producer going tt ws y (γ .history) own
       (producer-row-of z (rowOf σ′ t) p′ (row .in-phase) (omega arith)
       (subst⁻¹ (ProducerWords z (rowOf σ′ t)) sorts′
       (record { call = rw (row .call) (old .call); value = tt; position = rw (row .position) (old .position); held = rw (row .held) fits; claimed = none; backed = rw (row .backed) flag; spare = row .spare ∙ old .spare })))
@@ -253,7 +253,7 @@ module _ (z : Sizes) (σ : Reader) (γ : Ghost) (good : Good z σ γ) (t : ℕ) 
 
     shifts : (n : ℕ) → σ (next h) ≡ suc n → Goes z σ γ (step t) going (shiftWrites n)
     shifts n r =
-        producer-goes z σ γ good t a-producer going (shiftWrites n)
+        producer-goes z σ γ good t a-producer going tt (shiftWrites n)
         (suc (placeOf (placesOf σ) (σ (held t)))) (γ .entry) (γ .owner) (γ .content) (γ .history)
         in-sort
         (omega arith, ((a-producer .0, a-producer .1, omega arith), tt))

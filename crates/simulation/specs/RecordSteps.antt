@@ -22,10 +22,11 @@ use Rattle.model.specs.Invariant.{Invariant}
 use Rattle.memory.specs.Chain
 use Rattle.memory.specs.Memory.{Linked, Memory}
 use Rattle.simulation.specs.View.{Ghost, placesOf, placeOf, consumerAt, consumerOf, view, codeOf, Agrees, AgreesWith}
-use Rattle.simulation.specs.Good.{Good, Goes, Moved}
+use Rattle.simulation.specs.Good.{Good, Goes, Moved, Tells}
+use Rattle.simulation.specs.Told.{ToEnqueue, enqueue-tells}
 
 module _ (z : Sizes) (σ : Reader) (γ : Ghost) (good : Good z σ γ) (t : ℕ) (a-producer : (1 ≤ t) × (t ≤ z .P)) where
-  pub record-goes : (q : Request) (r : Reply) (ws : List Write) (γ′ : Ghost)
+  pub record-goes : (q : Request) (r : Reply) → ToEnqueue r → (ws : List Write) (γ′ : Ghost)
       → All (InSort z t) ws
       → All (WriteThere z) ws
       → producerInRange z (after σ ws) t ≡ true
@@ -36,7 +37,7 @@ module _ (z : Sizes) (σ : Reader) (γ : Ghost) (good : Good z σ γ) (t : ℕ) 
       → γ′ .history ≡ replyEvents q (γ .history) r ++ γ .history
       → Moved (threadOf q) σ (after σ ws) (γ .shape) (γ′ .shape)
       → Goes z σ γ q r ws
-  record-goes q r ws γ′ in-sort there in-row memory agrees model formed grown moved =
+  record-goes q r of ws γ′ in-sort there in-row memory agrees model formed grown moved =
       record {
         there = there;
         next = γ′;
@@ -48,10 +49,14 @@ module _ (z : Sizes) (σ : Reader) (γ : Ghost) (good : Good z σ γ) (t : ℕ) 
               agrees = agrees;
               model = model;
               formed = formed;
+              pending = tells .pending;
             };
-        grown = grown;
+        grown = tells .grown;
         moved = moved;
       }
+    where
+      tells : Tells σ (after σ ws) q r (γ .history) (γ′ .history)
+      tells = enqueue-tells z σ γ good t (a-producer .0) q r of ws (γ′ .history) in-sort grown
 
 -- Places stay where the only record whose place is written is another one.
 pub place-same : (σ σ′ : Reader) (c : ℕ) → ((y : ℕ) → (y ≡ c → ⊥) → σ′ (place y) ≡ σ (place y)) → (x : ℕ) → (x ≡ suc c → ⊥)

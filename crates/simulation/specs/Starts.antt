@@ -27,6 +27,7 @@ use Rattle.memory.specs.OtherThreads.{others-kept}
 use Rattle.memory.specs.Light.{producer-keeps}
 use Rattle.simulation.specs.View.{Ghost, view}
 use Rattle.simulation.specs.Good.{Good, Goes, Fine, by-cond, places-stay}
+use Rattle.simulation.specs.Told.{tells-kept, not-yet}
 use Rattle.simulation.specs.Rows.{of-sort, has-sort, ProducerWords, producer-row-of, consumer-row-of}
 use Rattle.simulation.specs.ProducerSteps.{as-seen, producers-after, unclaimed, own-words, seen-at}
 use Rattle.simulation.specs.OwnWords.{later, consumer-own}
@@ -41,7 +42,7 @@ module _ (z : Sizes) (σ : Reader) (γ : Ghost) (good : Good z σ γ) where
   starts-enqueue : (t v : ℕ) → (1 ≤ t) × (t ≤ z .P) → σ (phase t) ≡ 0 → suc (σ starts) ≤ z .M
       → Goes z σ γ (startEnqueue t v) (started (suc (σ starts))) (startWrites t v)
   starts-enqueue t v a e room =
-      record-goes z σ γ good t a (startEnqueue t v) (started (suc (σ starts))) (startWrites t v) (later γ (enqueueStarted t (suc (σ starts)) v ∷ γ .history)) in-sort
+      record-goes z σ γ good t a (startEnqueue t v) (started (suc (σ starts))) tt (startWrites t v) (later γ (enqueueStarted t (suc (σ starts)) v ∷ γ .history)) in-sort
       (omega arith, ((a .0, a .1, omega arith), ((a .0, a .1, omega arith), ((a .0, a .1, omega arith), tt))))
       (producer-row-of z (rowOf σ′ t) 1 one (omega arith)
       (record { call = rw self room; value = tt; position = old .position; held = old .held; claimed = old .claimed; backed = old .backed; spare = old .spare }))
@@ -109,10 +110,10 @@ module _ (z : Sizes) (σ : Reader) (γ : Ghost) (good : Good z σ γ) where
       (λ b.
       let e : σ consumerPhase ≡ 0 = eqb-true (σ consumerPhase) 0 (not-false (eqb (σ consumerPhase) 0) b) in
       let words = consumer-words z σ γ good 0 e in
-      consumer-own z σ γ good startDequeue refl ok (consumerPhase := 1 ∷ []) State.front (dequeueStarted ∷ γ .history) ((refl, omega arith), tt)
+      consumer-own z σ γ good (consumerPhase := 1 ∷ []) ((refl, omega arith), tt) startDequeue refl ok State.front (dequeueStarted ∷ γ .history)
       (consumer-row-of z (λ k. after σ (consumerPhase := 1 ∷ []) (consumer k)) 1 refl (omega arith) (record { cursor-record = words .cursor-record; cursor-position = words .cursor-position; found-record = words .found-record; found-position = words .found-position; item-number = words .item-number; item-value = words .item-value; spare = words .spare }))
       (good .memory .cursor, good .memory .found)
       refl
       (begin-dequeue (z .B) (view σ γ) (good .model))
       (dequeue-may-start (γ .history) (good .formed) (good .model .calls .of-consumer ∙ ap isBusy (consumer-at z σ γ good 0 e)))
-      refl)
+      (tells-kept σ (after σ (consumerPhase := 1 ∷ [])) startDequeue ok (γ .history) (dequeueStarted ∷ γ .history) (not-yet σ e (omega arith)) refl refl))

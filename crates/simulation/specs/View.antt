@@ -7,7 +7,7 @@ use lib.ListN.{getD}
 use Rattle.history.specs.Event.{History}
 use Rattle.history.specs.Linearization.{Item}
 use Rattle.rules.specs.Cell.{Reader, consumer, entry, tail, headPosition, starts, place}
-use Rattle.model.specs.State.{Entry, blank, put, gone, Producer, idle, started, seeking, ahead, shifting, behind, writing, setting, done, Consumer, resting, front, reading, scanning, looking, rescanning, found, holding, State}
+use Rattle.model.specs.State.{Entry, blank, put, gone, Producer, idle, started, seeking, ahead, shifting, behind, writing, setting, done, Consumer, resting, front, reading, scanning, looking, rescanning, found, holding, retiring, State}
 use Rattle.memory.specs.Memory.{ChainShape, rowOf}
 
 pub record Ghost : Type 0 where
@@ -64,6 +64,7 @@ consumerAt phase c k f g x =
     ∷ rescanning c k f g
     ∷ found f g
     ∷ holding f g x
+    ∷ retiring
     ∷ [])
     phase
     resting

@@ -65,7 +65,7 @@ producer-rows z =
 
 consumer-rows : (z : Sizes) → Rows z consumerSorts (consumerCaps z)
 consumer-rows z =
-    (omega arith, (omega arith, (omega arith, (omega arith, (omega arith, (omega arith, (omega arith, (omega arith, tt))))))))
+    (omega arith, (omega arith, (omega arith, (omega arith, (omega arith, (omega arith, (omega arith, (omega arith, (omega arith, tt)))))))))
 
 -- two rows of the same length
 under-length : (z : Sizes) (ss : List Sort) (bs : List ℕ) → Under z ss bs → length bs ≤ length ss

@@ -43,4 +43,6 @@ pub const READ_ITEM: u32 = 6;
 
 pub const MARK: u32 = 7;
 
-pub const LAST_CONSUMER: u32 = 7;
+pub const RETIRE: u32 = 8;
+
+pub const LAST_CONSUMER: u32 = 8;

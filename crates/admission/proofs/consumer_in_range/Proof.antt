@@ -3,7 +3,7 @@ use mathlib.Core.Path.{refl, _∙_}
 use native.Mathlib.Omega.{arith}
 use borrow.Author.Needs.{needs}
 use denote.Ref.{now}
-use Rattle.rules.specs.Range.{idleSorts, cursorSorts, rescanSorts, foundSorts, itemSorts}
+use Rattle.rules.specs.Range.{idleSorts, cursorSorts, rescanSorts, foundSorts, itemSorts, retiringSorts}
 use Rattle.store.specs.Shape.{sizes}
 use Rattle.admission.specs.Rows.{consumer-row, consumer-past, idle-phase, cursor-phase}
 use Rattle.admission.proofs.consumer_in_range.Statement.{statement}
@@ -39,6 +39,9 @@ row-at-most-requires-4 c κs = search needs
 row-at-most-requires-5 : tie.Need-row-at-most-requires-5
 row-at-most-requires-5 c κs = search needs
 
+row-at-most-requires-6 : tie.Need-row-at-most-requires-6
+row-at-most-requires-6 c κs = search needs
+
 returns-3 : tie.Need-returns-3
 returns-3 c = consumer-row (sizes (c .before .before .before .before .before .before .args .z)) (now (c .before .before .before .before .before .before .args .s)) (λ j. omega (arith, c .before .before .before .before .shared-slice-known2 .given j)) 5 rescanSorts (c .before .match .keys1) (omega arith) refl refl refl ∙ c .row-at-most2 .ensures
 
@@ -49,11 +52,14 @@ returns-5 : tie.Need-returns-5
 returns-5 c = consumer-row (sizes (c .before .before .before .before .before .before .args .z)) (now (c .before .before .before .before .before .before .args .s)) (λ j. omega (arith, c .before .before .before .before .shared-slice-known2 .given j)) 7 itemSorts (c .before .match .keys3) (omega arith) refl refl refl ∙ c .row-at-most4 .ensures
 
 returns-6 : tie.Need-returns-6
-returns-6 c =
+returns-6 c = consumer-row (sizes (c .before .before .before .before .before .before .args .z)) (now (c .before .before .before .before .before .before .args .s)) (λ j. omega (arith, c .before .before .before .before .shared-slice-known2 .given j)) 8 retiringSorts (c .before .match .keys4) (omega arith) refl refl refl ∙ c .row-at-most5 .ensures
+
+returns-7 : tie.Need-returns-7
+returns-7 c =
     let n = c .before .match .rest in
     consumer-row (sizes (c .before .before .before .before .before .before .args .z)) (now (c .before .before .before .before .before .before .args .s)) (λ j. omega (arith, c .before .before .before .before .shared-slice-known2 .given j)) _ cursorSorts refl (c .before .before .before .if1 .left)
-    (cursor-phase _ (c .before .before .if2 .left) (c .before .before .before .if1 .left) (n .0 .0 .1) (n .0 .1) (n .1)) refl refl
-    ∙ c .row-at-most5 .ensures
+    (cursor-phase _ (c .before .before .if2 .left) (c .before .before .before .if1 .left) (n .0 .0 .0 .1) (n .0 .0 .1) (n .0 .1) (n .1)) refl refl
+    ∙ c .row-at-most6 .ensures
 
 pub consumer-in-range-spec : {M : Type 1} → statement M
 consumer-in-range-spec =
@@ -69,7 +75,9 @@ consumer-in-range-spec =
     row-at-most-requires-3
     row-at-most-requires-4
     row-at-most-requires-5
+    row-at-most-requires-6
     returns-3
     returns-4
     returns-5
-    returns-6)
+    returns-6
+    returns-7)

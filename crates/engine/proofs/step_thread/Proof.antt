@@ -36,6 +36,9 @@ read-item-requires c κs = c .before .before .before .before .before .before .be
 mark-handled-requires : tie.Need-mark-handled-requires
 mark-handled-requires c κs = c .before .before .before .before .before .before .before .before .pre
 
+retire-head-requires : tie.Need-retire-head-requires
+retire-head-requires c κs = c .before .before .before .before .before .before .before .before .pre
+
 same-length : tie.Need-same-length
 same-length c = search needs
 
@@ -82,13 +85,19 @@ same-length-8 : tie.Need-same-length-8
 same-length-8 c = search needs
 
 returns-9 : tie.Need-returns-9
-returns-9 c = consumer-idle (c .before .read-consumer .ensures) (c .before .before .before .before .if1 .left) (c .before .before .before .if2 .taken) (c .match .keys8)
+returns-9 c = consumer-steps (c .before .before .before .before .before .read-consumer .ensures) (c .before .before .before .before .before .before .before .before .if1 .left) (c .before .before .before .before .before .before .before .if2 .taken) 7 (c .before .before .before .before .match .keys8) (c .before .before .retire-head .ensures)
 
 same-length-9 : tie.Need-same-length-9
 same-length-9 c = search needs
 
 returns-10 : tie.Need-returns-10
-returns-10 c = absurd (omega (arith, past 7 (c .before .read-consumer .result .phase) (c .match .rest .0) (c .match .rest .1)))
+returns-10 c = consumer-idle (c .before .read-consumer .ensures) (c .before .before .before .before .if1 .left) (c .before .before .before .if2 .taken) (c .match .keys9)
+
+same-length-10 : tie.Need-same-length-10
+same-length-10 c = search needs
+
+returns-11 : tie.Need-returns-11
+returns-11 c = absurd (omega (arith, past 8 (c .before .read-consumer .result .phase) (c .match .rest .0) (c .match .rest .1)))
 
 read-producer-requires : tie.Need-read-producer-requires
 read-producer-requires c κs = search needs
@@ -126,83 +135,83 @@ claim-ahead-requires c κs = search needs
 link-ahead-requires : tie.Need-link-ahead-requires
 link-ahead-requires c κs = search needs
 
-same-length-10 : tie.Need-same-length-10
-same-length-10 c = search needs
-
-returns-11 : tie.Need-returns-11
-returns-11 c = producer-steps (c .before .before .before .before .before .read-producer .ensures) (c .before .before .before .before .before .before .before .before .if1 .left) (c .before .before .before .before .before .before .before .if2 .left) 0 (c .before .before .before .before .match2 .keys1) (c .before .before .take-position .ensures)
-
 same-length-11 : tie.Need-same-length-11
 same-length-11 c = search needs
 
 returns-12 : tie.Need-returns-12
-returns-12 c = producer-steps (c .before .before .before .before .before .read-producer .ensures) (c .before .before .before .before .before .before .before .before .if1 .left) (c .before .before .before .before .before .before .before .if2 .left) 1 (c .before .before .before .before .match2 .keys2) (c .before .before .load-tail .ensures)
+returns-12 c = producer-steps (c .before .before .before .before .before .read-producer .ensures) (c .before .before .before .before .before .before .before .before .if1 .left) (c .before .before .before .before .before .before .before .if2 .left) 0 (c .before .before .before .before .match2 .keys1) (c .before .before .take-position .ensures)
 
 same-length-12 : tie.Need-same-length-12
 same-length-12 c = search needs
 
 returns-13 : tie.Need-returns-13
-returns-13 c = producer-steps (c .before .before .before .before .before .read-producer .ensures) (c .before .before .before .before .before .before .before .before .if1 .left) (c .before .before .before .before .before .before .before .if2 .left) 2 (c .before .before .before .before .match2 .keys3) (c .before .before .look-next .ensures)
+returns-13 c = producer-steps (c .before .before .before .before .before .read-producer .ensures) (c .before .before .before .before .before .before .before .before .if1 .left) (c .before .before .before .before .before .before .before .if2 .left) 1 (c .before .before .before .before .match2 .keys2) (c .before .before .load-tail .ensures)
 
 same-length-13 : tie.Need-same-length-13
 same-length-13 c = search needs
 
 returns-14 : tie.Need-returns-14
-returns-14 c = producer-steps (c .before .before .before .before .before .read-producer .ensures) (c .before .before .before .before .before .before .before .before .if1 .left) (c .before .before .before .before .before .before .before .if2 .left) 3 (c .before .before .before .before .match2 .keys4) (c .before .before .claim-record .ensures)
+returns-14 c = producer-steps (c .before .before .before .before .before .read-producer .ensures) (c .before .before .before .before .before .before .before .before .if1 .left) (c .before .before .before .before .before .before .before .if2 .left) 2 (c .before .before .before .before .match2 .keys3) (c .before .before .look-next .ensures)
 
 same-length-14 : tie.Need-same-length-14
 same-length-14 c = search needs
 
 returns-15 : tie.Need-returns-15
-returns-15 c = producer-steps (c .before .before .before .before .before .read-producer .ensures) (c .before .before .before .before .before .before .before .before .if1 .left) (c .before .before .before .before .before .before .before .if2 .left) 4 (c .before .before .before .before .match2 .keys5) (c .before .before .link-claimed .ensures)
+returns-15 c = producer-steps (c .before .before .before .before .before .read-producer .ensures) (c .before .before .before .before .before .before .before .before .if1 .left) (c .before .before .before .before .before .before .before .if2 .left) 3 (c .before .before .before .before .match2 .keys4) (c .before .before .claim-record .ensures)
 
 same-length-15 : tie.Need-same-length-15
 same-length-15 c = search needs
 
 returns-16 : tie.Need-returns-16
-returns-16 c = producer-steps (c .before .before .before .before .before .read-producer .ensures) (c .before .before .before .before .before .before .before .before .if1 .left) (c .before .before .before .before .before .before .before .if2 .left) 5 (c .before .before .before .before .match2 .keys6) (c .before .before .shift-tail .ensures)
+returns-16 c = producer-steps (c .before .before .before .before .before .read-producer .ensures) (c .before .before .before .before .before .before .before .before .if1 .left) (c .before .before .before .before .before .before .before .if2 .left) 4 (c .before .before .before .before .match2 .keys5) (c .before .before .link-claimed .ensures)
 
 same-length-16 : tie.Need-same-length-16
 same-length-16 c = search needs
 
 returns-17 : tie.Need-returns-17
-returns-17 c = producer-steps (c .before .before .before .before .before .read-producer .ensures) (c .before .before .before .before .before .before .before .before .if1 .left) (c .before .before .before .before .before .before .before .if2 .left) 6 (c .before .before .before .before .match2 .keys7) (c .before .before .go-back .ensures)
+returns-17 c = producer-steps (c .before .before .before .before .before .read-producer .ensures) (c .before .before .before .before .before .before .before .before .if1 .left) (c .before .before .before .before .before .before .before .if2 .left) 5 (c .before .before .before .before .match2 .keys6) (c .before .before .shift-tail .ensures)
 
 same-length-17 : tie.Need-same-length-17
 same-length-17 c = search needs
 
 returns-18 : tie.Need-returns-18
-returns-18 c = producer-steps (c .before .before .before .before .before .read-producer .ensures) (c .before .before .before .before .before .before .before .before .if1 .left) (c .before .before .before .before .before .before .before .if2 .left) 7 (c .before .before .before .before .match2 .keys8) (c .before .before .write-entry .ensures)
+returns-18 c = producer-steps (c .before .before .before .before .before .read-producer .ensures) (c .before .before .before .before .before .before .before .before .if1 .left) (c .before .before .before .before .before .before .before .if2 .left) 6 (c .before .before .before .before .match2 .keys7) (c .before .before .go-back .ensures)
 
 same-length-18 : tie.Need-same-length-18
 same-length-18 c = search needs
 
 returns-19 : tie.Need-returns-19
-returns-19 c = producer-steps (c .before .before .before .before .before .read-producer .ensures) (c .before .before .before .before .before .before .before .before .if1 .left) (c .before .before .before .before .before .before .before .if2 .left) 8 (c .before .before .before .before .match2 .keys9) (c .before .before .set-entry .ensures)
+returns-19 c = producer-steps (c .before .before .before .before .before .read-producer .ensures) (c .before .before .before .before .before .before .before .before .if1 .left) (c .before .before .before .before .before .before .before .if2 .left) 7 (c .before .before .before .before .match2 .keys8) (c .before .before .write-entry .ensures)
 
 same-length-19 : tie.Need-same-length-19
 same-length-19 c = search needs
 
 returns-20 : tie.Need-returns-20
-returns-20 c = producer-steps (c .before .before .before .before .before .read-producer .ensures) (c .before .before .before .before .before .before .before .before .if1 .left) (c .before .before .before .before .before .before .before .if2 .left) 9 (c .before .before .before .before .match2 .keys10) (c .before .before .claim-ahead .ensures)
+returns-20 c = producer-steps (c .before .before .before .before .before .read-producer .ensures) (c .before .before .before .before .before .before .before .before .if1 .left) (c .before .before .before .before .before .before .before .if2 .left) 8 (c .before .before .before .before .match2 .keys9) (c .before .before .set-entry .ensures)
 
 same-length-20 : tie.Need-same-length-20
 same-length-20 c = search needs
 
 returns-21 : tie.Need-returns-21
-returns-21 c = producer-steps (c .before .before .before .before .before .read-producer .ensures) (c .before .before .before .before .before .before .before .before .if1 .left) (c .before .before .before .before .before .before .before .if2 .left) 10 (c .before .before .before .before .match2 .keys11) (c .before .before .link-ahead .ensures)
+returns-21 c = producer-steps (c .before .before .before .before .before .read-producer .ensures) (c .before .before .before .before .before .before .before .before .if1 .left) (c .before .before .before .before .before .before .before .if2 .left) 9 (c .before .before .before .before .match2 .keys10) (c .before .before .claim-ahead .ensures)
 
 same-length-21 : tie.Need-same-length-21
 same-length-21 c = search needs
 
 returns-22 : tie.Need-returns-22
-returns-22 c = producer-idle (c .before .read-producer .ensures) (c .before .before .before .before .if1 .left) (c .before .before .before .if2 .left) (c .match2 .keys12)
+returns-22 c = producer-steps (c .before .before .before .before .before .read-producer .ensures) (c .before .before .before .before .before .before .before .before .if1 .left) (c .before .before .before .before .before .before .before .if2 .left) 10 (c .before .before .before .before .match2 .keys11) (c .before .before .link-ahead .ensures)
 
 same-length-22 : tie.Need-same-length-22
 same-length-22 c = search needs
 
 returns-23 : tie.Need-returns-23
-returns-23 c = absurd (omega (arith, past 11 (c .before .read-producer .result .phase) (c .match2 .rest .0) (c .match2 .rest .1)))
+returns-23 c = producer-idle (c .before .read-producer .ensures) (c .before .before .before .before .if1 .left) (c .before .before .before .if2 .left) (c .match2 .keys12)
+
+same-length-23 : tie.Need-same-length-23
+same-length-23 c = search needs
+
+returns-24 : tie.Need-returns-24
+returns-24 c = absurd (omega (arith, past 11 (c .before .read-producer .result .phase) (c .match2 .rest .0) (c .match2 .rest .1)))
 
 pub step-thread-spec : {M : Type 1} → statement M
 step-thread-spec =
@@ -217,6 +226,7 @@ step-thread-spec =
     rescan-on-requires
     read-item-requires
     mark-handled-requires
+    retire-head-requires
     same-length
     returns-2
     same-length-2
@@ -235,6 +245,8 @@ step-thread-spec =
     returns-9
     same-length-9
     returns-10
+    same-length-10
+    returns-11
     read-producer-requires
     take-position-requires
     load-tail-requires
@@ -247,8 +259,6 @@ step-thread-spec =
     set-entry-requires
     claim-ahead-requires
     link-ahead-requires
-    same-length-10
-    returns-11
     same-length-11
     returns-12
     same-length-12
@@ -272,4 +282,6 @@ step-thread-spec =
     same-length-21
     returns-22
     same-length-22
-    returns-23)
+    returns-23
+    same-length-23
+    returns-24)

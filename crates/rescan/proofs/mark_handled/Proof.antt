@@ -1,10 +1,8 @@
 -- `rescan::mark_handled` meets its contract.
-use mathlib.Core.Path.{refl}
-use Prim.Native.Nat.{suc}
-use native.Mathlib.Numerals.{add-one}
+use mathlib.Core.Path.{refl, sym, _∙_}
 use native.Mathlib.Omega.{arith}
 use borrow.Author.Needs.{needs}
-use borrow.Author.Tests.{eq-eqb, ne-eqb, le-leb, lt-leb}
+use borrow.Author.Tests.{eq-eqb, ne-eqb}
 use Rattle.rules.specs.Cell.{writes}
 use Rattle.rules.specs.Consumer.{markHandled}
 use Rattle.rules.specs.Request.{applied}
@@ -31,55 +29,34 @@ returns c = not-inside (c .before .before .before .read-consumer .ensures .found
 read-contents-requires : tie.Need-read-contents-requires
 read-contents-requires c κs = search needs
 
-put-entry-requires : tie.Need-put-entry-requires
-put-entry-requires c κs = omega (arith, c .before .before .before .before .before .before .before .before .before .before .before .before .before .pre, at-there (c .before .before .before .before .before .before .before .before .slot-in .ensures) (c .before .before .before .before .before .before .«record» .given .1))
-
-clear-consumer-requires : tie.Need-clear-consumer-requires
-clear-consumer-requires c κs = search needs
+mark-front-requires : tie.Need-mark-front-requires
+mark-front-requires c κs = (c .before .before .before .before .before .before .before .before .before .before .before .before .before .before .pre, at-there (c .before .before .before .before .before .before .before .before .before .slot-in .ensures) (c .before .before .before .before .before .before .before .«record» .given .1))
 
 same-length-2 : tie.Need-same-length-2
 same-length-2 c = search needs
 
 returns-2 : tie.Need-returns-2
-unfolding markHandled applied writes
+unfolding markHandled
 returns-2 c =
-    let k = c .before .before .before .before .before .before .before .before .before .before .before .before .before .before .before .before .before .read-consumer .ensures in
-    let at = stands-at (k .found-record) (k .found-position) (c .before .before .before .before .before .before .before .before .before .before .before .before .before .before .before .slot-in .ensures) (c .before .before .before .before .before .before .before .before .before .before .before .before .before .«record» .given .1) in
-    rw (at .link, at .inside, at .is, k .found-position, c .before .before .before .before .before .before .before .before .before .before .read-contents .ensures .head-position, ne-eqb _ _ (c .before .before .before .before .before .before .before .before .if1 .taken), k .item-call, k .item-value, c .before .before .clear-consumer .ensures, c .before .before .before .before .before .before .put-entry .ensures) refl
+    let k = c .before .before .before .before .before .before .before .before .before .before .before .before .before .before .read-consumer .ensures in
+    let at = stands-at (k .found-record) (k .found-position) (c .before .before .before .before .before .before .before .before .before .before .before .before .slot-in .ensures) (c .before .before .before .before .before .before .before .before .before .before .«record» .given .1) in
+    rw (at .link, at .inside, at .is, eq-eqb _ _ (k .found-position ∙ c .before .before .before .before .if1 .taken ∙ sym (c .before .before .before .before .before .before .before .read-contents .ensures .head-position))) (c .before .before .mark-front .ensures)
+
+put-entry-requires : tie.Need-put-entry-requires
+put-entry-requires c κs = omega (arith, c .before .before .before .before .before .before .before .before .before .before .before .before .before .before .pre, at-there (c .before .before .before .before .before .before .before .before .before .slot-in .ensures) (c .before .before .before .before .before .before .before .«record» .given .1))
+
+clear-consumer-requires : tie.Need-clear-consumer-requires
+clear-consumer-requires c κs = omega (arith, c .before .before .before .before .before .before .before .before .before .before .before .before .before .before .before .before .before .before .pre)
 
 same-length-3 : tie.Need-same-length-3
 same-length-3 c = search needs
 
 returns-3 : tie.Need-returns-3
-unfolding markHandled applied
-returns-3 c =
-    let k = c .before .before .before .before .before .before .before .before .before .before .before .read-consumer .ensures in
-    let at = stands-at (k .found-record) (k .found-position) (c .before .before .before .before .before .before .before .before .before .slot-in .ensures) (c .before .before .before .before .before .before .before .«record» .given .1) in
-    let head = c .before .before .before .before .read-contents .result .«head_position» in
-    rw (at .link, at .inside, at .is, k .found-position, c .before .before .before .before .read-contents .ensures .head-position, eq-eqb _ _ (c .before .before .if1 .left), lt-leb (suc head) (c .before .before .before .before .before .before .before .before .before .before .before .before .before .before .args .z .starts) (omega (arith, c .if2))) refl
-
-put-entry-requires-2 : tie.Need-put-entry-requires-2
-put-entry-requires-2 c κs = omega (arith, c .before .before .before .before .before .before .before .before .before .before .before .before .before .before .before .pre, at-there (c .before .before .before .before .before .before .before .before .before .before .slot-in .ensures) (c .before .before .before .before .before .before .before .before .«record» .given .1))
-
-add-put-content : tie.Need-add-put-content
-add-put-content c = search needs
-
-put-content-requires : tie.Need-put-content-requires
-put-content-requires c κs = omega (arith, c .before .before .before .before .before .before .before .before .before .before .before .before .before .before .before .before .before .before .before .pre)
-
-clear-consumer-requires-2 : tie.Need-clear-consumer-requires-2
-clear-consumer-requires-2 c κs = omega (arith, c .before .before .before .before .before .before .before .before .before .before .before .before .before .before .before .before .before .before .before .before .before .before .before .pre)
-
-same-length-4 : tie.Need-same-length-4
-same-length-4 c = search needs
-
-returns-4 : tie.Need-returns-4
 unfolding markHandled applied writes
-returns-4 c =
-    let k = c .before .before .before .before .before .before .before .before .before .before .before .before .before .before .before .before .before .before .before .before .before .before .before .read-consumer .ensures in
-    let at = stands-at (k .found-record) (k .found-position) (c .before .before .before .before .before .before .before .before .before .before .before .before .before .before .before .before .before .before .before .before .before .slot-in .ensures) (c .before .before .before .before .before .before .before .before .before .before .before .before .before .before .before .before .before .before .before .«record» .given .1) in
-    let head = c .before .before .before .before .before .before .before .before .before .before .before .before .before .before .before .before .read-contents .result .«head_position» in
-    rw (at .link, at .inside, at .is, k .found-position, c .before .before .before .before .before .before .before .before .before .before .before .before .before .before .before .before .read-contents .ensures .head-position, eq-eqb _ _ (c .before .before .before .before .before .before .before .before .before .before .before .before .before .before .if1 .left), le-leb (suc head) (c .before .before .before .before .before .before .before .before .before .before .before .before .before .before .before .before .before .before .before .before .before .before .before .before .before .before .args .z .starts) (omega (arith, c .before .before .before .before .before .before .before .before .before .before .before .before .if2)), k .item-call, k .item-value, c .before .before .clear-consumer2 .ensures, c .before .before .before .before .before .before .put-content .ensures, c .before .before .before .before .before .before .before .before .before .before .put-entry2 .ensures, add-one head) refl
+returns-3 c =
+    let k = c .before .before .before .before .before .before .before .before .before .before .before .before .before .before .before .before .before .before .read-consumer .ensures in
+    let at = stands-at (k .found-record) (k .found-position) (c .before .before .before .before .before .before .before .before .before .before .before .before .before .before .before .before .slot-in .ensures) (c .before .before .before .before .before .before .before .before .before .before .before .before .before .before .«record» .given .1) in
+    rw (at .link, at .inside, at .is, k .found-position, c .before .before .before .before .before .before .before .before .before .before .before .read-contents .ensures .head-position, ne-eqb _ _ (c .before .before .before .before .before .before .before .before .if1 .left), k .item-call, k .item-value, c .before .before .clear-consumer .ensures, c .before .before .before .before .before .before .put-entry .ensures) refl
 
 pub mark-handled-spec : {M : Type 1} → statement M
 mark-handled-spec =
@@ -91,15 +68,10 @@ mark-handled-spec =
     same-length
     returns
     read-contents-requires
-    put-entry-requires
-    clear-consumer-requires
+    mark-front-requires
     same-length-2
     returns-2
+    put-entry-requires
+    clear-consumer-requires
     same-length-3
-    returns-3
-    put-entry-requires-2
-    add-put-content
-    put-content-requires
-    clear-consumer-requires-2
-    same-length-4
-    returns-4)
+    returns-3)

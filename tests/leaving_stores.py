@@ -1,0 +1,61 @@
+"""Stores on which the consumer is about to mark an item (phase 7) or to leave the head record (phase 8). Head, found,
+next and tail record stand in every relation. All words are in range; few of the stores are an engine's."""
+
+import itertools
+
+import intake_model as im
+
+B, N, P = 2, 3, 1
+HEAD, OTHER = 2, 3  # record numbers as they are stored
+
+
+def record_at(number):
+    return im.CONTENTS + im.THREAD_WORDS * (P + 1) + (number - 1) * im.record_words(B)
+
+
+def store(rng, M, consumer, head_position, tail_record, parts):
+    """A store with these words of the consumer and these (record, part, word) of records. Other words are drawn."""
+    words = [0] * im.needed_words(B, N, P)
+    im.open_store(words, B, N, P, M)
+    for number in range(1, N + 1):
+        drawn = [rng.randint(0, 4), rng.randint(0, N), rng.randint(0, N), rng.randint(0, 3)]
+        for _ in range(B):
+            drawn += [rng.randint(0, 2), *item(rng, M)]
+        words[record_at(number) : record_at(number) + len(drawn)] = drawn
+    for number, part, word in parts:
+        words[record_at(number) + part] = word
+    words[im.TAIL : im.STARTS] = rng.randint(0, M), tail_record, HEAD, head_position
+    words[im.CONTENTS : im.CONTENTS + im.THREAD_WORDS] = consumer
+    return words
+
+
+def item(rng, M):
+    """A call number and a value."""
+    return rng.randint(0, M), rng.getrandbits(32)
+
+
+def marking(rng):
+    """Phase 7. The head stands at each position of its record and at its end, or at M. Found is at the head position or
+    before it, in the head record, in another of the same place or the next, or in none."""
+    stores = []
+    relations = itertools.product((8, 9), (0, 1, 2, 4, 5), (0, HEAD, OTHER), (0, 1), (HEAD, OTHER))
+    for M, place, found, later, tail_record in relations:
+        places = [(HEAD, im.PLACE, place), (OTHER, im.PLACE, place + later)]
+        for position in range(max(0, B * (place - 1)), min(B * place, M) + 1):
+            for found_position in {position, max(0, position - 1)}:
+                consumer = [7, 0, 0, found, found_position, *item(rng, M), 0]
+                stores.append(store(rng, M, consumer, position, tail_record, places))
+    return stores
+
+
+def leaving(rng):
+    """Phase 8. Next of the head record is none, the head record itself or another; its place is 0, within M or past it.
+    The head position and the tail record are any: phase 8 looks at neither."""
+    stores = []
+    relations = itertools.product((8, 9), range(N + 1), (0, 1, 2, 5, 6, im.MAX_PLACE), (0, 2, 8))
+    for M, following, place, position in relations:
+        consumer = [8, 0, 0, 0, 0, *item(rng, M), 0]
+        places = [(following, im.PLACE, place)] if following else []
+        parts = places + [(HEAD, im.NEXT, following)]
+        stores.append(store(rng, M, consumer, position, rng.choice((HEAD, OTHER)), parts))
+    return stores
