@@ -95,7 +95,7 @@ module _ (z : Sizes) (m : List ℕ) (fit : (j : ℕ) → getD m j 0 ≤ mostWord
   pub consumer-past : (p : ℕ) → getD m contentWords 0 ≡ p → lastConsumerPhase < p → consumerInRange z (reader z m) ≡ false
   consumer-past p e l = thread-past z lastConsumerPhase consumerSorts (λ j. reader z m (consumer j)) p (word-at z m (consumer 0) (omega arith) ∙ e) l
 
--- the producer's phases but 0, 1, 5, 10 and 11; the consumer's but 3 to 8
+-- the producer's phases but 0, 1, 5, 10 and 11; the consumer's up to 4
 pub placed-phase : (p : ℕ) → p ≤ lastProducerPhase → (p ≡ 0 → ⊥) → (p ≡ 1 → ⊥) → (p ≡ 5 → ⊥) → (p ≡ 10 → ⊥) → (p ≡ 11 → ⊥) → getD producerSorts p [] ≡ placedSorts
 placed-phase zero h a b c d e = absurd (a refl)
 placed-phase (suc zero) h a b c d e = absurd (b refl)
@@ -117,17 +117,13 @@ idle-phase (suc zero) h = refl
 idle-phase (suc (suc zero)) h = refl
 idle-phase (suc (suc (suc p))) h = absurd (omega arith)
 
-pub cursor-phase : (p : ℕ) → 3 ≤ p → p ≤ lastConsumerPhase → (p ≡ 5 → ⊥) → (p ≡ 6 → ⊥) → (p ≡ 7 → ⊥) → (p ≡ 8 → ⊥) → getD consumerSorts p [] ≡ cursorSorts
-cursor-phase zero l h a b c d = absurd (omega arith)
-cursor-phase (suc zero) l h a b c d = absurd (omega arith)
-cursor-phase (suc (suc zero)) l h a b c d = absurd (omega arith)
-cursor-phase (suc (suc (suc zero))) l h a b c d = refl
-cursor-phase (suc (suc (suc (suc zero)))) l h a b c d = refl
-cursor-phase (suc (suc (suc (suc (suc zero))))) l h a b c d = absurd (a refl)
-cursor-phase (suc (suc (suc (suc (suc (suc zero)))))) l h a b c d = absurd (b refl)
-cursor-phase (suc (suc (suc (suc (suc (suc (suc zero))))))) l h a b c d = absurd (c refl)
-cursor-phase (suc (suc (suc (suc (suc (suc (suc (suc zero)))))))) l h a b c d = absurd (d refl)
-cursor-phase (suc (suc (suc (suc (suc (suc (suc (suc (suc p))))))))) l h a b c d = absurd (omega arith)
+pub cursor-phase : (p : ℕ) → 3 ≤ p → p < 5 → getD consumerSorts p [] ≡ cursorSorts
+cursor-phase zero l h = absurd (omega arith)
+cursor-phase (suc zero) l h = absurd (omega arith)
+cursor-phase (suc (suc zero)) l h = absurd (omega arith)
+cursor-phase (suc (suc (suc zero))) l h = refl
+cursor-phase (suc (suc (suc (suc zero)))) l h = refl
+cursor-phase (suc (suc (suc (suc (suc p))))) l h = absurd (omega arith)
 
 -- tests that agree below n
 pub every-same : (n : ℕ) (p q : ℕ → Bool) → ((i : ℕ) → i < n → p i ≡ q i) → every n p ≡ every n q

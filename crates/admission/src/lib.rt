@@ -201,7 +201,7 @@ fn producers_in_range(s: &[u32], z: Shape) -> bool
 }
 
 // Phase 0 to 8 of the consumer, and the words that the phase uses: cursor record and position, found record and position, the
-// item's call number and value.
+// item's call number and value. (3 and 4 stand before the match for speed: four cases would be an indirect jump.)
 fn consumer_in_range(s: &[u32], z: Shape) -> bool
     requires { ⌜ Room (sizes z) (now s) ⌝ }
     ensures { λ ok. ⌜ consumerInRange (sizes z) (reader (sizes z) (now (s .entry))) ≡ ok ⌝ }
@@ -216,12 +216,14 @@ fn consumer_in_range(s: &[u32], z: Shape) -> bool
     if phase < phase::SCAN {
         return row_at_most(s, at, 0, 0, 0, 0, 0, 0);
     }
+    if phase < phase::RESCAN {
+        return row_at_most(s, at, n, m, 0, 0, 0, 0);
+    }
     match phase {
         5 => row_at_most(s, at, n, m, n, m, 0, 0),
         6 => row_at_most(s, at, 0, 0, n, m, 0, 0),
         7 => row_at_most(s, at, 0, 0, n, m, m, ANY),
-        8 => row_at_most(s, at, 0, 0, 0, 0, m, ANY),
-        _ => row_at_most(s, at, n, m, 0, 0, 0, 0),
+        _ => row_at_most(s, at, 0, 0, 0, 0, m, ANY),
     }
 }
 

@@ -36,11 +36,6 @@ module _ {n v : ℕ} where
   late-adds (gaveItem m w ∷ es) a l = absurd (a .0)
   late-adds (gaveEmpty ∷ es) a l = absurd (a .0)
 
-  pub late-withdrawn : {g h : History} → Late n v g h → withdrawn g ≡ h
-  late-withdrawn marked = refl
-  late-withdrawn (thenStarted {t} {m} {w} l) = ap (λ (k : History). enqueueStarted t m w ∷ k) (late-withdrawn l)
-  late-withdrawn (thenEnded {t} {m} {w} l) = ap (λ (k : History). enqueueEnded t m w ∷ k) (late-withdrawn l)
-
   pub late-same : {g h : History} → Late n v g h → SameEnqueues g (gaveItem n v ∷ h)
   late-same marked =
       record {

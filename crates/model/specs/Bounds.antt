@@ -72,9 +72,6 @@ module _ (B : ℕ) (s : State) (i : Invariant B s) where
         let before : k < g = lt-of-mul-lt-mul-left B (omega arith) in
         omega arith
 
-    pub rescanning-before-found : c < f
-    rescanning-before-found = consumer-clause B s i _ e .2
-
     pub rescanning-inside : c ≢ B * k → (lo ≤ k) × (k ≤ tp) × Inside B c k
     rescanning-inside inside = let o = consumer-clause B s i _ e in omega arith
 

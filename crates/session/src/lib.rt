@@ -16,7 +16,7 @@ ghost use Rattle.rules.specs.Play.{events, endOfEnqueue, threadOf, valueOf};
 ghost use Rattle.store.specs.Outcome.{response};
 ghost use Rattle.store.specs.Shape.{sizes};
 ghost use Rattle.text.specs.Wrote.{Wrote};
-ghost use Rattle.protocol.specs.Printed.{printed, mostPrinted};
+ghost use Rattle.protocol.specs.Printed.{mostPrinted};
 ghost use Rattle.session.specs.Session.{mostInput, reopened, opening, output};
 ghost use Rattle.session.specs.Events.{Recorded, startFound, notedEvents, Records};
 ghost use Rattle.session.specs.Turns.{Turned, Finished, Answers, Ran, mostOutput};

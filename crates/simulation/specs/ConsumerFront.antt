@@ -7,7 +7,7 @@ use native.Mathlib.Omega.{arith}
 use lib.Dec.{eqb}
 use borrow.Author.Tests.{eqb-true, eqb-false}
 use Rattle.rules.specs.Sizes.{Sizes}
-use Rattle.rules.specs.Cell.{Reader, _:=_, tail, tailRecord, headRecord, headPosition, consumer, consumerPhase, cursorRecord, cursorPosition, foundRecord, foundPosition, place, next, used, state}
+use Rattle.rules.specs.Cell.{Reader, _:=_, tail, tailRecord, headRecord, headPosition, consumer, consumerPhase, cursorRecord, cursorPosition, foundRecord, foundPosition, place, used, state}
 use Rattle.rules.specs.Range.{number, record-number, idleSorts}
 use Rattle.rules.specs.Rule.{Effect, going, goes, upTo, atEnd, index, inside}
 use Rattle.rules.specs.Consumer.{moveHead, byState, front, readTail}

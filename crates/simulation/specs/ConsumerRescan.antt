@@ -3,7 +3,7 @@ use mathlib.Core.Path.{_≡_, refl, ap, ap₂, sym, _∙_}
 use mathlib.Core.Logic.{_≢_}
 use mathlib.Core.Bool.{cond}
 use mathlib.Core.List.{[], _∷_}
-use Prim.Native.Nat.{ℕ, suc, _*_, _≤_, _<_}
+use Prim.Native.Nat.{ℕ, suc, _*_, _≤_}
 use native.Mathlib.Omega.{arith}
 use lib.Dec.{eqb}
 use borrow.Author.Tests.{eqb-true, eqb-false}
@@ -19,7 +19,7 @@ use Rattle.model.specs.Invariant.{Invariant}
 use Rattle.model.specs.Moves.{withConsumer}
 use Rattle.model.specs.Dequeues.{consumer-clause}
 use Rattle.model.specs.Scanning.{rescan-cross, rescan-cross-done, rescan-again, rescan-front, rescan-pass, rescan-done}
-use Rattle.model.specs.Bounds.{rescanning-crosses, rescanning-before-found, rescanning-inside, rescanning-below-tail}
+use Rattle.model.specs.Bounds.{rescanning-crosses, rescanning-inside, rescanning-below-tail}
 use Rattle.memory.specs.Memory.{Memory}
 use Rattle.simulation.specs.View.{Ghost, placesOf, placeOf, view}
 use Rattle.simulation.specs.Good.{Good, Fine, by-need, by-cond, by-up-to}
@@ -44,9 +44,6 @@ module _ (z : Sizes) (σ : Reader) (γ : Ghost) (good : Good z σ γ) (e : σ co
 
   words : ConsumerWords z (λ j. σ (consumer j)) rescanSorts
   words = consumer-words z σ γ good 5 e
-
-  before-found : σ cursorPosition < σ foundPosition
-  before-found = rescanning-before-found (z .B) (view σ γ) (good .model) _ _ _ _ seen
 
   low : γ .shape .lo ≤ k
   low = consumer-clause (z .B) (view σ γ) (good .model) _ seen .3 .0

@@ -6,7 +6,7 @@ use Prim.Native.Nat.{ℕ, zero, suc, _+_, _*_, _≤_, _<_}
 use native.Mathlib.Omega.{arith}
 use lib.Dec.{eqb}
 use Rattle.history.specs.Lists.{All}
-use Rattle.history.specs.Event.{History, gaveItem}
+use Rattle.history.specs.Event.{gaveItem}
 use Rattle.criterion.specs.Late.{Late, withdrawn}
 use Rattle.criterion.specs.Settle.{settled-formed}
 use Rattle.rules.specs.Sizes.{Sizes}

@@ -30,6 +30,9 @@ returns-2 c = consumer-row (sizes (c .before .before .before .before .before .ar
 row-at-most-requires-2 : tie.Need-row-at-most-requires-2
 row-at-most-requires-2 c κs = search needs
 
+returns-3 : tie.Need-returns-3
+returns-3 c = consumer-row (sizes (c .before .before .before .before .before .before .args .z)) (now (c .before .before .before .before .before .before .args .s)) (λ j. omega (arith, c .before .before .before .before .shared-slice-known2 .given j)) _ cursorSorts refl (c .before .before .before .if1 .left) (cursor-phase _ (c .before .before .if2 .left) (c .before .if3 .taken)) refl refl ∙ c .row-at-most2 .ensures
+
 row-at-most-requires-3 : tie.Need-row-at-most-requires-3
 row-at-most-requires-3 c κs = search needs
 
@@ -42,24 +45,17 @@ row-at-most-requires-5 c κs = search needs
 row-at-most-requires-6 : tie.Need-row-at-most-requires-6
 row-at-most-requires-6 c κs = search needs
 
-returns-3 : tie.Need-returns-3
-returns-3 c = consumer-row (sizes (c .before .before .before .before .before .before .args .z)) (now (c .before .before .before .before .before .before .args .s)) (λ j. omega (arith, c .before .before .before .before .shared-slice-known2 .given j)) 5 rescanSorts (c .before .match .keys1) (omega arith) refl refl refl ∙ c .row-at-most2 .ensures
-
 returns-4 : tie.Need-returns-4
-returns-4 c = consumer-row (sizes (c .before .before .before .before .before .before .args .z)) (now (c .before .before .before .before .before .before .args .s)) (λ j. omega (arith, c .before .before .before .before .shared-slice-known2 .given j)) 6 foundSorts (c .before .match .keys2) (omega arith) refl refl refl ∙ c .row-at-most3 .ensures
+returns-4 c = consumer-row (sizes (c .before .before .before .before .before .before .before .args .z)) (now (c .before .before .before .before .before .before .before .args .s)) (λ j. omega (arith, c .before .before .before .before .before .shared-slice-known2 .given j)) 5 rescanSorts (c .before .match .keys1) (omega arith) refl refl refl ∙ c .row-at-most3 .ensures
 
 returns-5 : tie.Need-returns-5
-returns-5 c = consumer-row (sizes (c .before .before .before .before .before .before .args .z)) (now (c .before .before .before .before .before .before .args .s)) (λ j. omega (arith, c .before .before .before .before .shared-slice-known2 .given j)) 7 itemSorts (c .before .match .keys3) (omega arith) refl refl refl ∙ c .row-at-most4 .ensures
+returns-5 c = consumer-row (sizes (c .before .before .before .before .before .before .before .args .z)) (now (c .before .before .before .before .before .before .before .args .s)) (λ j. omega (arith, c .before .before .before .before .before .shared-slice-known2 .given j)) 6 foundSorts (c .before .match .keys2) (omega arith) refl refl refl ∙ c .row-at-most4 .ensures
 
 returns-6 : tie.Need-returns-6
-returns-6 c = consumer-row (sizes (c .before .before .before .before .before .before .args .z)) (now (c .before .before .before .before .before .before .args .s)) (λ j. omega (arith, c .before .before .before .before .shared-slice-known2 .given j)) 8 retiringSorts (c .before .match .keys4) (omega arith) refl refl refl ∙ c .row-at-most5 .ensures
+returns-6 c = consumer-row (sizes (c .before .before .before .before .before .before .before .args .z)) (now (c .before .before .before .before .before .before .before .args .s)) (λ j. omega (arith, c .before .before .before .before .before .shared-slice-known2 .given j)) 7 itemSorts (c .before .match .keys3) (omega arith) refl refl refl ∙ c .row-at-most5 .ensures
 
 returns-7 : tie.Need-returns-7
-returns-7 c =
-    let n = c .before .match .rest in
-    consumer-row (sizes (c .before .before .before .before .before .before .args .z)) (now (c .before .before .before .before .before .before .args .s)) (λ j. omega (arith, c .before .before .before .before .shared-slice-known2 .given j)) _ cursorSorts refl (c .before .before .before .if1 .left)
-    (cursor-phase _ (c .before .before .if2 .left) (c .before .before .before .if1 .left) (n .0 .0 .0 .1) (n .0 .0 .1) (n .0 .1) (n .1)) refl refl
-    ∙ c .row-at-most6 .ensures
+returns-7 c = consumer-row (sizes (c .before .before .before .before .before .before .before .args .z)) (now (c .before .before .before .before .before .before .before .args .s)) (λ j. omega (arith, c .before .before .before .before .before .shared-slice-known2 .given j)) 8 retiringSorts (omega (arith, c .before .before .before .before .if1, c .before .before .if3, c .before .match .rest)) (omega arith) refl refl refl ∙ c .row-at-most6 .ensures
 
 pub consumer-in-range-spec : {M : Type 1} → statement M
 consumer-in-range-spec =
@@ -72,11 +68,11 @@ consumer-in-range-spec =
     row-at-most-requires
     returns-2
     row-at-most-requires-2
+    returns-3
     row-at-most-requires-3
     row-at-most-requires-4
     row-at-most-requires-5
     row-at-most-requires-6
-    returns-3
     returns-4
     returns-5
     returns-6
