@@ -23,16 +23,16 @@ use enqueue::write_entry;
 use linking::link_ahead;
 use linking::link_claimed;
 use opening::open_store;
-use rescan::mark_handled;
-use rescan::read_item;
 use rescan::rescan_on;
-use rescan::retire_head;
 use starting::begin_dequeue;
 use starting::begin_enqueue;
 use store::Reply;
 use store::Shape;
 use store::read_consumer;
 use store::read_producer;
+use taking::mark_handled;
+use taking::read_item;
+use taking::retire_head;
 
 // *Step* (thread) on admitted words does one phase.
 fn step_thread(s: &mut [u32], z: Shape, t: u32) -> Reply

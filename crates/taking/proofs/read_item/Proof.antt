@@ -1,4 +1,4 @@
--- `rescan::read_item` meets its contract.
+-- `taking::read_item` meets its contract.
 use mathlib.Core.Path.{refl}
 use native.Mathlib.Omega.{arith}
 use borrow.Author.Needs.{needs}
@@ -6,8 +6,8 @@ use Rattle.rules.specs.Cell.{writes}
 use Rattle.rules.specs.Consumer.{readItem}
 use Rattle.rules.specs.Request.{applied}
 use Rattle.store.proofs.Slots.{at-there, stands-at, not-inside}
-use Rattle.rescan.proofs.read_item.Statement.{statement}
-use Rattle.rescan.proofs.read_item.Tie as tie
+use Rattle.taking.proofs.read_item.Statement.{statement}
+use Rattle.taking.proofs.read_item.Tie as tie
 
 read-consumer-requires : tie.Need-read-consumer-requires
 read-consumer-requires c κs = search needs

@@ -1,12 +1,12 @@
--- `rescan::retire_head` meets its contract.
+-- `taking::retire_head` meets its contract.
 use mathlib.Core.Path.{refl}
 use borrow.Author.Needs.{needs}
 use Rattle.rules.specs.Consumer.{retireHead}
 use Rattle.rules.specs.Request.{applied}
 use Rattle.store.specs.Branches.{some}
-use Rattle.rescan.proofs.AfterMove.{refused-move, made-move}
-use Rattle.rescan.proofs.retire_head.Statement.{statement}
-use Rattle.rescan.proofs.retire_head.Tie as tie
+use Rattle.taking.proofs.AfterMove.{refused-move, made-move}
+use Rattle.taking.proofs.retire_head.Statement.{statement}
+use Rattle.taking.proofs.retire_head.Tie as tie
 
 read-contents-requires : tie.Need-read-contents-requires
 read-contents-requires c κs = search needs

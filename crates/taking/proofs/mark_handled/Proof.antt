@@ -1,4 +1,4 @@
--- `rescan::mark_handled` meets its contract.
+-- `taking::mark_handled` meets its contract.
 use mathlib.Core.Path.{refl, sym, _∙_}
 use native.Mathlib.Omega.{arith}
 use borrow.Author.Needs.{needs}
@@ -7,8 +7,8 @@ use Rattle.rules.specs.Cell.{writes}
 use Rattle.rules.specs.Consumer.{markHandled}
 use Rattle.rules.specs.Request.{applied}
 use Rattle.store.proofs.Slots.{at-there, stands-at, not-inside}
-use Rattle.rescan.proofs.mark_handled.Statement.{statement}
-use Rattle.rescan.proofs.mark_handled.Tie as tie
+use Rattle.taking.proofs.mark_handled.Statement.{statement}
+use Rattle.taking.proofs.mark_handled.Tie as tie
 
 read-consumer-requires : tie.Need-read-consumer-requires
 read-consumer-requires c κs = search needs

@@ -1,9 +1,9 @@
--- `rescan::drained_at` meets its contract.
+-- `taking::drained_at` meets its contract.
 use mathlib.Core.Path.{refl}
 use native.Mathlib.Numerals.{add-one}
 use borrow.Author.Needs.{needs}
-use Rattle.rescan.proofs.drained_at.Statement.{statement}
-use Rattle.rescan.proofs.drained_at.Tie as tie
+use Rattle.taking.proofs.drained_at.Statement.{statement}
+use Rattle.taking.proofs.drained_at.Tie as tie
 
 record-end-requires : tie.Need-record-end-requires
 record-end-requires c κs = search needs

@@ -1,4 +1,4 @@
--- `rescan::mark_front` meets its contract.
+-- `taking::mark_front` meets its contract.
 use mathlib.Core.Path.{_≡_, refl}
 use Prim.Native.Nat.{suc, _-_}
 use native.Mathlib.Numerals.{add-one}
@@ -11,8 +11,8 @@ use Rattle.rules.specs.Consumer.{drainedAt}
 use Rattle.rules.specs.Request.{applied}
 use Rattle.store.specs.Shape.{sizes}
 use Rattle.store.specs.Branches.{some}
-use Rattle.rescan.proofs.mark_front.Statement.{statement}
-use Rattle.rescan.proofs.mark_front.Tie as tie
+use Rattle.taking.proofs.mark_front.Statement.{statement}
+use Rattle.taking.proofs.mark_front.Tie as tie
 
 read-contents-requires : tie.Need-read-contents-requires
 read-contents-requires c κs = search needs
