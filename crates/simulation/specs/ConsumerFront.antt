@@ -21,13 +21,13 @@ use Rattle.model.specs.Dequeues.{empty-at-head-end, empty-at-tail}
 use Rattle.model.specs.Scanning.{advance-head, front-found, front-blank, read-tail}
 use Rattle.model.specs.Bounds.{head-inside, gone-head-below-tail, read-head-below-tail}
 use Rattle.memory.specs.Memory.{Memory}
-use Rattle.simulation.specs.View.{Ghost, placesOf, placeOf, view}
+use Rattle.simulation.specs.View.{Ghost, view}
 use Rattle.simulation.specs.Good.{Good, Fine, by-need, by-cond, by-up-to}
 use Rattle.simulation.specs.Told.{tells-kept, not-yet}
 use Rattle.simulation.specs.Rows.{ConsumerWords, of-sort, has-sort}
 use Rattle.simulation.specs.Entries.{by-inside, slot, slot-state}
 use Rattle.simulation.specs.ConsumerRetire.{by-move-head, retires}
-use Rattle.simulation.specs.ConsumerSteps.{by-state, consumer-words, consumer-at, tail-fits, head-placed, head-linked, tail-record-is, not-tail-record, answers-empty, consumer-goes, consumer-light}
+use Rattle.simulation.specs.ConsumerSteps.{by-state, consumer-words, consumer-at, tail-fits, head-placed, head-linked, head-record-linked, head-record-placed, tail-record-is, not-tail-record, answers-empty, consumer-goes, consumer-light}
 
 module _ (z : Sizes) (σ : Reader) (γ : Ghost) (good : Good z σ γ) where
   m : Memory z σ (γ .shape)
@@ -67,10 +67,10 @@ module _ (z : Sizes) (σ : Reader) (γ : Ghost) (good : Good z σ γ) where
     idle-words = consumer-words z σ γ good 1 e
 
     linked : σ (used h) ≡ 2
-    linked = rw q at (head-linked z σ γ good)
+    linked = head-record-linked z σ γ good h q
 
     placed : σ (place h) ≡ γ .shape .lo
-    placed = ap (placeOf (placesOf σ)) (sym q) ∙ head-placed z σ γ good
+    placed = head-record-placed z σ γ good h q
 
     -- read the entry: handled advances the head; set goes to 6 with found the head; empty goes to 2
     abbrev readFront : ℕ → Effect

@@ -35,7 +35,7 @@ use Rattle.simulation.specs.Told.{tells-kept, not-yet}
 use Rattle.simulation.specs.Rows.{ConsumerWords, consumer-row-of, of-sort, has-sort}
 use Rattle.simulation.specs.Entries.{other-record, other-entry, by-inside, Slot, slot, slot-changes, slot-number, slot-value}
 use Rattle.simulation.specs.ConsumerCursor.{some-record}
-use Rattle.simulation.specs.ConsumerSteps.{consumer-words, consumer-at, tail-fits, head-placed, head-linked, not-tail-record, resting-in-range, consumer-goes, consumer-light}
+use Rattle.simulation.specs.ConsumerSteps.{consumer-words, consumer-at, tail-fits, head-record-linked, head-record-placed, not-tail-record, resting-in-range, consumer-goes, consumer-light}
 
 module _ (z : Sizes) (σ : Reader) (γ : Ghost) (good : Good z σ γ) where
   m : Memory z σ (γ .shape)
@@ -208,9 +208,8 @@ module _ (z : Sizes) (σ : Reader) (γ : Ghost) (good : Good z σ γ) where
       by-cond (Fine z σ γ (step 0)) (drainedAt z σ h (suc (σ headPosition))) _ _
       (λ d.
       let is = both (atEnd z σ h (suc (σ headPosition))) (not (eqb (σ tailRecord) (suc h))) d in
-      let linked : σ (used h) ≡ 2 = rw w at (head-linked z σ γ good) in
-      let placed : σ (place h) ≡ γ .shape .lo = ap (placeOf (placesOf σ)) (sym w) ∙ head-placed z σ γ good in
-      let other : σ (place h) ≢ γ .shape .tp = not-tail-record z σ γ good h linked (eqb-false (σ tailRecord) (suc h) (not-true (eqb (σ tailRecord) (suc h)) (is .1))) in
+      let placed : σ (place h) ≡ γ .shape .lo = head-record-placed z σ γ good h w in
+      let other : σ (place h) ≢ γ .shape .tp = not-tail-record z σ γ good h (head-record-linked z σ γ good h w) (eqb-false (σ tailRecord) (suc h) (not-true (eqb (σ tailRecord) (suc h)) (is .1))) in
       drains e r q s f room (eqb-true (suc (σ headPosition)) (z .B * σ (place h)) (is .0) ∙ ap (λ (x : ℕ). z .B * x) placed) (omega (arith, m .head-tail)))
       (λ d. takes-front e r q s f room))))
       (λ b. takes-item e r q s))

@@ -27,11 +27,11 @@ use Rattle.model.specs.Scanning.{retire-head}
 use Rattle.model.specs.Settling.{settle-keeps}
 use Rattle.memory.specs.Memory.{Memory}
 use Rattle.memory.specs.Retiring.{retireWrites, retire-keeps}
-use Rattle.simulation.specs.View.{Ghost, placesOf, placeOf, consumerOf, view, codeOf}
+use Rattle.simulation.specs.View.{Ghost, consumerOf, view, codeOf}
 use Rattle.simulation.specs.Good.{Good, Goes, Fine, untold, told, places-stay, by-need}
 use Rattle.simulation.specs.Rows.{of-sort, has-sort}
 use Rattle.simulation.specs.OwnWords.{later, consumer-keeps-good}
-use Rattle.simulation.specs.ConsumerSteps.{consumer-at, head-placed, head-linked, by-cross, resting-in-range}
+use Rattle.simulation.specs.ConsumerSteps.{consumer-at, head-record-linked, head-record-placed, by-cross, resting-in-range}
 
 -- what stands beside the store when the head record is retired
 abbrev retired : Ghost → Ghost
@@ -63,8 +63,8 @@ module _ (z : Sizes) (σ : Reader) (γ : Ghost) (good : Good z σ γ) where
     -- The move is from the record of place lo to the next one.
     pub by-move-head : (P : Effect → Type 0) (h : ℕ) → σ headRecord ≡ suc h → (f : List Write → Effect) → P (f moved) → P (moveHead z σ h f)
     by-move-head P h q f each =
-        let linked : σ (used h) ≡ 2 = rw q at (head-linked z σ γ good) in
-        let placed : lo ≡ σ (place h) = sym (head-placed z σ γ good) ∙ ap (placeOf (placesOf σ)) q in
+        let linked : σ (used h) ≡ 2 = head-record-linked z σ γ good h q in
+        let placed : lo ≡ σ (place h) = sym (head-record-placed z σ γ good h q) in
         by-cross z σ γ good P h (λ n p. f (retireWrites h n p)) linked (omega arith) (rw (← placed) position-fits)
         (λ n is u w.
         let a : γ .shape .at lo ≡ h = ap (γ .shape .at) placed ∙ m .chain .only h linked .2 in

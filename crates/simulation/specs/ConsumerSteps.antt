@@ -79,6 +79,14 @@ module _ (z : Sizes) (σ : Reader) (γ : Ghost) (good : Good z σ γ) where
       rw (good .memory .head-is)
       (good .memory .chain .linked (γ .shape .lo) (omega arith) (omega (arith, good .memory .head-tail, good .memory .tail-last)))
 
+  -- by its number
+  module _ (h : ℕ) (q : σ headRecord ≡ suc h) where
+    pub head-record-linked : σ (used h) ≡ 2
+    head-record-linked = rw q at head-linked
+
+    pub head-record-placed : σ (place h) ≡ γ .shape .lo
+    head-record-placed = ap (placeOf (placesOf σ)) (sym q) ∙ head-placed
+
   -- A linked record whose place is not the tail's: it is not the tail record, and it has a next, one place on.
   pub tail-record-is : (r : ℕ) → σ (used r) ≡ 2 → σ tailRecord ≡ suc r → σ (place r) ≡ γ .shape .tp
   tail-record-is r u e =
