@@ -6,6 +6,7 @@
  * Each producer enqueues ITEMS values, its number times 65,536 plus 0, 1, 2, ..; the host picks at random whose step is next, and now and
  * then stops a producer for a while. It prints what the consumer received and checks that each producer's values arrive whole and in the
  * order in which it enqueued them. Calls of two producers that overlap have no order between them: call 4 may come out before call 1.
+ * It prints how many steps the longest call of each kind took, and checks that the replies count a call's steps as the host does.
  *
  * It starts no enqueue where intake_has_room says no, so that no step meets refusal 8 (docs/STEPS.md, "Room").
  */
@@ -40,7 +41,7 @@ int main(int argc, char **argv) {
     uint32_t seed = argc > 1 ? (uint32_t)strtoul(argv[1], NULL, 10) : 1;
     uint32_t items = argc > 2 ? (uint32_t)strtoul(argv[2], NULL, 10) : 500;
     uint32_t sent[PRODUCERS + 1] = {0}, received[PRODUCERS + 1] = {0}, busy[PRODUCERS + 1] = {0}, stopped[PRODUCERS + 1] = {0};
-    uint32_t total = 0, empties = 0;
+    uint32_t taken[PRODUCERS + 1] = {0}, longest_enqueue = 0, longest_dequeue = 0, total = 0, empties = 0;
     uint64_t steps = 0;
 
     if (items == 0 || items > 60000) fail("items must be 1 to 60000, not", items);
@@ -69,19 +70,22 @@ int main(int argc, char **argv) {
         }
         answer = intake_step(store, words, thread, reply);
         steps++;
+        if (answer >= INTAKE_GOING && reply[2] != ++taken[thread]) fail("steps of a call counted otherwise", reply[2]);
+        if (answer > INTAKE_GOING) { /* the call has ended */
+            uint32_t *longest = thread > 0 ? &longest_enqueue : &longest_dequeue;
+            if (reply[2] > *longest) *longest = reply[2];
+            busy[thread] = taken[thread] = 0;
+        }
+        if (longest_dequeue > INTAKE_MOST_DEQUEUE_STEPS(ENTRIES, RECORDS)) fail("a dequeue of too many steps", longest_dequeue);
         switch (answer) {
         case INTAKE_GOING:
-            break;
         case INTAKE_END:
-            busy[thread] = 0;
             break;
         case INTAKE_EMPTY:
-            busy[thread] = 0;
             empties++;
             break;
         case INTAKE_ITEM: {
             uint32_t from = reply[1] / 65536, place = reply[1] % 65536;
-            busy[thread] = 0;
             if (total < PRINTED) printf("call %u: producer %u, its item %u\n", (unsigned)reply[0], (unsigned)from, (unsigned)place);
             if (total == PRINTED) printf("..\n");
             if (from < 1 || from > PRODUCERS || place != received[from]) fail("an item out of its producer's order", reply[1]);
@@ -96,6 +100,7 @@ int main(int argc, char **argv) {
             fail("step", answer);
         }
     }
+    printf("longest enqueue %u steps, longest dequeue %u steps\n", (unsigned)longest_enqueue, (unsigned)longest_dequeue);
     printf("%u items received, each producer's in its order; %llu steps, %u empty answers\n", (unsigned)total, (unsigned long long)steps,
            (unsigned)empties);
     return 0;

@@ -16,8 +16,9 @@
  * stack.
  *
  * Every start and step first looks whether each word of the store is in its range, and refuses with 3 if one is not. Damage that stays in
- * range is not seen then: such a store may be followed, or refused with 9, or send a call round in a circle. So a loop over INTAKE_GOING
- * needs a limit where something else may have written the store. No memory but what was lent is touched.
+ * range is not seen then: such a store may be followed, or refused with 9, or send a call round in a circle, which ends with 9 only when
+ * INTAKE_MOST_STEPS steps have been counted. So a loop over INTAKE_GOING needs a limit where something else may have written the store. No
+ * memory but what was lent is touched.
  */
 #ifndef INTAKE_H
 #define INTAKE_H
@@ -30,7 +31,7 @@ extern "C" {
 #endif
 
 /* Grows when a call, a number or a word of the store changes its meaning. */
-#define INTAKE_VERSION 3
+#define INTAKE_VERSION 4
 
 /* What the calls return. */
 enum {
@@ -58,6 +59,14 @@ enum { INTAKE_ENTRIES = 0, INTAKE_RECORDS = 1, INTAKE_PRODUCERS = 2, INTAKE_TAIL
 #define INTAKE_WORDS(entries, records, producers) (16u + 8u * ((producers) + 1u) + (records) * (3u * (entries) + 4u))
 #define INTAKE_MOST_WORDS 12696u
 
+/* The most steps of one call that are counted: the step after them is refused with 9. */
+#define INTAKE_MOST_STEPS 100000000u
+
+/* The most steps that a dequeue takes on a store of these sizes that only the engine has written, whatever steps others make in between:
+ * at most 8,675,745, for 64 and 64. */
+#define INTAKE_MOST_DEQUEUE_STEPS(entries, records) \
+    ((records) * (5u * (entries) + 3u) + 3u * (entries) + 1u + (records) * ((entries) + 1u) * ((records) * ((entries) + 1u) + 1u) / 2u)
+
 /* The fewest records with which intake_has_room says yes of an empty store: 2 * producers + 4, and more if producers are above entries. */
 #define INTAKE_LEAST_RECORDS(entries, producers) (2u * (producers) + 3u + ((producers) + (entries) - 1u) / (entries))
 
@@ -80,7 +89,9 @@ uint32_t intake_start_enqueue(uint32_t *store, size_t words, uint32_t producer, 
 uint32_t intake_start_dequeue(uint32_t *store, size_t words);
 
 /* One step of a thread: 0 the consumer, 1 to producers the producers. Returns INTAKE_GOING, _END, _EMPTY or _ITEM; or refusal 2 to 4, 7 to 9.
- * On INTAKE_ITEM reply[0] is the call number of the item's enqueue and reply[1] its value; otherwise reply stays as it is. */
+ * On INTAKE_ITEM reply[0] is the call number of the item's enqueue and reply[1] its value; otherwise they stay as they are. On every accepted
+ * step reply[2] is the number of accepted steps of that call so far, this one included; on a store that something else has written it is the
+ * stored number plus one. reply[3] stays as it is. */
 uint32_t intake_step(uint32_t *store, size_t words, uint32_t thread, uint32_t reply[4]);
 
 #ifdef __cplusplus

@@ -1,8 +1,10 @@
-"""Stores on which producer 1 is about to claim a record: any record claimed last, any uses, any records held."""
+"""Stores on which producer 1 is about to claim a record: any record claimed last, any uses, any records held, any number
+of steps."""
 
 import itertools
 
 import intake_model as im
+import step_counts
 
 B, M = 2, 9
 
@@ -19,7 +21,8 @@ def claiming(rng, uses, last):
     for t in range(1, P + 1):
         phase, claimed = (5, rng.randint(0, N)) if t > 1 else (rng.choice((4, 10)), 0)
         own = im.CONTENTS + im.THREAD_WORDS * t
-        words[own : own + im.THREAD_WORDS] = [phase, 1, 7, 0, rng.randint(0, N), claimed, 0, 0]
+        steps = step_counts.drawn(rng)
+        words[own : own + im.THREAD_WORDS] = [phase, 1, 7, 0, rng.randint(0, N), claimed, 0, steps]
     return words
 
 

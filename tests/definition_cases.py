@@ -14,6 +14,7 @@ import claim_stores
 import intake_model as im
 import judge_model as jm
 import leaving_stores
+import step_counts
 import test_judge
 
 CRATES = Path(__file__).resolve().parent.parent / 'crates'
@@ -180,6 +181,7 @@ def random_word(rng, sizes):
     """A small word, one at the edge of some range, or a huge one."""
     B, N, P, M = sizes
     edges = (B, N, N + 1, M - 1, M, M + 1, 3, 8, 9, 11, 12, im.MAX_PLACE, im.MAX_PLACE + 1)
+    edges += (im.MOST_STEPS, im.MOST_STEPS + 1)
     return rng.choice((rng.randint(0, 5), rng.randint(0, 5), rng.choice(edges), rng.choice(BIG)))
 
 
@@ -206,7 +208,8 @@ def wild(rng, kind, phase):
     for t in range(P + 1):
         limits = producer if t else consumer
         at = phase if t == thread else rng.randrange(len(limits))
-        words += [at] + [up_to(limit) for limit in limits[at][1:]]
+        words += [at] + [up_to(limit) for limit in limits[at][1:-1]]
+        words.append(step_counts.drawn(rng) if at else 0)
     for _ in range(N):
         place = rng.choice((0, 1, 1, 2, 2, 3, im.MAX_PLACE - 1, im.MAX_PLACE))
         words += [place, up_to(N), up_to(N), rng.randint(0, 3)]
@@ -237,7 +240,7 @@ def sharpen(rng, words, thread):
     if thread and phase in (4, 10):
         for other in (t for t in range(1, P + 1) if t != thread):
             start = im.CONTENTS + im.THREAD_WORDS * other
-            words[start : start + im.THREAD_WORDS] = [5, 1, 7, 0, rng.randint(0, N), rng.randint(0, N), 0, 0]
+            words[start : start + im.THREAD_WORDS] = [5, 1, 7, 0, rng.randint(0, N), rng.randint(0, N), 0, 4]
         for number in range(1, N + 1):
             words[record_at(words, number) + im.USE] = rng.choice((1, 2, 3, 3, 3))
     elif thread and phase in (5, 11):
@@ -306,6 +309,26 @@ def with_another_last(rng, store):
     return answer(words, likely_call(rng, words))
 
 
+def with_another_count(rng, store):
+    """A store of the model on which some thread has another number of steps, and a step of it; an idle thread now and
+    then."""
+    words = list(store)
+    t = rng.choice(busy(words)) if busy(words) and rng.random() < 0.9 else rng.randint(0, words[2])
+    return answer(step_counts.with_steps(words, t, rng.choice(step_counts.EDGES)), ('s', t))
+
+
+def last_counts(stores):
+    """A step that is accepted and one that is refused with 8, for each thread, phase and reply of the model's stores, with
+    the last numbers of steps and one past them."""
+    found = {}
+    for store in stores:
+        for t in busy(store):
+            reply = im.step(list(store), t)
+            found.setdefault((t > 0, store[im.CONTENTS + im.THREAD_WORDS * t], reply[0]), (store, t))
+    last = (im.MOST_STEPS - 1, im.MOST_STEPS, im.MOST_STEPS + 1)
+    return [answer(step_counts.with_steps(store, t, k), ('s', t)) for store, t in found.values() for k in last]
+
+
 def of_another_length(rng, store):
     """A store of the model that is cut short, or lent with more words, sometimes with a size out of its limits."""
     needed = im.needed_words(*store[:3])
@@ -356,10 +379,10 @@ def singles(seed, stores, count):
     rng = random.Random(seed)
     phases = [('producer', p) for p in range(1, 12)] + [('consumer', p) for p in range(1, 9)]
     late = [store for store in stores if store[im.CONTENTS] in (7, 8)]
-    cases = edges() + letting_go(rng, 70)
+    cases = edges() + letting_go(rng, 70) + last_counts(stores)
     while len(cases) < count:
         store = rng.choice(stores)
-        kind = len(cases) % 24
+        kind = len(cases) % 25
         if kind < 4:
             cases.append(damaged(rng, store))
         elif kind < 14:
@@ -376,6 +399,8 @@ def singles(seed, stores, count):
             cases.append(with_another_last(rng, store))
         elif kind < 23:
             cases.append(damaged(rng, rng.choice(late), ('s', 0)))
+        elif kind < 24:
+            cases.append(with_another_count(rng, store))
         else:
             cases.append(opening(rng))
     return cases
@@ -456,11 +481,12 @@ def changed_at(items, k, change):
     return [change(item) if j == k else item for j, item in enumerate(items)]
 
 
-def another_reply(reply):
-    """A reply with another number; if it has none, another reply."""
-    if len(reply) > 1:
-        return reply[:-1] + (another(reply[-1]),)
-    return ('end',) if reply == ('going',) else ('going',)
+def another_reply(rng, reply):
+    """A reply with another number, be it the number of steps or not; if it has none, another reply."""
+    if len(reply) == 1:
+        return ('going', 0)
+    k = rng.randrange(1, len(reply))
+    return reply[:k] + (another(reply[k]),) + reply[k + 1 :]
 
 
 def another_event(event):
@@ -477,7 +503,7 @@ def with_one_wrong_value(rng, case):
         replies, words, left, history = case.expected
         part = rng.choice(['reply', 'word'] + ['item'] * bool(left) + ['event'] * bool(history))
         if part == 'reply':
-            replies = changed_at(replies, rng.randrange(len(replies)), another_reply)
+            replies = changed_at(replies, rng.randrange(len(replies)), lambda reply: another_reply(rng, reply))
         elif part == 'word':
             words = changed_at(words, rng.randrange(len(words)), another)
         elif part == 'item':
@@ -488,13 +514,13 @@ def with_one_wrong_value(rng, case):
     if isinstance(case, Single):
         reply, words = case.expected
         if not words or rng.random() < 0.5:
-            return case._replace(expected=(another_reply(reply), words))
+            return case._replace(expected=(another_reply(rng, reply), words))
         return case._replace(expected=(reply, changed_at(words, rng.randrange(len(words)), another)))
     if isinstance(case, Claim):
         return case._replace(expected=another(case.expected))
     verdict = case.expected
     if verdict[0] == 'refused':
-        return case._replace(expected=another_reply(verdict))
+        return case._replace(expected=another_reply(rng, verdict))
     word, rows = verdict
     if not rows or rng.random() < 0.5:
         return case._replace(expected=('explained' if word == 'unexplained' else 'unexplained', rows))
@@ -566,12 +592,15 @@ def request_term(call):
 
 
 def response_term(reply):
-    words = {('ok',): 'ok', ('going',): 'going', ('end',): 'ended', ('empty',): 'empty'}
-    if reply[0] == 'refused':
-        return f'refused {reply[1]}'
-    if reply in words:
-        return f'accepted {words[reply]}'
-    return f'accepted ({"started" if reply[0] == "ok" else "item"} {" ".join(map(str, reply[1:]))})'
+    """A reply with its number of steps; that of an open and of a start is 0."""
+    kind, *numbers = reply
+    if kind == 'refused':
+        return f'refused {numbers[0]}'
+    if kind == 'ok':
+        return f'accepted (started {numbers[0]}) 0' if numbers else 'accepted ok 0'
+    if kind == 'item':
+        return 'accepted (item {} {}) {}'.format(*numbers)
+    return f'accepted {"ended" if kind == "end" else kind} {numbers[0]}'
 
 
 def event_term(event):
@@ -667,7 +696,7 @@ use Rattle.rules.specs.Free.{free, nextFree}
 use Rattle.rules.specs.Rule.{Response}
 use Rattle.rules.specs.Producer.{takePosition, loadTail, lookNext, claimRecord, linkClaimed, shiftTail, goBack, writeEntry, setEntry, claimAhead, linkAhead, producerStep}
 use Rattle.rules.specs.Consumer.{front, readTail, scan, readEntry, rescan, readItem, markHandled, retireHead, consumerStep}
-use Rattle.rules.specs.Request.{Request, Result, applied, opened, open-store, startingEnqueue, startingDequeue, stepping, effect, sizesOf, admitted, result}
+use Rattle.rules.specs.Request.{Request, Result, applied, opened, open-store, startingEnqueue, startingDequeue, phaseStep, counted, stepping, effect, sizesOf, admitted, result}
 use Rattle.rules.specs.Play.{Played, play, itemsLeft}
 
 -- an open of lent words, and requests after it
@@ -718,9 +747,9 @@ next m = let z = sizesOf m in nextFree z (reader z m)
 """
 STORE = STORE.replace(
     'UNFOLDED',
-    'result admitted applied effect startingEnqueue startingDequeue stepping open-store opened reader writes inRange '
-    'free nextFree takePosition loadTail lookNext claimRecord linkClaimed shiftTail goBack writeEntry setEntry '
-    'claimAhead linkAhead producerStep front readTail scan readEntry rescan readItem markHandled retireHead '
+    'result admitted applied effect startingEnqueue startingDequeue stepping counted phaseStep open-store opened reader '
+    'writes inRange free nextFree takePosition loadTail lookNext claimRecord linkClaimed shiftTail goBack writeEntry '
+    'setEntry claimAhead linkAhead producerStep front readTail scan readEntry rescan readItem markHandled retireHead '
     'consumerStep',
 )
 

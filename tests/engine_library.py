@@ -48,13 +48,13 @@ class Engine:
 
 
 def expected(reply):
-    """What the interface returns for a reply of the model, and the reply buffer then."""
+    """What the interface returns for a reply of the model, and the reply buffer then: the number of steps is its third
+    word, and a refusal leaves all four."""
     mark = list(Engine.MARK)
-    kind = reply[0]
+    kind, *numbers = reply
     if kind == 'refused':
-        return reply[1], mark
+        return numbers[0], mark
     if kind == 'ok':
-        return 0, ([reply[1]] if len(reply) == 2 else mark[:1]) + mark[1:]
-    if kind == 'item':
-        return ITEM, [reply[1], reply[2]] + mark[2:]
-    return {'going': GOING, 'end': END, 'empty': EMPTY}[kind], mark
+        return 0, numbers + mark[len(numbers) :]
+    *item, steps = numbers
+    return {'going': GOING, 'end': END, 'empty': EMPTY, 'item': ITEM}[kind], [*item, *mark[len(item) : 2], steps, mark[3]]

@@ -7,11 +7,14 @@ import random
 import sys
 import time
 from collections import deque
+from functools import lru_cache
 from typing import NamedTuple
 
 import intake_model as im
 import invariants
 import judge_model as jm
+import measures
+import step_counts
 
 
 def value_of(call):
@@ -58,6 +61,8 @@ HISTORY_CASES = (
 EXPECTED_REFUSALS = (4, 5, 6, 7, 8)  # on a store that only the engine has written
 ALL_ORDERS_CALLS = 9  # histories of at most so many calls are tried in all orders
 RANDOM_RUNS = 500
+STALLED_RUNS = 200
+SOME_STEPS = 9
 
 
 class Result(NamedTuple):
@@ -91,6 +96,16 @@ def after(words, call, engine):
     return words, reply
 
 
+def alike(words):
+    """The words with SOME_STEPS as the number of steps of every call under way. No rule looks at these numbers before
+    their end, so states that differ in them alone are followed once, and are as many as without them. Each call is held
+    to what it must do to them (`step_counts.miscounted`); random runs keep them and count for themselves."""
+    words = list(words)
+    for own in range(im.CONTENTS, words[5], im.THREAD_WORDS):
+        words[own + im.STEPS] = SOME_STEPS if words[own] else 0
+    return words
+
+
 def wrong_reply(reply):
     return reply[0] == 'refused' and reply[1] not in EXPECTED_REFUSALS
 
@@ -109,14 +124,16 @@ def state_after(words, calls, engine, ghost):
     for call in calls:
         before, (words, reply) = words, after(words, call, engine)
         ghost = ghost.after(call, before, reply)
-    return bytes(words), ghost
+    return bytes(alike(words)), ghost
 
 
 def explore(B, N, P, M, first=(), engine=im.Intake, limit=None, clauses=None):
     """Breadth first over words and ghost, all interleavings, from the state after the calls `first` on, until a clause
-    fails. The words of a small case are below 256, so a state keeps them as bytes."""
+    fails, or a call is wrong in its number of steps or its measure. The words of a small case are below 256, so a state
+    keeps them as bytes."""
     start = state_after(open_words(B, N, P, M), first, engine, invariants.Ghost())
-    came_from, queue, transitions = {start: None}, deque([start]), 0
+    came_from, queue, transitions, measured_from = {start: None}, deque([start]), 0, set()
+    measured = lru_cache(maxsize=None)(lambda packed: measures.measures(list(packed)))
     while queue:
         state = queue.popleft()
         packed, ghost = state
@@ -124,13 +141,19 @@ def explore(B, N, P, M, first=(), engine=im.Intake, limit=None, clauses=None):
         bad = invariants.broken(words, ghost, clauses)
         if bad:
             return Result(len(came_from), transitions, False, (trace(came_from, state), bad))
+        again = packed in measured_from  # with another ghost
+        measured_from.add(packed)
         for call in moves(words):
             words_after, reply = after(words, call, engine)
             transitions += 1
-            if wrong_reply(reply):
-                calls = trace(came_from, state) + [call]
-                return Result(len(came_from), transitions, False, (calls, [f'reply {reply}']))
-            following = (bytes(words_after), ghost.after(call, words, reply))
+            packed_after = bytes(alike(words_after))
+            bad = [f'reply {reply}'] if wrong_reply(reply) else []
+            if reply[0] != 'refused' and not again:
+                bad = step_counts.miscounted(call, reply, words, words_after)
+                bad += measures.broken(call, reply, words, measured(packed), measured(packed_after))
+            if bad:
+                return Result(len(came_from), transitions, False, (trace(came_from, state) + [call], bad))
+            following = (packed_after, ghost.after(call, words, reply))
             if following not in came_from:
                 if limit is not None and len(came_from) >= limit:
                     return Result(len(came_from), transitions, False, None)
@@ -169,7 +192,7 @@ def kept_or_told_wrong(words, ghost, explained):
 
 def explore_histories(B, N, P, M, depth, first=(), engine=im.Intake):
     """Every list of at most `depth` accepted calls after the calls `first`, with demand 3 checked by all orders after
-    each call. States that agree in words and histories are followed once."""
+    each call. States that agree in histories and words, numbers of steps aside, are followed once."""
     states = {state_after(open_words(B, N, P, M), first, engine, invariants.listed())}
     met, transitions, verdicts = len(states), 0, {}
     for _ in range(depth):
@@ -186,7 +209,7 @@ def explore_histories(B, N, P, M, depth, first=(), engine=im.Intake):
                     verdicts[key] = bad if demand_3_small(words_after, longer.told) else ['demand 3']
                 if verdicts[key] or wrong_reply(reply):
                     return Result(met, transitions, False, ([longer.told], verdicts[key] or [f'reply {reply}']))
-                following.add((bytes(words_after), longer))
+                following.add((bytes(alike(words_after)), longer))
         met += len(following)
         states = following
     return Result(met, transitions, False, None)
@@ -213,12 +236,13 @@ def random_call(rng, words, threads):
 
 
 def random_run(seed, calls=250, engine=im.Intake):
-    """One random run with every clause checked after each accepted call and demand 3 at each dequeue's end and at the
-    end. In bursts only some threads move, so that others stop anywhere. Gives (accepted calls, violation)."""
+    """One random run with every clause, the numbers of steps and the measures checked after each accepted call, and
+    demand 3 at each dequeue's end and at the end. In bursts only some threads move, so that others stop anywhere. Gives
+    (accepted calls, violation)."""
     rng = random.Random(seed)
     B, N, P, M = random_sizes(rng)
     recorder = im.Recorder(B, N, P, M, engine=engine)
-    ghost, lists, accepted = invariants.Ghost(), invariants.listed(), 0
+    ghost, lists, lengths, accepted = invariants.Ghost(), invariants.listed(), measures.Lengths(recorder.words), 0
     threads = list(range(P + 1))
     for k in range(calls):
         if k % 20 == 0:
@@ -234,7 +258,7 @@ def random_run(seed, calls=250, engine=im.Intake):
             continue
         accepted += 1
         ghost, lists = ghost.after(call, before, reply), lists.after(call, before, reply)
-        bad = invariants.broken(recorder.words, ghost)
+        bad = invariants.broken(recorder.words, ghost) + lengths.wrong(call, reply, before, recorder.words)
         bad = bad or kept_or_told_wrong(recorder.words, lists, jm.explained_in_time)
         if not bad and (reply[0] in ('item', 'empty') or k == calls - 1 or not recorder.starts):
             bad = demand_3_broken(recorder)
@@ -263,6 +287,44 @@ def random_runs(seeds, engine=im.Intake):
     return total, None
 
 
+def stalled_run(seed, calls=600, engine=im.Intake):
+    """One random run of few records whose producers stand still for long, some of them for good, so that steps meet 8;
+    numbers of steps and measures checked after each accepted call. Gives (accepted calls, refusals 8, violation)."""
+    rng = random.Random(seed)
+    P = rng.randint(1, 8)
+    words = open_words(rng.choice((2, 2, 3, 4)), rng.randint(2, 5), P, rng.choice((20, 1_000)))
+    lengths, accepted, met, gone = measures.Lengths(words), 0, 0, set()
+    for k in range(calls):
+        if k % 40 == 0:
+            if rng.random() < 0.1:
+                gone.add(rng.randint(1, P))
+            threads = [t for t in rng.sample(range(P + 1), rng.randint(1, P + 1)) if t not in gone] or [0]
+        t = rng.choice(threads)
+        busy = words[im.CONTENTS + im.THREAD_WORDS * t]
+        call = ('s', t) if busy else ('e', t, k) if t else ('d',)
+        before, (words, reply) = words, after(words, call, engine)
+        if reply[0] == 'refused':
+            met += reply[1] == 8
+            bad = [f'reply {reply}'] if wrong_reply(reply) else []
+        else:
+            accepted += 1
+            bad = lengths.wrong(call, reply, before, words)
+        if bad:
+            return accepted, met, (seed, k, call, bad)
+    return accepted, met, None
+
+
+def stalled_runs(seeds, engine=im.Intake):
+    """Such runs for a range of seeds: (accepted calls, refusals 8, the first violation or None)."""
+    accepted = met = 0
+    for seed in seeds:
+        more, more_met, violation = stalled_run(seed, engine=engine)
+        accepted, met = accepted + more, met + more_met
+        if violation:
+            return accepted, met, violation
+    return accepted, met, None
+
+
 def main(arguments):
     cases = [tuple(map(int, arguments))] if arguments else SMALL_CASES + LATER_CASES
     for case in cases:
@@ -271,6 +333,7 @@ def main(arguments):
         for case in HISTORY_CASES:
             report('histories', case[:5], explore_histories, *case)
         report('random runs', RANDOM_RUNS, random_runs, range(RANDOM_RUNS))
+        report('stalled runs', STALLED_RUNS, stalled_runs, range(STALLED_RUNS))
 
 
 def report(what, case, run, *arguments):

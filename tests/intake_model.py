@@ -1,12 +1,13 @@
-"""An independent model of the Jiffy intake, written by hand from document 01 and from U1 and U2 of document 02.
+"""An independent model of the Jiffy intake, written by hand from document 01 and from U1 to U3 of document 02.
 
 The store is a list of 32-bit words. `open_store`, `start_enqueue`, `start_dequeue` and `step` change the list only
 when they accept, and answer one of
 
-    ('ok',)  ('ok', call)  ('going',)  ('end',)  ('empty',)  ('item', call, value)  ('refused', number)
+    ('ok',)  ('ok', call)  ('refused', number)
+    ('going', steps)  ('end', steps)  ('empty', steps)  ('item', call, value, steps)
 
-Each phase is one method of `Intake`, under the sentence of the papers that it renders. A wrong engine for a test is
-a subclass that overrides one method.
+where steps is the number of accepted steps of that call so far. Each phase is one method of `Intake`, under the
+sentence of the papers that it renders. A wrong engine for a test is a subclass that overrides one method.
 """
 
 from functools import lru_cache
@@ -14,23 +15,25 @@ from operator import le
 
 U32 = 2**32 - 1
 MAX_PLACE = 500_002
+MOST_STEPS = 100_000_000
 LIMITS = ((2, 64), (2, 64), (1, 16), (1, 1_000_000))  # of B, N, P, M
 
 # Contents.
 CONTENTS = 16
 TAIL, TAIL_RECORD, HEAD_RECORD, HEAD_POSITION, STARTS, LAST_CLAIMED, SPARE = range(6, 13)
 
-# Thread words: phase for both, then the producer's, then the consumer's.
+# Thread words: phase and the call's accepted steps for both, then the producer's, then the consumer's.
 THREAD_WORDS = 8
-PHASE = 0
+PHASE, STEPS = 0, 7
 CALL, VALUE, POSITION, HELD, CLAIMED, BACK = range(1, 7)
 CURSOR, CURSOR_POSITION, FOUND, FOUND_POSITION, ITEM_CALL, ITEM_VALUE = range(1, 7)
 LAST_PRODUCER_PHASE, LAST_CONSUMER_PHASE = 11, 8
 
 # The words in use in each phase; the others are zero then.
-PRODUCER_USES = [(), (0, 1, 2)] + [(0, 1, 2, 3, 4, 6)] * 3 + [(0, 1, 2, 3, 4, 5, 6)]
-PRODUCER_USES += [(0, 1, 2, 3, 4, 6)] * 4 + [(0, 1, 2, 3, 4), (0, 1, 2, 3, 4, 5)]
-CONSUMER_USES = [(), (0,), (0,), (0, 1, 2), (0, 1, 2), (0, 1, 2, 3, 4), (0, 3, 4), (0, 3, 4, 5, 6), (0, 5, 6)]
+PRODUCER_USES = [(), (0, 1, 2, 7)] + [(0, 1, 2, 3, 4, 6, 7)] * 3 + [(0, 1, 2, 3, 4, 5, 6, 7)]
+PRODUCER_USES += [(0, 1, 2, 3, 4, 6, 7)] * 4 + [(0, 1, 2, 3, 4, 7), (0, 1, 2, 3, 4, 5, 7)]
+CONSUMER_USES = [(), (0, 7), (0, 7), (0, 1, 2, 7), (0, 1, 2, 7), (0, 1, 2, 3, 4, 7)]
+CONSUMER_USES += [(0, 3, 4, 7), (0, 3, 4, 5, 6, 7), (0, 5, 6, 7)]
 
 # Record words, uses of a record and states of an entry.
 RECORD_HEAD, ENTRY_WORDS = 4, 3
@@ -39,7 +42,7 @@ USE_FREE, USE_CLAIMED, USE_LINKED, USE_RETIRED = range(4)
 STATE, ENTRY_CALL, ENTRY_VALUE = range(3)
 EMPTY, SET, HANDLED = range(3)
 
-GOING, END, NOTHING = ('going',), ('end',), ('empty',)
+GOING, END, NOTHING = ('going',), ('end',), ('empty',)  # of a phase; the number of steps comes after
 
 
 class Refused(Exception):
@@ -69,8 +72,8 @@ def sizes_allowed(sizes):
 @lru_cache(maxsize=256)
 def thread_limits(N, M):
     """The greatest allowed thread words, by phase: (the consumer's, a producer's)."""
-    consumer = (LAST_CONSUMER_PHASE, N, M, N, M, M, U32, 0)
-    producer = (LAST_PRODUCER_PHASE, M, U32, M, N, N, 1, 0)
+    consumer = (LAST_CONSUMER_PHASE, N, M, N, M, M, U32, MOST_STEPS)
+    producer = (LAST_PRODUCER_PHASE, M, U32, M, N, N, 1, MOST_STEPS)
 
     def by_phase(tops, uses):
         return [tuple(top if k in used else 0 for k, top in enumerate(tops)) for used in uses]
@@ -219,7 +222,16 @@ class Intake:
         """One phase of thread t."""
         self.own = CONTENTS + THREAD_WORDS * t
         names = self.PRODUCER if t else self.CONSUMER
-        return getattr(self, names[self.mine(PHASE)])()
+        so_far = self.mine(STEPS)
+        return self.counted(getattr(self, names[self.mine(PHASE)])(), so_far)
+
+    def counted(self, reply, so_far):
+        """Every accepted step's reply carries the number of accepted steps of that call so far, this one included. It
+        is kept in a word of the thread; the step that would take it out of its range is refused."""
+        need(so_far < MOST_STEPS)
+        if reply == GOING:
+            self.put(STEPS, so_far + 1)
+        return reply + (so_far + 1,)
 
     # Words.
 
@@ -600,11 +612,11 @@ def event(call, reply, start):
         return (1, call[1], reply[1], call[2])
     if call[0] == 'd':
         return (3, 0, 0, 0)
-    if reply == END:
+    if reply[0] == 'end':
         return (2,) + start[1:]
-    if reply == NOTHING:
+    if reply[0] == 'empty':
         return (5, 0, 0, 0)
-    return (4, 0) + reply[1:]
+    return (4, 0) + reply[1:3]
 
 
 class Recorder:

@@ -112,7 +112,7 @@ class Ghost(NamedTuple):
         event = im.event(call, reply, told.start_of(thread))
         if event:
             told = told.with_event(event)
-        if not thread and phase == 7 and reply == im.GOING:
+        if not thread and phase == 7 and reply[0] == 'going':
             item = tuple(words[im.CONTENTS + k] for k in (im.ITEM_CALL, im.ITEM_VALUE))
             return Ghost(own, self.kept.with_event((4, 0) + item).with_event(STARTED), told, item)
         if not thread and phase == 8 and reply[0] == 'item' or self.kept == self.told:

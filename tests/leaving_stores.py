@@ -1,9 +1,11 @@
 """Stores on which the consumer is about to mark an item (phase 7) or to leave the head record (phase 8). Head, found,
-next and tail record stand in every relation. All words are in range; few of the stores are an engine's."""
+next and tail record stand in every relation, with any number of steps. All words are in range; few of the stores are an
+engine's."""
 
 import itertools
 
 import intake_model as im
+import step_counts
 
 B, N, P = 2, 3, 1
 HEAD, OTHER = 2, 3  # record numbers as they are stored
@@ -43,7 +45,7 @@ def marking(rng):
         places = [(HEAD, im.PLACE, place), (OTHER, im.PLACE, place + later)]
         for position in range(max(0, B * (place - 1)), min(B * place, M) + 1):
             for found_position in {position, max(0, position - 1)}:
-                consumer = [7, 0, 0, found, found_position, *item(rng, M), 0]
+                consumer = [7, 0, 0, found, found_position, *item(rng, M), step_counts.drawn(rng)]
                 stores.append(store(rng, M, consumer, position, tail_record, places))
     return stores
 
@@ -54,7 +56,7 @@ def leaving(rng):
     stores = []
     relations = itertools.product((8, 9), range(N + 1), (0, 1, 2, 5, 6, im.MAX_PLACE), (0, 2, 8))
     for M, following, place, position in relations:
-        consumer = [8, 0, 0, 0, 0, *item(rng, M), 0]
+        consumer = [8, 0, 0, 0, 0, *item(rng, M), step_counts.drawn(rng)]
         places = [(following, im.PLACE, place)] if following else []
         parts = places + [(HEAD, im.NEXT, following)]
         stores.append(store(rng, M, consumer, position, rng.choice((HEAD, OTHER)), parts))

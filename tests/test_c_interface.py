@@ -12,6 +12,7 @@ import tempfile
 import unittest
 
 import intake_model as im
+import measures
 from archives import ROOT, archive, shared
 from engine_library import Engine, load
 
@@ -54,8 +55,9 @@ class Header(unittest.TestCase):
         """A header that does not compile, or not without warnings."""
         with tempfile.TemporaryDirectory() as folder:
             source = pathlib.Path(folder) / 'header.c'
-            names = '\n'.join(f'static_assert({name} == {number}, "");' for name, number in NUMBERS.items())
-            source.write_text(f'#include <assert.h>\n#include "intake.h"\n{names}\nint main(void) {{ return INTAKE_VERSION - 3; }}\n')
+            numbers = NUMBERS | {'INTAKE_MOST_STEPS': 100_000_000}
+            names = '\n'.join(f'static_assert({name} == {number}, "");' for name, number in numbers.items())
+            source.write_text(f'#include <assert.h>\n#include "intake.h"\n{names}\nint main(void) {{ return INTAKE_VERSION - 4; }}\n')
             strict = ['-Wall', '-Wextra', '-Wpedantic', '-Wconversion', '-Werror', f'-I{HEADER.parent}']
             subprocess.run([compiler, *flags, *strict, '-c', str(source), '-o', str(source.with_suffix('.o'))], check=True)
 
@@ -82,6 +84,13 @@ class Header(unittest.TestCase):
         for sizes in itertools.product((2, 3, 63, 64), (2, 3, 63, 64), (1, 2, 15, 16)):
             self.assertEqual(library.words_of(*sizes), im.needed_words(*sizes))
         self.assertEqual(library.words_of(64, 64, 16), 12696)
+
+    def test_most_dequeue_steps(self):
+        """A bound that is not the one that the explorations hold dequeues to, or that wraps at some sizes."""
+        library = compiled()
+        for B, N in itertools.product(range(2, 65), repeat=2):
+            self.assertEqual(library.most_dequeue_steps(B, N), measures.most_dequeue_steps(B, N))
+        self.assertEqual(library.most_dequeue_steps(64, 64), 8_675_745)
 
 
 class Guard(unittest.TestCase):
@@ -155,8 +164,8 @@ class Guard(unittest.TestCase):
 
 class Damage(unittest.TestCase):
     def test_a_circle(self):
-        """The header's warning: on a store in range that the engine has not written a call may go on for ever. Here record 0 is next to
-        itself, all its entries are handled, and the cursor stands at its end."""
+        """The header's warning: on a store in range that the engine has not written a call may go round in a circle until its steps are
+        counted out. Here record 0 is next to itself, all its entries are handled, and the cursor stands at its end."""
         B, N, P, M = 2, 2, 1, 9
         words = [0] * im.needed_words(B, N, P)
         im.open_store(words, B, N, P, M)
@@ -166,8 +175,14 @@ class Damage(unittest.TestCase):
         words[first + 1] = 1
         words[first + 4] = words[first + 7] = 2
         engine = Engine(load(), words)
-        for _ in range(10000):
+        for k in range(1, 10001):
             self.assertEqual(engine.call(('s', 0)), NUMBERS['INTAKE_GOING'])
+            self.assertEqual(list(engine.reply), [*Engine.MARK[:2], k, Engine.MARK[3]])
+        engine.store[23] = 99_999_999
+        self.assertEqual(engine.call(('s', 0)), NUMBERS['INTAKE_GOING'])
+        self.assertEqual(engine.reply[2], 100_000_000)
+        self.assertEqual(engine.call(('s', 0)), NUMBERS['INTAKE_REFUSED_LINK'])
+        self.assertEqual(tuple(engine.reply), Engine.MARK)
 
 
 class Stack(unittest.TestCase):

@@ -11,13 +11,14 @@ from pathlib import Path
 
 import definition_cases as dc
 import intake_model as im
+import test_model
 
 
 def setUpModule():
     global SCHEDULES, SINGLES, CLAIMS, HISTORIES
     SCHEDULES = dc.schedules(1, 3_200)
-    SINGLES = dc.singles(2, [store for case in SCHEDULES for store in dc.snapshots(case)], 2_000)
-    CLAIMS = dc.claims(5, 60)
+    SINGLES = dc.singles(2, [store for case in SCHEDULES for store in dc.snapshots(case)], 2_100)
+    CLAIMS = dc.claims(6, 60)
     HISTORIES = dc.histories(3, 1_600)
 
 
@@ -55,8 +56,8 @@ class Tables(unittest.TestCase):
         self.assertRegex(self.output, rf'(?m)^rt: {name} proved', self.output[-4000:])
 
     def test_schedules(self):
-        """A rule, a range, a check or its number, a write, the items left or an event of the history, wrong somewhere in
-        a list of calls."""
+        """A rule, a range, a check or its number, a write, a number of steps, the items left or an event of the history,
+        wrong somewhere in a list of calls."""
         self.assert_proved('schedules')
 
     def test_single_calls(self):
@@ -93,7 +94,7 @@ class Reach(unittest.TestCase):
     def test_number_of_cases(self):
         """A generator that makes fewer cases than meant, or the same ones again."""
         self.assertGreaterEqual(sum(len(case.calls) for case in SCHEDULES), 3_200)
-        self.assertEqual((len(SINGLES), len(CLAIMS), len(HISTORIES)), (2_000, 1_308, 1_600))
+        self.assertEqual((len(SINGLES), len(CLAIMS), len(HISTORIES)), (2_100, 1_308, 1_600))
         self.assertGreater(len({(tuple(case.words), case.call) for case in SINGLES}), 1_850)
         self.assertGreater(len({(tuple(case.words), case.entries) for case in HISTORIES}), 1_300)
 
@@ -109,11 +110,28 @@ class Reach(unittest.TestCase):
         counts = dc.reached(SCHEDULES + SINGLES)
         for number in range(1, 10):
             self.assertGreaterEqual(counts.get(('refused', number), 0), 20, number)
-        singles = dc.reached(SINGLES)
+        with_last = dc.reached([case for case in SINGLES if stored_steps(case) == im.MOST_STEPS])
+        singles = dc.reached([case for case in SINGLES if stored_steps(case) != im.MOST_STEPS])
         for phase in self.PRODUCER + self.CONSUMER:
             cannot = phase in (('producer', 2), ('producer', 4), ('producer', 10))
             self.assertEqual(phase + (9,) in singles, not cannot, phase)
-        self.assertIn(('producer', 4, 8), singles)
+            self.assertIn(phase + (9,), with_last)
+            self.assertNotIn(phase + ('accepted',), with_last)
+        for counts in (singles, with_last):
+            self.assertIn(('producer', 4, 8), counts)
+
+    def test_numbers_of_steps(self):
+        """A kind of accepted step that is not tried with the last number but one, or a phase with one past the last; no
+        idle thread whose number is not zero; no call of many steps in the schedules."""
+        self.assertLessEqual(test_model.ACCEPTED_STEPS, single_steps(im.MOST_STEPS - 1))
+        past = {kind[:2] for kind in single_steps(im.MOST_STEPS + 1) if kind[2:] == ('refused', 3)}
+        phases = {kind[:2] for kind in test_model.ACCEPTED_STEPS}
+        self.assertEqual(past & phases, phases)
+        self.assertIn((True, 0, 'refused', 3), single_steps(1))
+        self.assertIn((False, 0, 'refused', 3), single_steps(1))
+        calls = [step for case in SCHEDULES for step in dc.steps_of(case)]
+        steps = [reply[-1] for _, call, reply in calls if call[0] == 's' and reply[0] != 'refused']
+        self.assertGreater(sum(count > 9 for count in steps), 10)
 
     def test_no_start_left(self):
         """No start enqueue of a producer with a call under way, or of an idle one, when the starts have come to M."""
@@ -201,6 +219,23 @@ class Reach(unittest.TestCase):
             self.assertGreater(verdicts.count(verdict), 60, verdict)
 
 
+def stored_steps(case):
+    """The number of steps that the thread of a single step has stored; None if it has none, or is none."""
+    if case.call[0] != 's':
+        return None
+    return dict(enumerate(case.words)).get(im.CONTENTS + im.THREAD_WORDS * case.call[1] + im.STEPS)
+
+
+def single_steps(count):
+    """(producer, phase, reply) of the single steps with this stored number. Of a reply the word alone, but a refusal with
+    its number."""
+    found = set()
+    for words, call, (reply, _) in (case for case in SINGLES if stored_steps(case) == count):
+        phase = words[im.CONTENTS + im.THREAD_WORDS * call[1]]
+        found.add((call[1] > 0, phase, *(reply if reply[0] == 'refused' else reply[:1])))
+    return found
+
+
 def at_its_end(words, position):
     """Whether a position is the end of the head record."""
     return position == words[0] * words[dc.record_at(words, words[im.HEAD_RECORD]) + im.PLACE]
@@ -225,7 +260,7 @@ def moved(words):
 
 def claims_one(words, call, reply):
     """Whether a call with this reply claimed a record."""
-    return reply == im.GOING and call[1] > 0 and words[im.CONTENTS + im.THREAD_WORDS * call[1]] in (4, 10)
+    return reply[0] == 'going' and call[1] > 0 and words[im.CONTENTS + im.THREAD_WORDS * call[1]] in (4, 10)
 
 
 def in_range_with(words, k, word):

@@ -1,6 +1,7 @@
 """The engine through its C interface, word for word against the independent model."""
 
 import collections
+import itertools
 import random
 import subprocess
 import unittest
@@ -9,8 +10,9 @@ import claim_stores
 import engine_library
 import intake_model as model
 import leaving_stores
+import step_counts
 from archives import ROOT, archive
-from test_model import LET_GO, let_go_run, random_store
+from test_model import ACCEPTED_STEPS, LET_GO, accepted_steps, let_go_run, random_store
 
 LARGEST = (64, 64, 16, 1000000)
 
@@ -38,8 +40,10 @@ def kind(reply):
 def damaged(rng, words):
     """The store with a few words changed, or of another length, or all at random."""
     words = list(words)
-    draw = rng.random()
-    if draw < 0.70:
+    draw, steps = rng.random(), rng.randrange(23, words[5], 8)
+    if draw < 0.05:
+        words[steps] = rng.choice(step_counts.EDGES)
+    elif draw < 0.70:
         for _ in range(rng.choice([1, 1, 1, 2, 3])):
             at = rng.randrange(len(words))
             words[at] = rng.choice([0, 1, 2, 3, 4, words[at] + 1, max(words[at], 1) - 1, rng.randrange(70), 2**32 - 1, 500002, 500003]) % 2**32
@@ -120,6 +124,31 @@ class Differential(unittest.TestCase):
         for known in ('ok', 'going', 'end', 'empty', 'item', *(('refused', number) for number in range(4, 10))):
             self.assertGreaterEqual(seen[known], 50, seen)
 
+    def test_numbers_of_steps(self):
+        """A number of steps that is not kept, or not replied, or that leaves its range: in every phase of stores that the
+        engine has written, with every reply, from each number at the edges. 8 comes before 9, and both leave the four
+        words of the reply."""
+        stores = accepted_steps()
+        self.assertEqual(set(stores), ACCEPTED_STEPS)
+        for (_, _, kind), (words, t) in stores.items():
+            for steps in step_counts.EDGES:
+                reply = self.on(step_counts.with_steps(words, t, steps), ('s', t))
+                refusal = {model.MOST_STEPS: 9, model.MOST_STEPS + 1: 3}.get(steps)
+                self.assertEqual((reply[0], reply[-1]), ('refused', refusal) if refusal else (kind, steps + 1))
+        dry = model.Recorder(2, 2, 1, 9)
+        dry.run([call for v, steps in enumerate((4, 6, 7, 5, 4)) for call in [('e', 1, v)] + [('s', 1)] * steps])
+        for steps, number in zip(step_counts.EDGES, (8, 8, 8, 8, 3)):
+            self.assertEqual(self.on(step_counts.with_steps(dry.words, 1, steps), ('s', 1)), ('refused', number))
+
+    def test_numbers_of_steps_of_idle_threads(self):
+        """A number of an idle thread that is not looked at: of the one that is called, or of another."""
+        for t, steps in itertools.product(range(3), step_counts.EDGES):
+            words = [0] * model.needed_words(2, 2, 2)
+            model.open_store(words, 2, 2, 2, 9)
+            for call in (('d',), ('e', 1, 7), ('s', t)):
+                reply = self.on(step_counts.with_steps(words, t, steps), call)
+                self.assertEqual(reply == ('refused', 3), steps > 0)
+
     def test_claims(self):
         """A claim that takes another record than the next free one, or leaves word 11, or changes it and finds none."""
         rng, seen = random.Random(16), collections.Counter()
@@ -142,8 +171,9 @@ class Differential(unittest.TestCase):
         """A mark that goes to phase 8 or not by another record than the head record; a phase 8 that follows no link, leaves
         the range, looks at the tail record, or loses its item."""
         rng, seen = random.Random(18), collections.Counter()
-        for words in leaving_stores.marking(rng) + leaving_stores.leaving(rng):
-            seen[words[16], kind(self.on(words, ('s', 0)))] += 1
+        for draw in 2 * [leaving_stores.marking, leaving_stores.leaving]:
+            for words in draw(rng):
+                seen[words[16], kind(self.on(words, ('s', 0)))] += 1
         for known in ((7, 'going'), (7, 'item'), (7, ('refused', 9)), (8, 'item'), (8, ('refused', 9))):
             self.assertGreaterEqual(seen[known], 15, seen)
 
@@ -194,10 +224,12 @@ class Host(unittest.TestCase):
         return subprocess.run(['make', '-s', '-C', ROOT / 'host', target], capture_output=True, text=True)
 
     def test_host(self):
-        """A host that does not build without warnings, or that sees a producer's items out of order."""
+        """A host that does not build without warnings, that sees a producer's items out of order, or a number of steps that
+        is not its own count."""
         archive('engine')
         done = self.make('run')
         self.assertEqual(done.returncode, 0, done.stderr)
+        self.assertRegex(done.stdout, r'(?m)^longest enqueue \d+ steps, longest dequeue \d+ steps$')
         self.assertIn("8000 items received, each producer's in its order", done.stdout)
 
     def test_host_sanitized(self):

@@ -1,4 +1,4 @@
-"""The invariants and demand 3 on reachable states, and that the checks themselves can fail."""
+"""The invariants, demand 3, numbers of steps and measures on reachable states, and that the checks themselves can fail."""
 
 import random
 import unittest
@@ -7,8 +7,9 @@ import explore
 import intake_model as im
 import invariants
 import judge_model as jm
+import measures
 from intake_model import EMPTY, SET, USE_RETIRED
-from test_model import LETTING_GO, TRAPS
+from test_model import COUNTING, LETTING_GO, TRAPS, ShiftsOnlyAfterOwnLink
 
 
 def held_in(v, first, last):
@@ -87,7 +88,8 @@ class Reachable(unittest.TestCase):
     """The intake as it is."""
 
     def test_every_state_of_small_cases(self):
-        """A clause that fails on a reachable state, a reply 3 or 9, or an exploration that meets too little."""
+        """A clause that fails on a reachable state, a reply 3 or 9, a number of steps or a measure that is wrong at some
+        call, or an exploration that meets too little."""
         met = set()
 
         def note(v):
@@ -118,10 +120,19 @@ class Reachable(unittest.TestCase):
         self.assertIn(left, jm.linearizations_leaving(ghost.told))
 
     def test_random_runs(self):
-        """A clause or demand 3 that fails with larger records, more of them, more producers, or a stopped one."""
+        """A clause, demand 3, a number of steps or a measure that fails with larger records, more of them, more producers,
+        or a stopped one."""
         accepted, violation = explore.random_runs(range(explore.RANDOM_RUNS))
         self.assertIsNone(violation)
         self.assertGreater(accepted, 50_000)
+
+    def test_stalled_runs(self):
+        """A call that lasts longer than its bound, or a measure that is wrong at some call, while producers stand still
+        for long or for good and others meet 8."""
+        accepted, met, violation = explore.stalled_runs(range(explore.STALLED_RUNS))
+        self.assertIsNone(violation)
+        self.assertGreater(accepted, 50_000)
+        self.assertGreater(met, 20_000)
 
 
 class OneCallLate(im.Intake):
@@ -144,10 +155,25 @@ class Sensitivity(unittest.TestCase):
     """The checks fail where they should."""
 
     def test_wrong_engines_are_caught(self):
-        """An exploration blind to a trap of document 01. The tail record of one is right but late, so it goes uncaught
-        here; its own run shows that it stalls."""
-        caught = [trap.__name__ for trap in TRAPS if wrong_engine_is_caught(trap)]
-        self.assertEqual(caught, ['RescansPastTheHead', 'StopsTwoShort', 'ReadsTheHeadFirst', 'ReusesHeldRecords'])
+        """An exploration blind to a trap of document 01."""
+        self.assertEqual([trap for trap in TRAPS if not wrong_engine_is_caught(trap)], [])
+
+    def test_endless_calls_are_caught(self):
+        """Measures or a bound blind to a call that goes round for ever: that of a producer while the linker is stopped."""
+        self.assertEqual(explore.explore(2, 2, 2, 4, engine=ShiftsOnlyAfterOwnLink).violation[1], ['measure: not lowered'])
+        self.assertEqual(wrong_lengths(im.Intake), set())
+        self.assertEqual(wrong_lengths(ShiftsOnlyAfterOwnLink), {'measure: not lowered', 'steps past the bound, 3'})
+
+    def test_wrong_counts_are_caught(self):
+        """Explorations or runs blind to a number of steps that leaves some out or begins again."""
+        for engine in COUNTING:
+            violations = (
+                explore.explore(2, 2, 1, 4, engine=engine).violation,
+                explore.random_runs(range(5), engine)[1],
+                explore.stalled_runs(range(5), engine)[2],
+            )
+            for violation in violations:
+                self.assertTrue(violation[-1][0].startswith('steps: '), (engine, violation))
 
     def test_wrong_ways_to_let_go_are_caught(self):
         """An exploration blind to a phase 8 that does not retire, that gives no item or another, or that leaves the
@@ -157,7 +183,7 @@ class Sensitivity(unittest.TestCase):
             'RepliesAtTheEnd': None,
             'MovesAtTheMark': None,
             'KeepsTheRecord': ['chain: a record of use 2 is ch of its place'],
-            'GoesToTheFront': ['told: in 1-7 and between calls what is kept'],
+            'GoesToTheFront': ['measure: not lowered'],
             'ForgetsTheItem': [
                 'consumer 8: the item is the last one kept',
                 'consumer 8: the item is that of the position before hp',
@@ -190,6 +216,19 @@ class Sensitivity(unittest.TestCase):
         self.assertEqual(set(invariants.CLAUSES) - failed, set())
 
 
+def wrong_lengths(engine):
+    """What is wrong with the lengths of calls where producer 2 stops between phases 5 and 6 and producer 3 needs the record
+    that it has linked: that takes 8 of 30 steps."""
+    words = explore.open_words(2, 2, 3, 4)
+    lengths, wrong = measures.Lengths(words), set()
+    calls = explore.enqueue(3, 1, 4) + explore.enqueue(1, 2, 3) + explore.enqueue(2, 3, 5) + explore.enqueue(3, 4, 30)
+    for call in calls:
+        before, (words, reply) = words, explore.after(words, call, engine)
+        if reply[0] != 'refused':
+            wrong.update(lengths.wrong(call, reply, before, words))
+    return wrong
+
+
 def what_is_wrong(engine):
     """The clauses that the first bad state breaks, over the states of a case in which head records are drained; None if
     all hold."""
@@ -198,7 +237,7 @@ def what_is_wrong(engine):
 
 
 def wrong_engine_is_caught(engine):
-    if explore.explore(2, 2, 2, 4, engine=engine, limit=20_000).violation:
+    if explore.explore(2, 2, 2, 4, engine=engine, limit=8_000).violation:
         return True
     return explore.random_runs(range(40), engine)[1] is not None
 

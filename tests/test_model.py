@@ -1,5 +1,5 @@
-"""The model against document 01 and U1 and U2 of document 02: runs, claims, drained records, refusals, damaged stores,
-and the four traps."""
+"""The model against document 01 and U1 to U3 of document 02: runs, claims, drained records, numbers of steps, refusals,
+damaged stores, and the four traps."""
 
 import random
 import unittest
@@ -7,10 +7,13 @@ import unittest
 import claim_stores
 import intake_model as im
 import leaving_stores
-from intake_model import Intake, Recorder, needed_words, open_store, start_dequeue, start_enqueue, step
+import step_counts
+from intake_model import (
+    GOING, MOST_STEPS, Intake, Recorder, needed_words, open_store, start_dequeue, start_enqueue, step,
+)
 
 D = [('d',)]
-GOING, END, EMPTY, OK = ('going',), ('end',), ('empty',), ('ok',)
+OK = ('ok',)
 
 
 def E(t, v):
@@ -25,6 +28,23 @@ def refused(number):
     return ('refused', number)
 
 
+def going(first, last=None):
+    """The replies of a call's steps from one to another, all going; of one step if no other is given."""
+    return [('going', k) for k in range(first, (last or first) + 1)]
+
+
+def end(steps):
+    return [('end', steps)]
+
+
+def empty(steps):
+    return [('empty', steps)]
+
+
+def item(call, value, steps):
+    return [('item', call, value, steps)]
+
+
 def opened(B, N, P, M):
     """A store just opened."""
     words = [0] * needed_words(B, N, P)
@@ -35,12 +55,12 @@ def opened(B, N, P, M):
 def enqueue_whole(recorder, t, v, limit=50):
     """Run an enqueue to its end; the number of steps it took, or the refusal it met and on which step."""
     recorder.call(('e', t, v))
-    for steps in range(1, limit + 1):
+    for tried in range(1, limit + 1):
         reply = recorder.call(('s', t))
-        if reply == END:
-            return steps
+        if reply[0] == 'end':
+            return reply[1]
         if reply[0] == 'refused':
-            return (steps, reply[1])
+            return (tried, reply[1])
     return None
 
 
@@ -49,7 +69,7 @@ def dequeue_whole(recorder, limit=50):
     recorder.call(('d',))
     for _ in range(limit):
         reply = recorder.call(('s', 0))
-        if reply != GOING:
+        if reply[0] != 'going':
             return reply
     return None
 
@@ -68,12 +88,12 @@ class Runs(unittest.TestCase):
     """The runs to hold it to."""
 
     def test_printed_run(self):
-        """A wrong phase order, a wrong empty answer, or a lost item in the shortest run."""
+        """A wrong phase order, a wrong empty answer, a lost item or a wrong number of steps in the shortest run."""
         recorder = Recorder(2, 2, 1, 9)
         self.assertEqual(recorder.opened, OK)
         replies = recorder.run(D + S(0, 2) + E(1, 7) + S(1, 4))
-        self.assertEqual(replies, [OK, GOING, EMPTY, ('ok', 1), GOING, GOING, GOING, END])
-        self.assertEqual(recorder.run(D + S(0, 3)), [OK, GOING, GOING, ('item', 1, 7)])
+        self.assertEqual(replies, [OK] + going(1) + empty(2) + [('ok', 1)] + going(1, 3) + end(4))
+        self.assertEqual(recorder.run(D + S(0, 3)), [OK] + going(1, 2) + item(1, 7, 3))
         self.assertEqual(
             recorder.history,
             [(3, 0, 0, 0), (5, 0, 0, 0), (1, 1, 1, 7), (2, 1, 1, 7), (3, 0, 0, 0), (4, 0, 1, 7)],
@@ -88,7 +108,7 @@ class Runs(unittest.TestCase):
 
     def test_late_set_behind_the_cursor(self):
         """A rescan that does not see the entry set at the head meanwhile."""
-        self.assertEqual(late_set_run(Intake), [GOING] * 4 + [('item', 1, 70)])
+        self.assertEqual(late_set_run(Intake), going(3, 6) + item(1, 70, 7))
 
     def test_sizes(self):
         """A limit that is off by one, or a wrong size of the store."""
@@ -119,28 +139,28 @@ class Runs(unittest.TestCase):
         recorder = Recorder(4, 2, 1, 9)
         for v in (70, 80):
             enqueue_whole(recorder, 1, v)
-        self.assertEqual(recorder.run(D + S(0, 3)), [OK, GOING, GOING, ('item', 1, 70)])
-        self.assertEqual(recorder.run(D + S(0, 3)), [OK, GOING, GOING, ('item', 2, 80)])
-        self.assertEqual(recorder.run(D + S(0, 2)), [OK, GOING, EMPTY])
+        self.assertEqual(recorder.run(D + S(0, 3)), [OK] + going(1, 2) + item(1, 70, 3))
+        self.assertEqual(recorder.run(D + S(0, 3)), [OK] + going(1, 2) + item(2, 80, 3))
+        self.assertEqual(recorder.run(D + S(0, 2)), [OK] + going(1) + empty(2))
 
     def test_handled_entry_at_the_head(self):
         """An item found past the head that is given twice, or a head that does not pass it later."""
         recorder = Recorder(4, 2, 2, 9)
         recorder.run(E(1, 70) + S(1, 3))
         enqueue_whole(recorder, 2, 80)
-        self.assertEqual(recorder.run(D + S(0, 7)), [OK] + [GOING] * 6 + [('item', 2, 80)])
-        self.assertEqual(recorder.run(S(1)), [END])
-        self.assertEqual(recorder.run(D + S(0, 3)), [OK, GOING, GOING, ('item', 1, 70)])
-        self.assertEqual(recorder.run(D + S(0, 3)), [OK, GOING, GOING, EMPTY])
+        self.assertEqual(recorder.run(D + S(0, 7)), [OK] + going(1, 6) + item(2, 80, 7))
+        self.assertEqual(recorder.run(S(1)), end(4))
+        self.assertEqual(recorder.run(D + S(0, 3)), [OK] + going(1, 2) + item(1, 70, 3))
+        self.assertEqual(recorder.run(D + S(0, 3)), [OK] + going(1, 2) + empty(3))
 
     def test_rescan_begins_again_after_each_find(self):
         """A rescan that keeps the first set entry it meets: here 2 is found, then 1, then 0."""
         recorder = Recorder(4, 2, 3, 9)
         recorder.run(E(1, 70) + S(1, 3) + E(2, 80) + S(2, 3))
         enqueue_whole(recorder, 3, 90)
-        self.assertEqual(recorder.run(D + S(0, 7)), [OK] + [GOING] * 7)
-        self.assertEqual(recorder.run(S(2) + S(0)), [GOING, GOING])
-        self.assertEqual(recorder.run(S(1) + S(0, 3)), [END, GOING, GOING, ('item', 1, 70)])
+        self.assertEqual(recorder.run(D + S(0, 7)), [OK] + going(1, 7))
+        self.assertEqual(recorder.run(S(2) + S(0)), going(4) + going(8))
+        self.assertEqual(recorder.run(S(1) + S(0, 3)), end(4) + going(9, 10) + item(1, 70, 11))
 
     def test_producer_that_went_back_links_nothing_ahead(self):
         """A back flag that is not kept: position 1 is set after going back, with a record free."""
@@ -149,7 +169,7 @@ class Runs(unittest.TestCase):
         recorder.run(E(1, 1) + S(1))
         enqueue_whole(recorder, 2, 2)
         self.assertEqual(im.free_records(recorder.words), [2])
-        self.assertEqual(recorder.run(S(1, 4)), [GOING, GOING, GOING, END])
+        self.assertEqual(recorder.run(S(1, 4)), going(2, 4) + end(5))
 
     def test_items_left_by_position(self):
         """Items left in record order instead of queue order: here record 0 comes after record 1."""
@@ -285,7 +305,7 @@ class ClaimRecorder(Recorder):
         claims = producer and self.words[own] in (4, 10)
         reply = super().call(call)
         if claims:
-            self.claims.append((self.words[own + im.CLAIMED] - 1 if reply == GOING else None, self.words[11]))
+            self.claims.append((self.words[own + im.CLAIMED] - 1 if reply[0] == 'going' else None, self.words[11]))
         return reply
 
 
@@ -404,26 +424,26 @@ class LettingGo(unittest.TestCase):
         of its own, that does not retire it, that goes on to the front, or that gives another item."""
         met, drained, went_on = LET_GO[0]
         stays = [refused(8)] * 6
-        ends_early = drained[:3] + [('item', 2, 1), refused(7)]
+        ends_early = drained[:3] + item(2, 1, 3) + [refused(7)]
         self.assertEqual(first_round(RepliesAtTheEnd), (met, ends_early, stays))
         self.assertEqual(first_round(MovesAtTheMark), (met, ends_early, went_on))
         self.assertEqual(first_round(KeepsTheRecord), (met, drained, stays))
-        self.assertEqual(first_round(GoesToTheFront), (met, drained[:4] + [GOING], went_on))
-        self.assertEqual(first_round(ForgetsTheItem), (met, drained[:4] + [('item', 0, 0)], went_on))
+        self.assertEqual(first_round(GoesToTheFront), (met, drained[:4] + going(4), went_on))
+        self.assertEqual(first_round(ForgetsTheItem), (met, drained[:4] + item(0, 0, 4), went_on))
 
     def test_step_by_step(self):
         """A record retired before phase 8, words of found left in phase 8, or an item that is not kept for it."""
         recorder = Recorder(2, 2, 1, 9)
         for v in range(3):
             enqueue_whole(recorder, 1, 70 + v)
-        self.assertEqual(dequeue_whole(recorder), ('item', 1, 70))
-        self.assertEqual(recorder.run(D + S(0, 3)), [OK, GOING, GOING, GOING])
+        self.assertEqual(dequeue_whole(recorder), ('item', 1, 70, 3))
+        self.assertEqual(recorder.run(D + S(0, 3)), [OK] + going(1, 3))
         words = recorder.words
         self.assertEqual((words[im.HEAD_RECORD], words[im.HEAD_POSITION]), (1, 2))
-        self.assertEqual(words[16:24], [8, 0, 0, 0, 0, 2, 71, 0])
+        self.assertEqual(words[16:24], [8, 0, 0, 0, 0, 2, 71, 3])
         self.assertEqual((im.items_left(words), im.free_records(words)), ([(3, 72)], []))
         self.assertEqual(recorder.history[-1], (3, 0, 0, 0))
-        self.assertEqual(recorder.call(('s', 0)), ('item', 2, 71))
+        self.assertEqual(recorder.call(('s', 0)), ('item', 2, 71, 4))
         self.assertEqual((words[im.HEAD_RECORD], words[im.HEAD_POSITION]), (2, 2))
         self.assertEqual(words[16:24], [0] * 8)
         self.assertEqual(im.free_records(words), [0])
@@ -434,11 +454,11 @@ class LettingGo(unittest.TestCase):
             recorder = Recorder(2, 2, 1, 9)
             enqueue_whole(recorder, 1, 70)
             recorder.run(E(1, 71) + S(1, steps))
-            self.assertEqual(recorder.run(D + S(0, 3)), [OK, GOING, GOING, ('item', 1, 70)])
-            self.assertEqual(recorder.run(D + S(0, 3)), [OK, GOING, GOING, ('item', 2, 71)])
-            self.assertEqual(recorder.run(D + S(0)), [OK, EMPTY])
-        self.assertEqual(tail_record_run(LeavesTheTailRecord), [OK, GOING, GOING, GOING, refused(9)])
-        self.assertEqual(tail_record_run(Intake), [OK, GOING, GOING, ('item', 2, 71), refused(7)])
+            self.assertEqual(recorder.run(D + S(0, 3)), [OK] + going(1, 2) + item(1, 70, 3))
+            self.assertEqual(recorder.run(D + S(0, 3)), [OK] + going(1, 2) + item(2, 71, 3))
+            self.assertEqual(recorder.run(D + S(0)), [OK] + empty(1))
+        self.assertEqual(tail_record_run(LeavesTheTailRecord), [OK] + going(1, 3) + [refused(9)])
+        self.assertEqual(tail_record_run(Intake), [OK] + going(1, 2) + item(2, 71, 3) + [refused(7)])
 
     def test_head_that_waits_at_the_end(self):
         """A phase 1 without its move: the record was the tail record when its last item was taken, and is no longer."""
@@ -446,12 +466,12 @@ class LettingGo(unittest.TestCase):
         for v in (70, 71):
             enqueue_whole(recorder, 1, v)
         for call in (1, 2):
-            self.assertEqual(recorder.run(D + S(0, 3))[-1], ('item', call, 69 + call))
+            self.assertEqual(recorder.run(D + S(0, 3))[-1], ('item', call, 69 + call, 3))
         self.assertEqual(enqueue_whole(recorder, 1, 72), 7)
         self.assertEqual((recorder.words[im.HEAD_POSITION], im.free_records(recorder.words)), (2, []))
-        self.assertEqual(recorder.run(D + S(0)), [OK, GOING])
+        self.assertEqual(recorder.run(D + S(0)), [OK] + going(1))
         self.assertEqual(im.free_records(recorder.words), [0])
-        self.assertEqual(recorder.run(S(0, 3)), [GOING, GOING, ('item', 3, 72)])
+        self.assertEqual(recorder.run(S(0, 3)), going(2, 3) + item(3, 72, 4))
 
     def test_head_that_passes_to_the_end(self):
         """A move that is not made where phase 1 brings the head to the record's end: its last item was taken first."""
@@ -459,61 +479,65 @@ class LettingGo(unittest.TestCase):
         recorder.run(E(1, 70) + S(1, 3))
         for v in (71, 72):
             enqueue_whole(recorder, 2, v)
-        self.assertEqual(dequeue_whole(recorder), ('item', 2, 71))
-        self.assertEqual(recorder.call(('s', 1)), END)
-        self.assertEqual(recorder.run(D + S(0, 3)), [OK, GOING, GOING, ('item', 1, 70)])
-        self.assertEqual(recorder.run(D + S(0, 5)), [OK] + [GOING] * 4 + [('item', 3, 72)])
+        self.assertEqual(dequeue_whole(recorder), ('item', 2, 71, 7))
+        self.assertEqual(recorder.run(S(1)), end(4))
+        self.assertEqual(recorder.run(D + S(0, 3)), [OK] + going(1, 2) + item(1, 70, 3))
+        self.assertEqual(recorder.run(D + S(0, 5)), [OK] + going(1, 4) + item(3, 72, 5))
 
     def test_any_store_in_7(self):
         """A mark that goes to 8 or not by another record than the head record, or where the head did not advance; that
-        writes and is refused; or that looks at something else."""
+        writes and is refused; that adds no step, or one too many; or that looks at something else."""
         seen = set()
         for words in leaving_stores.marking(random.Random(6)):
             tail_record, head, position = words[7:10]
-            found, at, call, value = words[19:23]
-            end, head_end = (2 * place_of(words, number) if number else 0 for number in (found, head))
+            found, at, call, value, steps = words[19:24]
+            found_end, head_end = (2 * place_of(words, number) if number else 0 for number in (found, head))
             after = list(words)
             reply = step(after, 0)
-            if not end - 2 <= at < end or at == position == words[3]:
+            full = steps == MOST_STEPS
+            if not found_end - 2 <= at < found_end or at == position == words[3] or full:
                 expected = (refused(9), words)
             else:
                 changes = {leaving_stores.record_at(found) + 4 + 3 * (at % 2): 2, 9: position + (at == position)}
                 late = at == position and position + 1 == head_end and head != tail_record
-                consumer = [8, 0, 0, 0, 0, call, value, 0] if late else [0] * 8
+                consumer = [8, 0, 0, 0, 0, call, value, steps + 1] if late else [0] * 8
                 changes |= {16 + k: word for k, word in enumerate(consumer)}
-                expected = (GOING if late else ('item', call, value), changed(words, changes))
+                expected = (('going', steps + 1) if late else ('item', call, value, steps + 1), changed(words, changes))
             self.assertEqual((reply, after), expected)
-            seen.add((reply[0], at == position, position + 1 == head_end, head == tail_record))
+            seen.add((reply[0], at == position, position + 1 == head_end, head == tail_record, full))
         ends = {('going', True, True, False), ('item', True, True, True), ('item', True, False, False)}
-        self.assertLessEqual(ends | {('item', True, False, True), ('refused', True, False, True)}, seen)
+        ends |= {('item', True, False, True), ('refused', True, False, True)}
+        self.assertLessEqual({kind + (False,) for kind in ends}, seen)
+        self.assertIn(('refused', True, True, False, True), seen)
 
     def test_any_store_in_8(self):
-        """A move that follows no link, leaves the range, looks at the tail record or the head position, or retires
-        another record than the head record."""
+        """A move that follows no link, leaves the range, looks at the tail record or the head position, retires another
+        record than the head record, or adds no step."""
         seen = set()
         for words in leaving_stores.leaving(random.Random(7)):
-            head, (call, value) = words[8], words[21:23]
+            head, (call, value, steps) = words[8], words[21:24]
             following = words[leaving_stores.record_at(head) + 1]
             first = 2 * (place_of(words, following) - 1) if following else None
             after = list(words)
             reply = step(after, 0)
-            if first is None or not 0 <= first <= words[3]:
+            full = steps == MOST_STEPS
+            if first is None or not 0 <= first <= words[3] or full:
                 expected = (refused(9), words)
             else:
                 changes = {8: following, 9: first, leaving_stores.record_at(head) + 3: 3}
-                expected = (('item', call, value), changed(words, changes | {16 + k: 0 for k in range(8)}))
+                expected = (('item', call, value, steps + 1), changed(words, changes | {16 + k: 0 for k in range(8)}))
             self.assertEqual((reply, after), expected)
-            seen.add((reply[0], first))
-        refusals = {('refused', first) for first in (None, -2, 10, 1_000_002)}
+            seen.add((reply[0], 'full' if full else first))
+        refusals = {('refused', first) for first in ('full', None, -2, 10, 1_000_002)}
         self.assertEqual(seen, refusals | {('item', first) for first in (0, 2, 8)})
 
 
 # For each round of the run below what producer 3 met, the dequeue of the last item, and how producer 3 went on.
 LET_GO = [
     (
-        [('ok', 5 + 2 * k), GOING, GOING, GOING, refused(8)],
-        [OK, GOING, GOING, GOING, ('item', 2 + 2 * k, 1 + 2 * k)],
-        [GOING, GOING, GOING, GOING, GOING, END],
+        [('ok', 5 + 2 * k)] + going(1, 3) + [refused(8)],
+        [OK] + going(1, 3) + item(2 + 2 * k, 1 + 2 * k, 4),
+        going(4, 8) + end(9),
     )
     for k in range(3)
 ]
@@ -557,6 +581,187 @@ def place_of(words, number):
 
 def changed(words, changes):
     return [changes.get(k, word) for k, word in enumerate(words)]
+
+
+# How many steps did that take (document 02, U3): wrong engines, then the runs.
+
+
+class LeavesOutStays(Intake):
+    """A step that stays in its phase is not counted."""
+
+    stays = False
+
+    def to(self, phase):
+        self.stays = phase == self.mine(im.PHASE)
+        return super().to(phase)
+
+    def counted(self, reply, so_far):
+        return super().counted(reply, so_far - self.stays)
+
+
+class CountsEachPhase(Intake):
+    """The number begins again with each phase."""
+
+    def to(self, phase):
+        self.moves = phase != self.mine(im.PHASE)
+        return super().to(phase)
+
+    def counted(self, reply, so_far):
+        reply = super().counted(reply, so_far)
+        if reply[0] == 'going' and self.moves:
+            self.put(im.STEPS, 0)
+        return reply
+
+
+class LooksAtTheNumberFirst(Intake):
+    """The last number is refused with 9 before the phase is looked at."""
+
+    def run(self, t):
+        im.need(self.w[16 + 8 * t + 7] < MOST_STEPS)
+        return super().run(t)
+
+
+class EndsAfterTheLast(Intake):
+    """A step that ends its call is accepted with the last number."""
+
+    def counted(self, reply, so_far):
+        return super().counted(reply, so_far) if reply == GOING else reply + (so_far + 1,)
+
+
+COUNTING = (LeavesOutStays, CountsEachPhase)
+
+# (producer, phase, reply) of every accepted step
+ACCEPTED_STEPS = {(True, phase, 'going') for phase in range(1, 11)} | {(True, phase, 'end') for phase in (9, 10, 11)}
+ACCEPTED_STEPS |= {(False, phase, 'going') for phase in range(1, 8)} | {(False, phase, 'empty') for phase in (1, 2, 3)}
+ACCEPTED_STEPS |= {(False, phase, 'item') for phase in (7, 8)}
+
+
+class Counting(unittest.TestCase):
+    """The number of accepted steps of a call."""
+
+    def test_each_call_from_one(self):
+        """A number that goes on from the thread's last call, or that one thread's steps add to another's."""
+        recorder = Recorder(2, 2, 1, 9)
+        self.assertEqual(recorder.run(D + S(0)), [OK] + going(1))
+        for call, steps in enumerate((4, 6, 7, 5), 1):
+            self.assertEqual(recorder.run(E(1, 0) + S(1, steps)), [('ok', call)] + going(1, steps - 1) + end(steps))
+        self.assertEqual(recorder.run(S(0, 2)), going(2, 3))
+
+    def test_steps_that_stay(self):
+        """A step that stays in its phase and is not counted: in 3 and 5 of a dequeue over a record's end, in 5 of each
+        entry, in 7 of an enqueue that goes back over two records."""
+        self.assertEqual(scan_run(Intake), (11, ('item', 4, 4, 15), ('empty', 10)))
+        self.assertEqual(back_run(Intake), going(2, 5) + end(6))
+        self.assertEqual(scan_run(LeavesOutStays), (11, ('item', 4, 4, 11), ('empty', 9)))
+        self.assertEqual(back_run(LeavesOutStays), going(2) + going(2, 4) + end(5))
+
+    def test_each_phase(self):
+        """A number that begins again when the phase changes, in a run too short to tell."""
+        self.assertEqual(scan_run(CountsEachPhase)[1:], (('item', 4, 4, 1), ('empty', 1)))
+
+    def test_refused_steps(self):
+        """A step refused with 3, 4, 7 or 8 that is counted, for its own thread or another."""
+        recorder = Recorder(2, 2, 1, 9)
+        self.assertEqual(recorder.run(S(0) + S(1, 2)), [refused(7)] * 3)
+        for v, steps in enumerate((4, 6, 7, 5)):
+            self.assertEqual(enqueue_whole(recorder, 1, v), steps)
+        self.assertEqual(recorder.run(E(1, 4) + S(1, 5)), [('ok', 5)] + going(1, 3) + [refused(8)] * 2)
+        self.assertEqual(recorder.run(S(2) + S(0) + S(1)), [refused(4), refused(7), refused(8)])
+        self.assertEqual((dequeue_whole(recorder), dequeue_whole(recorder)), (('item', 1, 0, 3), ('item', 2, 1, 4)))
+        recorder.words[12] = 1
+        self.assertEqual(recorder.run(S(1, 2)), [refused(3)] * 2)
+        recorder.words[12] = 0
+        self.assertEqual(recorder.run(S(1, 6)), going(4, 8) + end(9))
+        self.assertEqual(recorder.run(S(1) + E(1, 5) + S(1)), [refused(7), ('ok', 6)] + going(1))
+
+    def test_the_last_numbers(self):
+        """A number that leaves its range, or a step refused before it does: in every phase, with every reply."""
+        stores = accepted_steps()
+        self.assertEqual(set(stores), ACCEPTED_STEPS)
+        for (_, _, kind), (words, t) in stores.items():
+            self.assertEqual(self.steps_on(words, t, MOST_STEPS - 1)[-1], MOST_STEPS)
+            self.assertEqual(self.steps_on(words, t, MOST_STEPS), refused(9))
+            self.assertEqual(self.steps_on(words, t, MOST_STEPS + 1), refused(3))
+            ends = step(step_counts.with_steps(words, t, MOST_STEPS), t, EndsAfterTheLast)
+            self.assertEqual(ends[0], 'refused' if kind == 'going' else kind)
+
+    def test_8_comes_before_9(self):
+        """A claim with the last number that meets 9 with no record free, or 8 with one free."""
+        recorder = Recorder(2, 2, 1, 9)
+        for v in range(4):
+            enqueue_whole(recorder, 1, v)
+        self.assertEqual(enqueue_whole(recorder, 1, 4), (4, 8))
+        dry = list(recorder.words)
+        for steps, number in ((0, 8), (MOST_STEPS - 1, 8), (MOST_STEPS, 8), (MOST_STEPS + 1, 3)):
+            self.assertEqual(self.steps_on(dry, 1, steps), refused(number))
+        self.assertEqual(step(step_counts.with_steps(dry, 1, MOST_STEPS), 1, LooksAtTheNumberFirst), refused(9))
+        dequeue_whole(recorder), dequeue_whole(recorder)
+        self.assertEqual(self.steps_on(recorder.words, 1, MOST_STEPS), refused(9))
+        self.assertEqual(self.steps_on(recorder.words, 1, 3), ('going', 4))
+
+    def test_any_store(self):
+        """A reply that carries another number than the stored one plus one, or a rule that looks at it, on stores that no
+        engine wrote."""
+        rng, seen = random.Random(9), set()
+        for _ in range(4000):
+            words = random_store(rng)
+            for t in range(words[2] + 1):
+                if words[16 + 8 * t]:
+                    steps = rng.choice((0, 1, rng.randrange(MOST_STEPS), MOST_STEPS - 1, MOST_STEPS))
+                    seen.add((t > 0, words[16 + 8 * t], self.steps_on(words, t, steps)[0]))
+        self.assertLessEqual(ACCEPTED_STEPS, seen)
+
+    def steps_on(self, words, t, steps):
+        """The reply of a step with this stored number. With the number 0 it does the same but for the number; where it is
+        refused then, it is refused with this one too."""
+        first, after = step_counts.with_steps(words, t, 0), step_counts.with_steps(words, t, steps)
+        before = list(after)
+        plain, reply = step(first, t), step(after, t)
+        if steps > MOST_STEPS:
+            expected = refused(3), before
+        elif plain[0] == 'refused':
+            expected = plain, before
+        elif steps == MOST_STEPS:
+            expected = refused(9), before
+        else:
+            self.assertEqual(plain[-1], 1)
+            kept = steps + 1 if plain[0] == 'going' else 0
+            expected = plain[:-1] + (steps + 1,), step_counts.with_steps(first, t, kept)
+        self.assertEqual((reply, after), expected)
+        return reply
+
+
+def scan_run(engine):
+    """B = 2. Producers 1 to 3 take positions 0 to 2 and stop; producer 4 enqueues at position 3. The steps of that, and
+    the answers of two dequeues."""
+    recorder = Recorder(2, 3, 4, 9, engine=engine)
+    for t in (1, 2, 3):
+        recorder.run(E(t, t) + S(t))
+    return enqueue_whole(recorder, 4, 4), dequeue_whole(recorder), dequeue_whole(recorder)
+
+
+def back_run(engine):
+    """B = 2. Producer 1 takes position 0 and stops; producer 2 enqueues at positions 1 to 4, in three records. What
+    producer 1 then replies: it loads the third record and goes back over two."""
+    recorder = Recorder(2, 3, 2, 9, engine=engine)
+    recorder.run(E(1, 0) + S(1))
+    for v in range(1, 5):
+        enqueue_whole(recorder, 2, v)
+    return recorder.run(S(1, 5))
+
+
+def accepted_steps():
+    """For every (producer, phase, reply) of random runs a store on which such a step is accepted, and its thread."""
+    stores = {}
+    for seed in range(60):
+        rng, recorder = random.Random(seed), Recorder(2, 2 + seed % 3, 3, 40)
+        for _ in range(300):
+            t = rng.randrange(4)
+            before = list(recorder.words)
+            reply = recorder.call((('s', t) if before[16 + 8 * t] else ('e', t, 7) if t else ('d',)))
+            if before[16 + 8 * t] and reply[0] != 'refused':
+                stores.setdefault((t > 0, before[16 + 8 * t], reply[0]), (before, t))
+    return stores
 
 
 # Traps on the way: wrong engines.
@@ -614,11 +819,11 @@ class Traps(unittest.TestCase):
 
     def test_rescan_past_the_head(self):
         """A run too weak to see a rescan that leaves out the head."""
-        self.assertEqual(late_set_run(RescansPastTheHead)[-1], ('item', 2, 80))
+        self.assertEqual(late_set_run(RescansPastTheHead)[-1], ('item', 2, 80, 7))
 
     def test_rescan_two_short(self):
         """A run too weak to see a rescan that stops two short of found."""
-        self.assertEqual(late_set_run(StopsTwoShort)[-1], ('item', 2, 80))
+        self.assertEqual(late_set_run(StopsTwoShort)[-1], ('item', 2, 80, 7))
 
     def test_stopped_linker_stalls_nobody(self):
         """A tail record that only its linker moves: here the linker is stopped between phases 5 and 6."""
@@ -627,12 +832,12 @@ class Traps(unittest.TestCase):
 
     def test_head_at_its_records_end(self):
         """A front that reads an entry past the head record."""
-        self.assertEqual(drained_record_run(Intake), [('item', 1, 0), ('item', 2, 1), EMPTY])
+        self.assertEqual(drained_record_run(Intake), item(1, 0, 3) + item(2, 1, 3) + empty(1))
         self.assertEqual(drained_record_run(ReadsTheHeadFirst)[-1], refused(9))
 
     def test_held_record_is_not_reused(self):
         """A record claimed anew under a stopped producer that goes on to shift from it."""
-        self.assertEqual(stopped_holder_run(Intake), ((4, 8), GOING))
+        self.assertEqual(stopped_holder_run(Intake), ((4, 8), ('going', 4)))
         self.assertEqual(stopped_holder_run(ReusesHeldRecords), (9, refused(9)))
 
 
@@ -744,21 +949,21 @@ class Refusals(unittest.TestCase):
 
     def test_3_limits_of_thread_words_by_phase(self):
         """A thread word not in use that is let through, or one in use that is not."""
-        top = 2**32 - 1
-        self.assert_thread_limits(1, 1, [4, top, 0, 0, 0, 0, 0])
+        top, steps = 2**32 - 1, 100_000_000
+        self.assert_thread_limits(1, 1, [4, top, 0, 0, 0, 0, steps])
         for phase in (2, 3, 4, 6, 7, 8, 9):
-            self.assert_thread_limits(1, phase, [4, top, 4, 3, 0, 1, 0])
-        self.assert_thread_limits(1, 5, [4, top, 4, 3, 3, 1, 0])
-        self.assert_thread_limits(1, 10, [4, top, 4, 3, 0, 0, 0])
-        self.assert_thread_limits(1, 11, [4, top, 4, 3, 3, 0, 0])
+            self.assert_thread_limits(1, phase, [4, top, 4, 3, 0, 1, steps])
+        self.assert_thread_limits(1, 5, [4, top, 4, 3, 3, 1, steps])
+        self.assert_thread_limits(1, 10, [4, top, 4, 3, 0, 0, steps])
+        self.assert_thread_limits(1, 11, [4, top, 4, 3, 3, 0, steps])
         for phase in (1, 2):
-            self.assert_thread_limits(0, phase, [0, 0, 0, 0, 0, 0, 0])
+            self.assert_thread_limits(0, phase, [0, 0, 0, 0, 0, 0, steps])
         for phase in (3, 4):
-            self.assert_thread_limits(0, phase, [3, 4, 0, 0, 0, 0, 0])
-        self.assert_thread_limits(0, 5, [3, 4, 3, 4, 0, 0, 0])
-        self.assert_thread_limits(0, 6, [0, 0, 3, 4, 0, 0, 0])
-        self.assert_thread_limits(0, 7, [0, 0, 3, 4, 4, top, 0])
-        self.assert_thread_limits(0, 8, [0, 0, 0, 0, 4, top, 0])
+            self.assert_thread_limits(0, phase, [3, 4, 0, 0, 0, 0, steps])
+        self.assert_thread_limits(0, 5, [3, 4, 3, 4, 0, 0, steps])
+        self.assert_thread_limits(0, 6, [0, 0, 3, 4, 0, 0, steps])
+        self.assert_thread_limits(0, 7, [0, 0, 3, 4, 4, top, steps])
+        self.assert_thread_limits(0, 8, [0, 0, 0, 0, 4, top, steps])
 
     def assert_thread_limits(self, t, phase, tops):
         words = opened(2, 3, 1, 4)
@@ -804,8 +1009,8 @@ class Refusals(unittest.TestCase):
             enqueue_whole(recorder, 1, v)
         self.assertEqual(enqueue_whole(recorder, 1, 4), (4, 8))
         self.assertEqual(dequeue_whole(recorder)[1], 1)
-        self.assertEqual(recorder.run(S(1) + D + S(0, 3) + S(1)), [refused(8), OK, GOING, GOING, GOING, refused(8)])
-        self.assertEqual(recorder.run(S(0) + S(1, 6)), [('item', 2, 1)] + [GOING] * 5 + [END])
+        self.assertEqual(recorder.run(S(1) + D + S(0, 3) + S(1)), [refused(8), OK] + going(1, 3) + [refused(8)])
+        self.assertEqual(recorder.run(S(0) + S(1, 6)), item(2, 1, 4) + going(4, 8) + end(9))
 
     def test_9_needed_link_is_none(self):
         """A link followed though it is none."""
@@ -830,13 +1035,14 @@ class Refusals(unittest.TestCase):
         words[32] = 500_002
         self.assert_refused(9, words, step, 1)
         words[32] = 500_001
-        self.assertEqual(step(words, 1), GOING)
+        self.assertEqual(step(words, 1), ('going', 1))
 
 
 class Damage(unittest.TestCase):
     """Stores that the engine did not write."""
 
     CAN_MEET_9 = {('producer', k) for k in (1, 3, 5, 6, 7, 8, 9, 11)} | {('consumer', k) for k in range(1, 9)}
+    ALL_PHASES = CAN_MEET_9 | {('producer', k) for k in (2, 4, 10)}
 
     def check(self, words, call):
         """No call raises; a refusal changes nothing; an accepted call leaves words in range. The reply."""
@@ -864,19 +1070,24 @@ class Damage(unittest.TestCase):
                 words = list(recorder.words)
                 words[rng.randrange(len(words))] = rng.choice((0, 1, 2, 3, 4, 5, 7, 11, 12, 13, 500_002, 2**32 - 1))
                 self.check_all(words)
+                t = rng.randrange(words[2] + 1) if words[2] <= 2 else 0
+                self.check_all(step_counts.with_steps(words, t, rng.choice(step_counts.EDGES)))
 
     def test_random_stores_in_range(self):
-        """A link or an index followed outside the store; a 9 in a phase that has none, or none where one is due."""
+        """A link or an index followed outside the store; a 9 in a phase that has none, or none where one is due. With the
+        last number of steps it is due in all."""
         rng = random.Random(2)
-        met = set()
+        met, met_full = set(), set()
         for _ in range(6000):
             words = random_store(rng)
             self.assertTrue(im.in_range(words))
             for call, reply in self.check_all(words).items():
                 if reply == refused(9):
                     role = 'producer' if call[1] else 'consumer'
-                    met.add((role, words[16 + 8 * call[1]]))
+                    full = step_counts.steps_of(words)[call[1]] == MOST_STEPS
+                    (met_full if full else met).add((role, words[16 + 8 * call[1]]))
         self.assertEqual(met, self.CAN_MEET_9)
+        self.assertEqual(met_full, self.ALL_PHASES)
 
     def test_random_words_and_lengths(self):
         """A store of any words and any length that is not turned down with 2 or 3, or that raises."""
@@ -915,7 +1126,8 @@ def random_store(rng):
     for t in range(P + 1):
         by_phase = im.thread_limits(N, M)[1 if t else 0]
         phase = rng.randrange(len(by_phase))
-        words += [phase] + [rng.randint(0, min(limit, 12)) for limit in by_phase[phase][1:]]
+        words += [phase] + [rng.randint(0, min(limit, 12)) for limit in by_phase[phase][1:-1]]
+        words.append(step_counts.drawn(rng) if phase else 0)
     for _ in range(N):
         words += [rng.choice((0, 1, 1, 2, 2, 3, 4, 500_002)), rng.randint(0, N), rng.randint(0, N), rng.randint(0, 3)]
         for _ in range(B):

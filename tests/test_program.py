@@ -39,6 +39,11 @@ def parse(line):
     return None
 
 
+def line_of(reply):
+    """The printed line of a reply. The number of steps comes last on `end`, `empty` and `item`; `going` has none."""
+    return reply[0] if reply[0] == 'going' else ' '.join(map(str, reply))
+
+
 def expected(data):
     """What the papers say the program prints."""
     if len(data) > MOST_INPUT:
@@ -60,7 +65,7 @@ def expected(data):
                 history.append(made)
                 if made[0] in (1, 3):
                     starts[thread] = made
-        out.append(' '.join(str(part) for part in reply).encode() + b'\n')
+        out.append(line_of(reply).encode() + b'\n')
     verdict = jm.judge(jm.flatten(history), jm.MAX_EVENTS, jm.explained_by_mark)[0]
     return b''.join(out) + verdict.encode() + b'\n'
 
@@ -86,7 +91,9 @@ FORMS |= {f'refused {number}' for number in (1, 3, 4, 5, 6, 7, 8)}
 
 def form(line):
     word = line.split(' ')[0]
-    return {'ok': line if line == 'ok' else 'ok CALL', 'item': 'item'}.get(word, line)
+    if word == 'ok':
+        return line if line == 'ok' else 'ok CALL'
+    return word if word in ('end', 'empty', 'item') else line
 
 
 def shown(data, output):
@@ -142,7 +149,7 @@ class Streams(program_streams.Streams, unittest.TestCase):
 
     program = PROGRAM
     data = b'open 2 2 1 9\nd\ns 0\ns 0\ne 1 7\ns 1\ns 1\ns 1\ns 1\n'
-    output = b'ok\nok\ngoing\nempty\nok 1\ngoing\ngoing\ngoing\nend\nexplained\n'
+    output = b'ok\nok\ngoing\nempty 2\nok 1\ngoing\ngoing\ngoing\nend 4\nexplained\n'
 
 
 class Differential(unittest.TestCase):

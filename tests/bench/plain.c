@@ -4,10 +4,10 @@
 #include "bench.h"
 
 enum { TAIL = 6, TAIL_RECORD, HEAD_RECORD, HEAD_POSITION, STARTS, LAST_CLAIMED };
-enum { PHASE, CALL, VALUE, POSITION, HELD, CLAIMED, BACKED };
+enum { PHASE, CALL, VALUE, POSITION, HELD, CLAIMED, BACKED, STEPS };
 enum { CURSOR_RECORD = 1, CURSOR_POSITION, FOUND_RECORD, FOUND_POSITION, ITEM_NUMBER, ITEM_VALUE };
 enum { PLACE, NEXT, PREV, USE };
-enum { MOST_PLACE = 500002 };
+enum { MOST_PLACE = 500002, MOST_STEPS = 100000000 };
 
 typedef struct {
     uint32_t *s, B, N, P, M, first, size;
@@ -23,7 +23,7 @@ static int producer_ok(const Store *z, const uint32_t *w) {
     uint32_t p = w[PHASE];
     if (p > 11) return 0;
     if (p == 0) return (w[1] | w[2] | w[3] | w[4] | w[5] | w[6] | w[7]) == 0;
-    if (!number_ok(z, w[CALL]) || w[7] != 0) return 0;
+    if (!number_ok(z, w[CALL]) || w[STEPS] > MOST_STEPS) return 0;
     if (p == 1) return (w[3] | w[4] | w[5] | w[6]) == 0;
     if (!number_ok(z, w[POSITION]) || !link_ok(z, w[HELD])) return 0;
     if (p == 5 || p == 11 ? !link_ok(z, w[CLAIMED]) : w[CLAIMED] != 0) return 0;
@@ -32,7 +32,7 @@ static int producer_ok(const Store *z, const uint32_t *w) {
 
 static int consumer_ok(const Store *z, const uint32_t *w) {
     uint32_t p = w[PHASE];
-    if (p > 8 || w[7] != 0) return 0;
+    if (p > 8 || w[STEPS] > (p ? MOST_STEPS : 0)) return 0;
     int cursor = p >= 3 && p <= 5, found = p >= 5 && p <= 7, item = p >= 7;
     if (cursor ? !link_ok(z, w[1]) || !number_ok(z, w[2]) : (w[1] | w[2]) != 0) return 0;
     if (found ? !link_ok(z, w[3]) || !number_ok(z, w[4]) : (w[3] | w[4]) != 0) return 0;
@@ -381,8 +381,14 @@ static uint32_t step(uint32_t *s, size_t words, uint32_t t, uint32_t reply[4]) {
     uint32_t no = admit(&z, s, words);
     if (no) return no;
     if (t > z.P) return 4;
-    if (!thread(&z, t)[PHASE]) return 7;
-    return t ? produce(&z, t) : consume(&z, reply);
+    uint32_t *w = thread(&z, t), steps = w[STEPS], answer;
+    if (!w[PHASE]) return 7;
+    if (steps == MOST_STEPS) return t && w[PHASE] == 4 && !first_free(&z, 1, z.N) ? 8 : 9; /* no step may be added; 8 comes first */
+    answer = t ? produce(&z, t) : consume(&z, reply);
+    if (answer < 100) return answer;
+    if (answer == 100) w[STEPS] = steps + 1;
+    reply[2] = steps + 1;
+    return answer;
 }
 
 const struct Contestant CONTESTANT = {LABEL, start_enqueue, start_dequeue, step};

@@ -1,15 +1,15 @@
 -- The range tests as the code makes them, word by word: a word of a sort is one that is at most the sort's cap.
 use mathlib.Core.Path.{_≡_, refl, ap, ap₂, sym, _∙_}
-use mathlib.Core.Bool.{Bool, true, false, _&&_}
+use mathlib.Core.Bool.{Bool, true, false, _&&_, cond}
 use mathlib.Core.List.{List, [], _∷_, map}
 use Prim.Native.Nat.{ℕ, zero, suc, _+_, _*_, _≤_, _<_}
 use native.Mathlib.Omega.{arith}
 use lib.Dec.{leb, eqb}
 use lib.ListN.{length, getD, drop}
 use borrow.Author.Tests.{eq-eqb, ne-eqb, le-leb, lt-leb}
-use Rattle.rules.specs.Sizes.{Sizes, contentWords, lastClaimedWord, firstSpare, threadWords}
+use Rattle.rules.specs.Sizes.{Sizes, mostSteps, contentWords, lastClaimedWord, firstSpare, threadWords}
 use Rattle.rules.specs.Cell.{reader, content, lastClaimed, spare, consumer, producer}
-use Rattle.rules.specs.Range.{Sort, unused, exactly, number, link, record-number, most, any, ofSort, ofSorts, every, threadInRange, producerInRange, consumerInRange, contentsInRange, contentSorts, lastClaimedSort, spareSorts, producerSorts, consumerSorts, idleSorts, placedSorts, cursorSorts, lastProducerPhase, lastConsumerPhase}
+use Rattle.rules.specs.Range.{Sort, unused, exactly, number, link, record-number, most, any, ofSort, ofSorts, every, threadInRange, producerInRange, consumerInRange, contentsInRange, contentSorts, lastClaimedSort, spareSorts, producerSorts, consumerSorts, idleSorts, placedSorts, frontSorts, cursorSorts, lastProducerPhase, lastConsumerPhase}
 use Rattle.rules.specs.Update.{both, true-false}
 use Rattle.rules.specs.Request.{sizesOf}
 use Rattle.store.specs.Caps.{cap, mostWord}
@@ -92,10 +92,18 @@ module _ (z : Sizes) (m : List ℕ) (fit : (j : ℕ) → getD m j 0 ≤ mostWord
       thread-test z lastConsumerPhase consumerSorts (λ j. reader z m (consumer j)) (from m contentWords) p ss (word-at z m (consumer 0) (omega arith) ∙ e) l g c n
       (λ j i. (word-at z m (consumer j) i, fit (contentWords + j)))
 
+  -- the consumer's phases up to 2
+  pub front-row : (p : ℕ) → getD m contentWords 0 ≡ p → p < 3
+      → consumerInRange z (reader z m) ≡ atMost (from m contentWords) 1 (0 ∷ 0 ∷ 0 ∷ 0 ∷ 0 ∷ 0 ∷ cond (eqb p 0) 0 mostSteps ∷ [])
+  front-row zero e h = consumer-row 0 idleSorts e (omega arith) refl refl refl
+  front-row (suc zero) e h = consumer-row 1 frontSorts e (omega arith) refl refl refl
+  front-row (suc (suc zero)) e h = consumer-row 2 frontSorts e (omega arith) refl refl refl
+  front-row (suc (suc (suc p))) e h = absurd (omega arith)
+
   pub consumer-past : (p : ℕ) → getD m contentWords 0 ≡ p → lastConsumerPhase < p → consumerInRange z (reader z m) ≡ false
   consumer-past p e l = thread-past z lastConsumerPhase consumerSorts (λ j. reader z m (consumer j)) p (word-at z m (consumer 0) (omega arith) ∙ e) l
 
--- the producer's phases but 0, 1, 5, 10 and 11; the consumer's up to 4
+-- the producer's phases but 0, 1, 5, 10 and 11; the consumer's 3 and 4
 pub placed-phase : (p : ℕ) → p ≤ lastProducerPhase → (p ≡ 0 → ⊥) → (p ≡ 1 → ⊥) → (p ≡ 5 → ⊥) → (p ≡ 10 → ⊥) → (p ≡ 11 → ⊥) → getD producerSorts p [] ≡ placedSorts
 placed-phase zero h a b c d e = absurd (a refl)
 placed-phase (suc zero) h a b c d e = absurd (b refl)
@@ -110,12 +118,6 @@ placed-phase (suc (suc (suc (suc (suc (suc (suc (suc (suc zero))))))))) h a b c 
 placed-phase (suc (suc (suc (suc (suc (suc (suc (suc (suc (suc zero)))))))))) h a b c d e = absurd (d refl)
 placed-phase (suc (suc (suc (suc (suc (suc (suc (suc (suc (suc (suc zero))))))))))) h a b c d e = absurd (e refl)
 placed-phase (suc (suc (suc (suc (suc (suc (suc (suc (suc (suc (suc (suc p)))))))))))) h a b c d e = absurd (omega arith)
-
-pub idle-phase : (p : ℕ) → p < 3 → getD consumerSorts p [] ≡ idleSorts
-idle-phase zero h = refl
-idle-phase (suc zero) h = refl
-idle-phase (suc (suc zero)) h = refl
-idle-phase (suc (suc (suc p))) h = absurd (omega arith)
 
 pub cursor-phase : (p : ℕ) → 3 ≤ p → p < 5 → getD consumerSorts p [] ≡ cursorSorts
 cursor-phase zero l h = absurd (omega arith)

@@ -18,6 +18,7 @@ use store::Shape;
 use store::phase;
 use store::record_at;
 use store::record_words;
+use store::select;
 use store::size;
 use store::state;
 use store::usage;
@@ -153,18 +154,18 @@ fn records_in_range(s: &[u32], z: Shape) -> bool
     pairs_in_range(s, z, &b)
 }
 
-// Whether words 1 to 6 from word `at` on are at most a to f, and word 7 is zero.
-fn row_at_most(s: &[u32], at: u32, a: u32, b: u32, c: u32, d: u32, e: u32, f: u32) -> bool
+// Whether words 1 to 7 from word `at` on are at most a to g.
+fn row_at_most(s: &[u32], at: u32, a: u32, b: u32, c: u32, d: u32, e: u32, f: u32, g: u32) -> bool
     requires { ⌜ (at ≤ mostWords) × (at + 7 < length (now s)) ⌝ }
-    ensures { λ ok. ⌜ atMost (from (now (s .entry)) at) 1 (a ∷ b ∷ c ∷ d ∷ e ∷ f ∷ 0 ∷ []) ≡ ok ⌝ }
+    ensures { λ ok. ⌜ atMost (from (now (s .entry)) at) 1 (a ∷ b ∷ c ∷ d ∷ e ∷ f ∷ g ∷ []) ≡ ok ⌝ }
 {
     let i = at as usize;
-    let last = (s[i + 5] <= e) & ((s[i + 6] <= f) & (s[i + 7] <= 0));
+    let last = (s[i + 5] <= e) & ((s[i + 6] <= f) & (s[i + 7] <= g));
     (s[i + 1] <= a) & ((s[i + 2] <= b) & ((s[i + 3] <= c) & ((s[i + 4] <= d) & last)))
 }
 
 // Phase 0 to 11 of producer t, and the words that the phase uses: call number, value, position, held, claimed, whether
-// phase 7 was taken.
+// phase 7 was taken, accepted steps.
 fn producer_in_range(s: &[u32], z: Shape, t: u32) -> bool
     requires { ⌜ Room (sizes z) (now s) ⌝ }
     requires { ⌜ (1 ≤ t) × (t ≤ z .producers) ⌝ }
@@ -173,17 +174,18 @@ fn producer_in_range(s: &[u32], z: Shape, t: u32) -> bool
     let at = size::CONTENT_WORDS + size::THREAD_WORDS * t;
     let m = z.starts;
     let n = z.records;
+    let k = size::MOST_STEPS;
     let phase = s[at as usize];
     if phase::LAST_PRODUCER < phase {
         return false;
     }
     match phase {
-        0 => row_at_most(s, at, 0, 0, 0, 0, 0, 0),
-        1 => row_at_most(s, at, m, ANY, 0, 0, 0, 0),
-        5 => row_at_most(s, at, m, ANY, m, n, n, 1),
-        10 => row_at_most(s, at, m, ANY, m, n, 0, 0),
-        11 => row_at_most(s, at, m, ANY, m, n, n, 0),
-        _ => row_at_most(s, at, m, ANY, m, n, 0, 1),
+        0 => row_at_most(s, at, 0, 0, 0, 0, 0, 0, 0),
+        1 => row_at_most(s, at, m, ANY, 0, 0, 0, 0, k),
+        5 => row_at_most(s, at, m, ANY, m, n, n, 1, k),
+        10 => row_at_most(s, at, m, ANY, m, n, 0, 0, k),
+        11 => row_at_most(s, at, m, ANY, m, n, n, 0, k),
+        _ => row_at_most(s, at, m, ANY, m, n, 0, 1, k),
     }
 }
 
@@ -201,7 +203,8 @@ fn producers_in_range(s: &[u32], z: Shape) -> bool
 }
 
 // Phase 0 to 8 of the consumer, and the words that the phase uses: cursor record and position, found record and position, the
-// item's call number and value. (3 and 4 stand before the match for speed: four cases would be an indirect jump.)
+// item's call number and value, accepted steps. (For speed 3 and 4 stand before the match, since four cases would be an indirect
+// jump, and 0 to 2 are one row.)
 fn consumer_in_range(s: &[u32], z: Shape) -> bool
     requires { ⌜ Room (sizes z) (now s) ⌝ }
     ensures { λ ok. ⌜ consumerInRange (sizes z) (reader (sizes z) (now (s .entry))) ≡ ok ⌝ }
@@ -209,21 +212,23 @@ fn consumer_in_range(s: &[u32], z: Shape) -> bool
     let at = size::CONTENT_WORDS;
     let m = z.starts;
     let n = z.records;
+    let k = size::MOST_STEPS;
     let phase = s[at as usize];
     if phase::LAST_CONSUMER < phase {
         return false;
     }
     if phase < phase::SCAN {
-        return row_at_most(s, at, 0, 0, 0, 0, 0, 0);
+        let steps = select(phase == phase::IDLE, 0, k);
+        return row_at_most(s, at, 0, 0, 0, 0, 0, 0, steps);
     }
     if phase < phase::RESCAN {
-        return row_at_most(s, at, n, m, 0, 0, 0, 0);
+        return row_at_most(s, at, n, m, 0, 0, 0, 0, k);
     }
     match phase {
-        5 => row_at_most(s, at, n, m, n, m, 0, 0),
-        6 => row_at_most(s, at, 0, 0, n, m, 0, 0),
-        7 => row_at_most(s, at, 0, 0, n, m, m, ANY),
-        _ => row_at_most(s, at, 0, 0, 0, 0, m, ANY),
+        5 => row_at_most(s, at, n, m, n, m, 0, 0, k),
+        6 => row_at_most(s, at, 0, 0, n, m, 0, 0, k),
+        7 => row_at_most(s, at, 0, 0, n, m, m, ANY, k),
+        _ => row_at_most(s, at, 0, 0, 0, 0, m, ANY, k),
     }
 }
 

@@ -74,7 +74,7 @@ fn first_free(s: &[u32], z: Shape, from: u32, end: u32) -> u32
 }
 
 // The first free record after the one claimed last, counting upward and past the end to record 0, plus one; 0 where none is free.
-fn next_free(s: &[u32], z: Shape) -> u32
+pub fn next_free(s: &[u32], z: Shape) -> u32
     requires { ⌜ Admitted (sizes z) (now s) ⌝ }
     ensures { λ r. ⌜ (nextFree (sizes z) (reader (sizes z) (now (s .entry))) ≡ r) × (r ≤ z .records) ⌝ }
 {

@@ -1,17 +1,20 @@
 -- What was under way when the newest event of a well-formed history happened: `follows`, read by `current`, `Begun` and `dequeuing`.
-use mathlib.Core.Path.{_≡_, refl, sym}
+use mathlib.Core.Path.{_≡_, refl, ap, sym, _∙_}
 use mathlib.Core.Logic.{inl, inr}
 use mathlib.Core.Bool.{true}
 use mathlib.Core.List.{_∷_}
 use mathlib.Core.Option.{Option, none, some}
 use Prim.Native.Nat.{ℕ, suc}
+use native.Mathlib.Omega.{arith}
+use lib.Dec.{eqb}
 use lib.ListN.{length}
+use borrow.Author.Tests.{eq-eqb, ne-eqb}
 use Rattle.history.specs.Lists.{Member}
 use Rattle.history.specs.Event.{Event, History, enqueueStarted, enqueueEnded, dequeueStarted, gaveItem, gaveEmpty}
 use Rattle.history.specs.Calls.{Enqueue, enq, calls}
 use Rattle.history.specs.Form.{wellFormed}
 use Rattle.history.specs.Linearization.{Item}
-use Rattle.criterion.specs.Explained.{Begun, current, dequeuing}
+use Rattle.criterion.specs.Explained.{Begun, Ended, current, dequeuing}
 use Rattle.criterion.specs.Members.{in-right}
 use Rattle.criterion.specs.Following.{head-follows, tail-formed, thread-is-free, number-is-new, has-its-start, has-its-dequeue}
 use Rattle.criterion.specs.Entering.{opened, enqueue-goes-on}
@@ -61,3 +64,29 @@ pub item-was-asked : (n v : ℕ) (h : History) → wellFormed (gaveItem n v ∷ 
 item-was-asked n v h w =
     let r = has-its-dequeue (calls h) (head-follows (gaveItem n v) h w) in
     open-is-dequeuing h (tail-formed (gaveItem n v) h w) (r .0) (r .1) (r .2)
+
+some-not-none : {i : Item} → some i ≡ none → ⊥
+some-not-none e = let z : _≡_ {A = ℕ} 0 1 = cc in omega arith
+
+pub same-number : {i j : Item} → some i ≡ some j → i .number ≡ j .number
+same-number e = cc
+
+-- An enqueue that has begun and not ended is under way on some thread.
+abbrev OnThread : ℕ → History → Type 0
+OnThread n h = (t : ℕ) × (v : ℕ) × (current t h ≡ some (record { number = n; value = v }))
+
+pub begun-is-current : (n : ℕ) (h : History) → wellFormed h ≡ true → Begun n h → (Ended n h → ⊥) → OnThread n h
+begun-is-current n (enqueueStarted t m w ∷ h) f (inl e) open-still = (t, w, rw (eq-eqb t t refl, e) refl)
+begun-is-current n (enqueueStarted t m w ∷ h) f (inr b) open-still =
+    go (begun-is-current n h (tail-formed (enqueueStarted t m w) h f) b open-still)
+  where
+    go : OnThread n h → OnThread n (enqueueStarted t m w ∷ h)
+    go (u, v, c) = (u, v, rw (ne-eqb t u (λ e. some-not-none (sym c ∙ ap (λ (x : ℕ). current x h) (sym e) ∙ start-was-idle t m w h f))) c)
+begun-is-current n (enqueueEnded t m w ∷ h) f b open-still =
+    go (begun-is-current n h (tail-formed (enqueueEnded t m w) h f) b (λ e. open-still (inr e)))
+  where
+    go : OnThread n h → OnThread n (enqueueEnded t m w ∷ h)
+    go (u, v, c) = (u, v, rw (ne-eqb t u (λ e. open-still (inl (same-number (sym c ∙ ap (λ (x : ℕ). current x h) (sym e) ∙ end-was-current t m w h f))))) c)
+begun-is-current n (dequeueStarted ∷ h) f b open-still = begun-is-current n h (tail-formed dequeueStarted h f) b open-still
+begun-is-current n (gaveItem m w ∷ h) f b open-still = begun-is-current n h (tail-formed (gaveItem m w) h f) b open-still
+begun-is-current n (gaveEmpty ∷ h) f b open-still = begun-is-current n h (tail-formed gaveEmpty h f) b open-still

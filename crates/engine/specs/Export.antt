@@ -16,20 +16,21 @@ acceptedCode (item number value) = 103
 
 abbrev pub code : Response → ℕ
 code (refused n) = n
-code (accepted r) = acceptedCode r
+code (accepted r steps) = acceptedCode r
 
--- Word 0 of the reply receives the call number (start enqueue, item), word 1 the value (item); the others stay.
-abbrev pub acceptedWords : Reply → List ℕ → List ℕ
-acceptedWords ok w = w
-acceptedWords (started number) w = set w 0 number
-acceptedWords going w = w
-acceptedWords ended w = w
-acceptedWords empty w = w
-acceptedWords (item number value) w = set (set w 0 number) 1 value
+-- Word 0 of the reply receives the call number (start enqueue, item), word 1 the value (item), word 2 the number of accepted steps of the
+-- call so far (a step); the others stay.
+abbrev pub acceptedWords : Reply → (steps : ℕ) → List ℕ → List ℕ
+acceptedWords ok k w = w
+acceptedWords (started number) k w = set w 0 number
+acceptedWords going k w = set w 2 k
+acceptedWords ended k w = set w 2 k
+acceptedWords empty k w = set w 2 k
+acceptedWords (item number value) k w = set (set (set w 0 number) 1 value) 2 k
 
 abbrev pub replyWords : Response → List ℕ → List ℕ
 replyWords (refused n) w = w
-replyWords (accepted r) w = acceptedWords r w
+replyWords (accepted r steps) w = acceptedWords r steps w
 
 -- The returned number and the words of the store.
 pub record Returned : Type 0 where

@@ -1,3 +1,5 @@
 pub mod Export
+pub mod Answer
 pub mod Calls
+pub mod FullCount
 pub mod Delivery

@@ -1,14 +1,21 @@
 // The calls *start enqueue*, *start dequeue* and *step* on the lent words (document 01, "Calls"), and the C interface of all four.
 ghost use mathlib.Core.Path.{_≡_};
-ghost use Rattle.rules.specs.Request.{startEnqueue, startDequeue, step, effect, result, open-store};
+ghost use Prim.Native.Nat.{_≤_};
+ghost use Rattle.rules.specs.Sizes.{mostSteps};
+ghost use Rattle.rules.specs.Cell.{reader, stepCount};
+ghost use Rattle.rules.specs.Free.{nextFree};
+ghost use Rattle.rules.specs.Rule.{refuse};
+ghost use Rattle.rules.specs.Request.{startEnqueue, startDequeue, step, phaseStep, effect, result, open-store};
 ghost use Rattle.store.specs.Shape.{sizes};
-ghost use Rattle.store.specs.Outcome.{response, left, does};
+ghost use Rattle.store.specs.Outcome.{response, responseAfter, left, leftAfter, does};
 ghost use Rattle.store.specs.Store.{Admitted};
+ghost use Rattle.engine.specs.Answer.{answer};
 ghost use Rattle.engine.specs.Export.{code, replyWords, returned, replied};
 use admission::admit;
 use admission::shape_of;
 use claim::claim_ahead;
 use claim::claim_record;
+use claim::next_free;
 use dequeue::read_entry;
 use dequeue::read_front;
 use dequeue::read_tail;
@@ -26,22 +33,25 @@ use opening::open_store;
 use rescan::rescan_on;
 use starting::begin_dequeue;
 use starting::begin_enqueue;
+use store::Counted;
 use store::Reply;
 use store::Shape;
+use store::phase;
+use store::put_step_count;
 use store::read_consumer;
 use store::read_producer;
+use store::size;
+use store::step_count;
 use taking::mark_handled;
 use taking::read_item;
 use taking::retire_head;
 
-// *Step* (thread) on admitted words does one phase.
+// One phase of thread t, not yet counted.
 fn step_thread(s: &mut [u32], z: Shape, t: u32) -> Reply
     requires { ⌜ Admitted (sizes z) (now s) ⌝ }
-    ensures { λ r. ⌜ left r (now (s .exit)) ≡ does (effect (step t)) z (now (s .entry)) ⌝ }
+    requires { ⌜ t ≤ z .producers ⌝ }
+    ensures { λ r. ⌜ left r (now (s .exit)) ≡ does (λ z σ. phaseStep (nextFree z σ) t z σ) z (now (s .entry)) ⌝ }
 {
-    if z.producers < t {
-        return Reply::Refused(4);
-    }
     if t == 0 {
         let phase = read_consumer(s, z).phase;
         return match phase {
@@ -73,6 +83,49 @@ fn step_thread(s: &mut [u32], z: Shape, t: u32) -> Reply
     }
 }
 
+// The refusal of a step whose number would leave its range: 9, but the phase's own 8 comes first.
+fn full_refusal(s: &[u32], z: Shape, t: u32) -> u32
+    requires { ⌜ Admitted (sizes z) (now s) ⌝ }
+    requires { ⌜ (t ≤ z .producers) × (mostSteps ≤ reader (sizes z) (now s) (stepCount t)) ⌝ }
+    ensures { λ n. ⌜ effect (step t) (sizes z) (reader (sizes z) (now (s .entry))) ≡ refuse n ⌝ }
+{
+    if t == 0 {
+        return 9;
+    }
+    if read_producer(s, z, t).phase == phase::CLAIM {
+        if next_free(s, z) == 0 {
+            return 8;
+        }
+    }
+    9
+}
+
+// *Step* (thread) on admitted words does one phase and is counted. The number is kept where the call goes on.
+fn count_step(s: &mut [u32], z: Shape, t: u32) -> Counted
+    requires { ⌜ Admitted (sizes z) (now s) ⌝ }
+    ensures { λ c. ⌜ leftAfter c (now (s .exit)) ≡ answer (step t) z (now (s .entry)) ⌝ }
+{
+    if z.producers < t {
+        return Counted {
+            reply: Reply::Refused(4),
+            steps: 0,
+        };
+    }
+    let before = step_count(s, z, t);
+    if size::MOST_STEPS <= before {
+        return Counted {
+            reply: Reply::Refused(full_refusal(s, z, t)),
+            steps: 0,
+        };
+    }
+    let steps = before + 1;
+    let reply = step_thread(s, z, t);
+    if let Reply::Going = reply {
+        put_step_count(s, z, t, steps);
+    }
+    Counted { reply, steps }
+}
+
 // *Start enqueue* (producer, value): admission first, then its own rule.
 pub fn start_enqueue(s: &mut [u32], t: u32, v: u32) -> Reply
     ensures { λ r. ⌜ left r (now (s .exit)) ≡ result (startEnqueue t v) (now (s .entry)) ⌝ }
@@ -96,14 +149,17 @@ pub fn start_dequeue(s: &mut [u32]) -> Reply
 }
 
 // *Step* (thread).
-pub fn step(s: &mut [u32], t: u32) -> Reply
-    ensures { λ r. ⌜ left r (now (s .exit)) ≡ result (step t) (now (s .entry)) ⌝ }
+pub fn step(s: &mut [u32], t: u32) -> Counted
+    ensures { λ c. ⌜ leftAfter c (now (s .exit)) ≡ result (step t) (now (s .entry)) ⌝ }
 {
     let n = admit(s);
     if n != 0 {
-        return Reply::Refused(n);
+        return Counted {
+            reply: Reply::Refused(n),
+            steps: 0,
+        };
     }
-    step_thread(s, shape_of(s), t)
+    count_step(s, shape_of(s), t)
 }
 
 // The number that a reply is returned as.
@@ -121,9 +177,9 @@ fn returned_code(r: Reply) -> u32
     }
 }
 
-// The call number and the value of a reply, stored for the caller.
-fn store_reply(r: Reply, reply: &mut [u32; 4])
-    ensures { λ _. ⌜ now (reply .exit) ≡ replyWords (response r) (now (reply .entry)) ⌝ }
+// The call number, the value and the accepted steps of a reply, stored for the caller.
+fn store_reply(r: Reply, steps: u32, reply: &mut [u32; 4])
+    ensures { λ _. ⌜ now (reply .exit) ≡ replyWords (responseAfter steps r) (now (reply .entry)) ⌝ }
 {
     match r {
         Reply::Refused(_) => {}
@@ -131,21 +187,29 @@ fn store_reply(r: Reply, reply: &mut [u32; 4])
         Reply::Started(number) => {
             reply[0] = number;
         }
-        Reply::Going => {}
-        Reply::Ended => {}
-        Reply::Empty => {}
+        Reply::Going => {
+            reply[2] = steps;
+        }
+        Reply::Ended => {
+            reply[2] = steps;
+        }
+        Reply::Empty => {
+            reply[2] = steps;
+        }
         Reply::Item(number, value) => {
             reply[0] = number;
             reply[1] = value;
+            reply[2] = steps;
         }
     }
 }
 
 // A reply goes to the caller's four words, and its number is returned.
-fn deliver(r: Reply, reply: &mut [u32; 4]) -> u32
-    ensures { λ n. ⌜ (n ≡ code (response r)) × (now (reply .exit) ≡ replyWords (response r) (now (reply .entry))) ⌝ }
+fn deliver(c: Counted, reply: &mut [u32; 4]) -> u32
+    ensures { λ n. ⌜ (n ≡ code (responseAfter (c .steps) (c .reply))) × (now (reply .exit) ≡ replyWords (responseAfter (c .steps) (c .reply)) (now (reply .entry))) ⌝ }
 {
-    store_reply(r, reply);
+    let r = c.reply;
+    store_reply(r, c.steps, reply);
     returned_code(r)
 }
 
@@ -179,7 +243,11 @@ pub extern "C" fn intake_start_enqueue(
 ) -> u32
     ensures { λ n. ⌜ record { number = n; store = now (store .exit); reply = now (reply .exit) } ≡ replied (result (startEnqueue producer value) (now (store .entry))) (now (reply .entry)) ⌝ }
 {
-    deliver(start_enqueue(store, producer, value), reply)
+    let c = Counted {
+        reply: start_enqueue(store, producer, value),
+        steps: 0,
+    };
+    deliver(c, reply)
 }
 
 // *Start dequeue*.
@@ -190,7 +258,7 @@ pub extern "C" fn intake_start_dequeue(store: &mut [u32]) -> u32
     returned_code(start_dequeue(store))
 }
 
-// *Step*; an item's call number and value go to words 0 and 1 of the reply.
+// *Step*; an item's call number and value go to words 0 and 1 of the reply, the accepted steps of the call to word 2.
 #[no_mangle]
 pub extern "C" fn intake_step(store: &mut [u32], thread: u32, reply: &mut [u32; 4]) -> u32
     ensures { λ n. ⌜ record { number = n; store = now (store .exit); reply = now (reply .exit) } ≡ replied (result (step thread) (now (store .entry))) (now (reply .entry)) ⌝ }

@@ -8,7 +8,7 @@ fn main() {
         stdio::print_unreadable();
         return;
     };
-    let mut out = [0u8; 110_617];
+    let mut out = [0u8; 155_679];
     let printed = session::run(&input[..n], &mut out);
     stdio::print(&out[..printed]);
 }

@@ -7,18 +7,18 @@ use Prim.Native.Nat.{ℕ}
 use Rattle.history.specs.Event.{History}
 use Rattle.rules.specs.Sizes.{Sizes}
 use Rattle.rules.specs.Cell.{Reader, reader}
-use Rattle.rules.specs.Rule.{Effect, refuse, reply, Response, refused, accepted, ok}
-use Rattle.rules.specs.Request.{Request, Result, applied, open-store}
+use Rattle.rules.specs.Rule.{Effect, refuse, reply, Reply, Response, refused, accepted, ok}
+use Rattle.rules.specs.Request.{Request, Result, applied, stepsSoFar, open-store}
 use Rattle.rules.specs.Play.{Played, events}
 use Rattle.rules.specs.Readback.{reader-writes}
-use Rattle.simulation.specs.Good.{Fine}
-use Rattle.simulation.specs.Every.{effectTaking, effect-fine}
+use Rattle.simulation.specs.Every.{effectTaking}
+use Rattle.progress.specs.Paced.{Keeps, call-keeps}
 use Rattle.renaming.specs.Renaming.{unchanged}
 use Rattle.renaming.specs.Alike.{alike-itself}
 use Rattle.renaming.specs.AlikeEffects.{Stores, Like}
 use Rattle.renaming.specs.AlikeRecords.{Twins}
 use Rattle.renaming.specs.AlikeClaims.{BothChoose}
-use Rattle.renaming.specs.AlikeEvery.{answer-alike}
+use Rattle.renaming.specs.AlikeEvery.{steps-same, answer-alike}
 use Rattle.ordering.specs.Theorem.{Maintained, playTaking, keeps-taking, opened-kept}
 
 -- A call in two runs: the records that its claim takes in the first and in the second, plus one; zero for none.
@@ -71,19 +71,19 @@ module _ {z : Sizes} {r : TwoRuns} (k : StillAlike z r) (x : PairedCall)
   abbrev τ : Reader
   τ = reader z (r .second .words)
 
-  by-answers : (a b : Effect) → Fine z σ (k .first .beside) (x .request) a → Fine z τ (k .second .beside) (x .request) b
-      → Like z σ τ a b → Both z (applied z (r .first .words) a) (applied z (r .second .words) b)
+  by-answers : (i : ℕ) (a b : Effect) → Keeps z σ (k .first .beside) (x .request) a → Keeps z τ (k .second .beside) (x .request) b
+      → Like z σ τ a b → Both z (applied i z (r .first .words) a) (applied i z (r .second .words) b)
   unfolding applied
-  by-answers (refuse n) (refuse m) f g l = record { reply-same = ap refused (l .answers); stores = k .stores }
-  by-answers (refuse n) (reply s vs) f g l = absurd (l .answers)
-  by-answers (reply s ws) (refuse m) f g l = absurd (l .answers)
-  by-answers (reply s ws) (reply t vs) f g l =
+  by-answers i (refuse n) (refuse m) f g l = record { reply-same = ap refused (l .answers); stores = k .stores }
+  by-answers i (refuse n) (reply s vs) f g l = absurd (l .answers)
+  by-answers i (reply s ws) (refuse m) f g l = absurd (l .answers)
+  by-answers i (reply s ws) (reply t vs) f g l =
       record {
-        reply-same = ap accepted (l .answers .0);
+        reply-same = ap (λ (s : Reply). accepted s i) (l .answers .0);
         stores =
             rw (
-              reader-writes z (r .first .words) ws (k .first .fits) (f .there),
-              reader-writes z (r .second .words) vs (k .second .fits) (g .there),
+              reader-writes z (r .first .words) ws (k .first .fits) (f .goes .there),
+              reader-writes z (r .second .words) vs (k .second .fits) (g .goes .there),
             )
             (l .answers .1);
       }
@@ -98,12 +98,13 @@ module _ {z : Sizes} {r : TwoRuns} (k : StillAlike z r) (x : PairedCall)
         stores = k .stores;
       }
 
-  results : Both z (applied z (r .first .words) (effectTaking (x .in-first) (x .request) z σ)) (applied z (r .second .words) (effectTaking (x .in-second) (x .request) z τ))
+  results : Both z (applied (stepsSoFar (x .request) σ) z (r .first .words) (effectTaking (x .in-first) (x .request) z σ)) (applied (stepsSoFar (x .request) τ) z (r .second .words) (effectTaking (x .in-second) (x .request) z τ))
   results =
-      by-answers (effectTaking (x .in-first) (x .request) z σ) (effectTaking (x .in-second) (x .request) z τ)
-      (effect-fine z σ (k .first .beside) (k .first .good) (x .in-first) (choice .first) (x .request))
-      (effect-fine z τ (k .second .beside) (k .second .good) (x .in-second) (choice .second) (x .request))
-      (answer-alike twins (x .in-first) (x .in-second) choice (x .request))
+      rw (steps-same twins (x .request))
+      (by-answers (stepsSoFar (x .request) σ) (effectTaking (x .in-first) (x .request) z σ) (effectTaking (x .in-second) (x .request) z τ)
+      (call-keeps z σ (k .first .beside) (k .first .good) (k .first .paced) (x .in-first) (choice .first) (x .request))
+      (call-keeps z τ (k .second .beside) (k .second .good) (k .second .paced) (x .in-second) (choice .second) (x .request))
+      (answer-alike twins (x .in-first) (x .in-second) choice (x .request)))
 
   goes-on : StillAlike z (callBoth z x r)
   goes-on =
@@ -123,7 +124,7 @@ all-go-on : {z : Sizes} (xs : List PairedCall) {r : TwoRuns} → StillAlike z r 
 all-go-on [] k h = k
 all-go-on (x ∷ xs) k h = all-go-on xs (goes-on k x (h .0)) (h .1)
 
-pub any-claims : (z : Sizes) (m : List ℕ) (xs : List PairedCall) → open-store z m .reply ≡ accepted ok
+pub any-claims : (z : Sizes) (m : List ℕ) (xs : List PairedCall) → open-store z m .reply ≡ accepted ok 0
     → let start : Played = record { words = open-store z m .words; replies = []; history = [] } in
     let both : TwoRuns = record { first = start; second = start } in
     Choosing z xs both → SameReplies (runBoth z xs both)

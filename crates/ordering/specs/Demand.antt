@@ -30,5 +30,5 @@ pub record Ordered (z : Sizes) (p : Played) : Type 0 where
 abbrev pub Demand-3 : Type 0
 Demand-3 =
     (z : Sizes) (m : List ℕ) (requests : List Request)
-    → open-store z m .reply ≡ accepted ok
+    → open-store z m .reply ≡ accepted ok 0
     → Ordered z (play requests (record { words = open-store z m .words; replies = []; history = [] }))

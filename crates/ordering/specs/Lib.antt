@@ -3,3 +3,5 @@ pub mod Theorem
 pub mod MarkedRuns
 pub mod SameWords
 pub mod AnyClaims
+pub mod Steps
+pub mod Counting

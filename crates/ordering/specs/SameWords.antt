@@ -9,18 +9,18 @@ use Rattle.rules.specs.Cell.{Reader, reader}
 use Rattle.rules.specs.Update.{after}
 use Rattle.rules.specs.Free.{nextFree}
 use Rattle.rules.specs.Rule.{Effect, refuse, reply, Response, refused, accepted, ok}
-use Rattle.rules.specs.Request.{Request, Result, applied, effect, result, open-store}
+use Rattle.rules.specs.Request.{Request, Result, applied, effect, stepsSoFar, result, open-store}
 use Rattle.rules.specs.Play.{Played, playOne, play}
 use Rattle.rules.specs.Readback.{reader-writes}
 use Rattle.rules.specs.EveryWord.{same-cells-same-words}
-use Rattle.simulation.specs.Good.{Fine}
-use Rattle.simulation.specs.Every.{effect-is, effect-fine, next-choice}
+use Rattle.simulation.specs.Every.{effect-is, next-choice}
+use Rattle.progress.specs.Paced.{Keeps, call-keeps}
 use Rattle.ordering.specs.Theorem.{Maintained, result-is, keeps, opened-kept, opened-cells}
 
 -- What an effect answers, and what it leaves of the cells.
-abbrev answers : Effect → Response
-answers (refuse n) = refused n
-answers (reply r ws) = accepted r
+abbrev answers : ℕ → Effect → Response
+answers k (refuse n) = refused n
+answers k (reply r ws) = accepted r k
 
 abbrev leaves : Reader → Effect → Reader
 leaves σ (refuse n) = σ
@@ -31,25 +31,25 @@ module _ {z : Sizes} {p : Played} (k : Maintained z p) (q : Request) where
   abbrev σ : Reader
   σ = reader z (p .words)
 
-  applied-reply : (a : Effect) → applied z (p .words) a .reply ≡ answers a
+  applied-reply : (i : ℕ) (a : Effect) → applied i z (p .words) a .reply ≡ answers i a
   unfolding applied
-  applied-reply (refuse n) = refl
-  applied-reply (reply r ws) = refl
+  applied-reply i (refuse n) = refl
+  applied-reply i (reply r ws) = refl
 
-  applied-reads : (a : Effect) → Fine z σ (k .beside) q a → reader z (applied z (p .words) a .words) ≡ leaves σ a
+  applied-reads : (i : ℕ) (a : Effect) → Keeps z σ (k .beside) q a → reader z (applied i z (p .words) a .words) ≡ leaves σ a
   unfolding applied
-  applied-reads (refuse n) f = refl
-  applied-reads (reply r ws) f = reader-writes z (p .words) ws (k .fits) (f .there)
+  applied-reads i (refuse n) f = refl
+  applied-reads i (reply r ws) f = reader-writes z (p .words) ws (k .fits) (f .goes .there)
 
-  call-reply : result q (p .words) .reply ≡ answers (effect q z σ)
-  call-reply = ap (λ (r : Result). r .reply) (result-is k q) ∙ applied-reply (effect q z σ)
+  pub call-reply : result q (p .words) .reply ≡ answers (stepsSoFar q σ) (effect q z σ)
+  call-reply = ap (λ (r : Result). r .reply) (result-is k q) ∙ applied-reply (stepsSoFar q σ) (effect q z σ)
 
   call-reads : reader z (result q (p .words) .words) ≡ leaves σ (effect q z σ)
   call-reads =
       ap (λ (r : Result). reader z (r .words)) (result-is k q)
-      ∙ applied-reads (effect q z σ)
-      (subst⁻¹ (Fine z σ (k .beside) q) (effect-is q z σ)
-      (effect-fine z σ (k .beside) (k .good) (nextFree z σ) (next-choice z σ (k .beside) (k .good)) q))
+      ∙ applied-reads (stepsSoFar q σ) (effect q z σ)
+      (subst⁻¹ (Keeps z σ (k .beside) q) (effect-is q z σ)
+      (call-keeps z σ (k .beside) (k .good) (k .paced) (nextFree z σ) (next-choice z σ (k .beside) (k .good)) q))
 
 -- What two runs keep.
 record Same (z : Sizes) (p p′ : Played) : Type 0 where
@@ -66,7 +66,7 @@ same-call {z} s q =
       cells = call-reads (s .first) q ∙ ap (λ (σ : Reader). leaves σ (effect q z σ)) (s .cells) ∙ sym (call-reads (s .second) q);
       replies =
           ap₂ (λ (r : Response) (rs : List Response). r ∷ rs)
-          (call-reply (s .first) q ∙ ap (λ (σ : Reader). answers (effect q z σ)) (s .cells) ∙ sym (call-reply (s .second) q))
+          (call-reply (s .first) q ∙ ap (λ (σ : Reader). answers (stepsSoFar q σ) (effect q z σ)) (s .cells) ∙ sym (call-reply (s .second) q))
           (s .replies);
     }
 
@@ -75,7 +75,7 @@ unfolding play
 same-calls [] s = s
 same-calls (q ∷ qs) s = same-calls qs (same-call s q)
 
-pub same-words : (z : Sizes) (m m′ : List ℕ) (requests : List Request) → open-store z m .reply ≡ accepted ok → open-store z m′ .reply ≡ accepted ok
+pub same-words : (z : Sizes) (m m′ : List ℕ) (requests : List Request) → open-store z m .reply ≡ accepted ok 0 → open-store z m′ .reply ≡ accepted ok 0
     → let p : Played = play requests (record { words = open-store z m .words; replies = []; history = [] }) in
     let p′ : Played = play requests (record { words = open-store z m′ .words; replies = []; history = [] }) in
     (p .replies ≡ p′ .replies) × (take (storeWords z) (p .words) ≡ take (storeWords z) (p′ .words))

@@ -4,7 +4,7 @@ use mathlib.Core.Path.{_≡_, refl, ap, ap₂, sym, _∙_, subst, subst⁻¹}
 use mathlib.Core.Logic.{_≢_}
 use mathlib.Core.Bool.{Bool, true, false, cond}
 use mathlib.Core.List.{List, [], _∷_, _++_}
-use Prim.Native.Nat.{ℕ, _≤_}
+use Prim.Native.Nat.{ℕ, zero, suc, _≤_}
 use lib.ListN.{length}
 use Rattle.history.specs.Lists.{All}
 use Rattle.history.specs.Event.{History}
@@ -23,19 +23,20 @@ use Rattle.rules.specs.Sizes.{Sizes, storeWords}
 use Rattle.rules.specs.Cell.{Reader, reader}
 use Rattle.rules.specs.Free.{nextFree}
 use Rattle.rules.specs.Rule.{Effect, refuse, reply, refused, accepted, ok}
-use Rattle.rules.specs.Request.{Request, Result, applied, effect, result, open-store}
+use Rattle.rules.specs.Request.{Request, Result, applied, effect, stepsSoFar, result, open-store}
 use Rattle.rules.specs.Play.{Played, replyEvents, events, playOne, play, itemsLeft}
 use Rattle.rules.specs.Readback.{reader-writes, length-writes}
 use Rattle.rules.specs.Refusal.{accepted-not-refused, by-open}
 use Rattle.model.specs.Items.{items, items-rest}
 use Rattle.model.specs.State.{State}
 use Rattle.simulation.specs.View.{Ghost, view}
-use Rattle.simulation.specs.Good.{Good, Fine, untold, told}
+use Rattle.simulation.specs.Good.{Good, none-of-3-and-9, untold, told}
 use Rattle.memory.specs.Loose.{LooseChoice}
-use Rattle.simulation.specs.Every.{effectTaking, effect-is, effect-fine, next-choice}
+use Rattle.simulation.specs.Every.{effectTaking, effect-is, next-choice}
 use Rattle.simulation.specs.Opened.{open-fits, openReader, openGhost, open-reads, open-good}
 use Rattle.simulation.specs.Left.{items-left}
 use Rattle.simulation.specs.Admission.{sizes-are, admitted-is}
+use Rattle.progress.specs.Paced.{Paced, Keeps, call-keeps}
 use Rattle.ordering.specs.Demand.{Ordered, Demand-3}
 
 -- What every call keeps.
@@ -44,6 +45,7 @@ pub record Maintained (z : Sizes) (p : Played) : Type 0 where
   pub beside : Ghost
   pub good : Good z (reader z (p .words)) beside
   pub same : told (reader z (p .words)) (beside .history) ≡ p .history
+  pub paced : Paced z (reader z (p .words))
   pub answered : All (λ r. (r ≢ refused 3) × (r ≢ refused 9)) (p .replies)
 
 -- two refusals with one number
@@ -101,31 +103,33 @@ abbrev pub played : Request → Played → Result → Played
 played q p r = record { words = r .words; replies = r .reply ∷ p .replies; history = events q (p .history) (r .reply) ++ p .history }
 
 abbrev pub playTaking : Sizes → (c : ℕ) → Request → Played → Played
-playTaking z c q p = played q p (applied z (p .words) (effectTaking c q z (reader z (p .words))))
+playTaking z c q p = played q p (applied (stepsSoFar q (reader z (p .words))) z (p .words) (effectTaking c q z (reader z (p .words))))
 
 -- One call.
 module _ {z : Sizes} {p : Played} (k : Maintained z p) (q : Request) where
-  pub result-is : result q (p .words) ≡ applied z (p .words) (effect q z (reader z (p .words)))
+  pub result-is : result q (p .words) ≡ applied (stepsSoFar q (reader z (p .words))) z (p .words) (effect q z (reader z (p .words)))
   unfolding result
   result-is =
-      ap₂ (λ (y : Sizes) (a : Effect). applied y (p .words) a) (sizes-are z (p .words) (k .good .range))
+      ap₂ (λ (y : Sizes) (a : Effect). applied (stepsSoFar q (reader y (p .words))) y (p .words) a) (sizes-are z (p .words) (k .good .range))
       (admitted-is z (p .words) (k .good .range) (k .good .sizes) (k .fits) (effect q))
 
   -- The rules' own takes the next free record.
   pub play-is : playOne q p ≡ playTaking z (nextFree z (reader z (p .words))) q p
-  play-is = ap (played q p) (result-is ∙ ap (applied z (p .words)) (effect-is q z (reader z (p .words))))
+  play-is = ap (played q p) (result-is ∙ ap (applied (stepsSoFar q (reader z (p .words))) z (p .words)) (effect-is q z (reader z (p .words))))
 
-  by-answer : (a : Effect) → Fine z (reader z (p .words)) (k .beside) q a → Maintained z (played q p (applied z (p .words) a))
+  by-answer : (n : ℕ) (a : Effect) → Keeps z (reader z (p .words)) (k .beside) q a → Maintained z (played q p (applied n z (p .words) a))
   unfolding applied
-  by-answer (refuse n) f =
+  by-answer n (refuse m) f =
       record {
         fits = k .fits;
         beside = k .beside;
         good = k .good;
         same = k .same;
-        answered = (((λ e. f .0 (refused-number e)), (λ e. f .1 (refused-number e))), k .answered);
+        paced = k .paced;
+        answered = (let o = none-of-3-and-9 z (reader z (p .words)) q m f in (λ e. o .0 (refused-number e), λ e. o .1 (refused-number e)), k .answered);
       }
-  by-answer (reply r ws) g =
+  by-answer n (reply r ws) f =
+      let g = f .goes in
       record {
         fits = rw (length-writes z (p .words) ws) (k .fits);
         beside = g .next;
@@ -134,12 +138,13 @@ module _ {z : Sizes} {p : Played} (k : Maintained z p) (q : Request) where
             ap (λ (τ : Reader). told τ (g .next .history)) (reader-writes z (p .words) ws (k .fits) (g .there))
             ∙ g .grown
             ∙ ap (λ (h : History). replyEvents q h r ++ h) (k .same);
+        paced = subst⁻¹ (Paced z) (reader-writes z (p .words) ws (k .fits) (g .there)) (f .paced);
         answered = ((accepted-not-refused, accepted-not-refused), k .answered);
       }
 
   pub keeps-taking : (c : ℕ) → LooseChoice z (reader z (p .words)) c → Maintained z (playTaking z c q p)
   keeps-taking c choice =
-      by-answer (effectTaking c q z (reader z (p .words))) (effect-fine z (reader z (p .words)) (k .beside) (k .good) c choice q)
+      by-answer (stepsSoFar q (reader z (p .words))) (effectTaking c q z (reader z (p .words))) (call-keeps z (reader z (p .words)) (k .beside) (k .good) (k .paced) c choice q)
 
   pub keeps : Maintained z (playOne q p)
   keeps =
@@ -152,11 +157,16 @@ unfolding play
 plays [] k = k
 plays (q ∷ qs) k = plays qs (keeps k q)
 
+-- After an open no call is under way.
+open-paced : (z : Sizes) → Paced z (openReader z)
+open-paced z zero l busy = absurd (busy refl)
+open-paced z (suc p) l busy = absurd (busy refl)
+
 -- An accepted open, whatever the words held before.
 module _ (z : Sizes) (m : List ℕ) where
-  pub opened-kept : open-store z m .reply ≡ accepted ok → Maintained z (record { words = open-store z m .words; replies = []; history = [] })
+  pub opened-kept : open-store z m .reply ≡ accepted ok 0 → Maintained z (record { words = open-store z m .words; replies = []; history = [] })
   opened-kept =
-      by-open (λ r. r .reply ≡ accepted ok → Maintained z (record { words = r .words; replies = []; history = [] })) z m
+      by-open (λ r. r .reply ≡ accepted ok 0 → Maintained z (record { words = r .words; replies = []; history = [] })) z m
       (λ n h r. absurd (accepted-not-refused (sym r)))
       (λ e l r.
       record {
@@ -164,12 +174,13 @@ module _ (z : Sizes) (m : List ℕ) where
         beside = openGhost;
         good = subst⁻¹ (λ (τ : Reader). Good z τ openGhost) (open-reads z e m) (open-good z e);
         same = ap (λ (τ : Reader). told τ []) (open-reads z e m);
+        paced = subst⁻¹ (Paced z) (open-reads z e m) (open-paced z);
         answered = tt;
       })
 
-  pub opened-cells : open-store z m .reply ≡ accepted ok → reader z (open-store z m .words) ≡ openReader z
+  pub opened-cells : open-store z m .reply ≡ accepted ok 0 → reader z (open-store z m .words) ≡ openReader z
   opened-cells =
-      by-open (λ r. r .reply ≡ accepted ok → reader z (r .words) ≡ openReader z) z m
+      by-open (λ r. r .reply ≡ accepted ok 0 → reader z (r .words) ≡ openReader z) z m
       (λ n h r. absurd (accepted-not-refused (sym r)))
       (λ e l r. open-reads z e m)
 

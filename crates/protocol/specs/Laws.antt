@@ -12,7 +12,7 @@ use borrow.Author.Tests.{eq-eqb, ne-eqb}
 use Rattle.text.specs.Decimal.{decimal}
 use Rattle.text.specs.Laws.{length-digits}
 use Rattle.rules.specs.Rule.{Response, refused, accepted, ok, started, going, ended, empty, item}
-use Rattle.protocol.specs.Words.{space, newline, okWord, itemWord, refusedWord}
+use Rattle.protocol.specs.Words.{space, newline, okWord, endWord, emptyWord, itemWord, refusedWord}
 use Rattle.protocol.specs.Line.{lineLength, push, linesOf, startsWith}
 use Rattle.protocol.specs.Printed.{numberAnd, numbered, numberPair, printed, mostPrinted}
 
@@ -66,15 +66,17 @@ length-number n end = simp length-append (omega (arith, length-decimal n))
 pub length-numbered : (word : List ℕ) (n : ℕ) → length (numbered word n) ≤ length word + 11
 length-numbered word n = rw (length-append word) (omega (arith, length-number n newline))
 
-length-item : (n v : ℕ) → length (itemWord ++ numberPair n v) ≤ 27
-length-item n v = rw (length-append itemWord, length-append (numberAnd n space)) (omega (arith, length-number n space, length-number v newline))
+length-item : (n v k : ℕ) → length (itemWord ++ (numberAnd n space ++ numberPair v k)) ≤ mostPrinted
+length-item n v k =
+    rw (length-append itemWord, length-append (numberAnd n space), length-append (numberAnd v space))
+    (omega (arith, length-number n space, length-number v space, length-number k newline))
 
 pub length-printed : (r : Response) → length (printed r) ≤ mostPrinted
 unfolding printed
 length-printed (refused n) = omega (arith, length-numbered refusedWord n)
-length-printed (accepted ok) = omega arith
-length-printed (accepted (started n)) = omega (arith, length-numbered okWord n)
-length-printed (accepted going) = omega arith
-length-printed (accepted ended) = omega arith
-length-printed (accepted empty) = omega arith
-length-printed (accepted (item n v)) = omega (arith, length-item n v)
+length-printed (accepted ok k) = omega arith
+length-printed (accepted (started n) k) = omega (arith, length-numbered okWord n)
+length-printed (accepted going k) = omega arith
+length-printed (accepted ended k) = omega (arith, length-numbered endWord k)
+length-printed (accepted empty k) = omega (arith, length-numbered emptyWord k)
+length-printed (accepted (item n v) k) = omega (arith, length-item n v k)

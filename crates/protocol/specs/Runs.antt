@@ -1,12 +1,14 @@
--- Lines and what they ask, as one table and one statement that the checker computes.
+-- Lines and what they ask, and replies and what they print: two tables, and a statement on each that the checker computes.
 use mathlib.Core.Path.{_≡_, refl}
 use mathlib.Core.List.{List, [], _∷_, _++_, map}
 use Prim.Native.Nat.{ℕ}
+use Rattle.rules.specs.Rule.{Response, refused, accepted, going, ended, empty, item}
 use Rattle.text.specs.Decimal.{digitsFrom, numberAt, digits}
 use Rattle.protocol.specs.declared.Line.{Line}
 use Rattle.protocol.specs.declared.Line.the-variants.{Open, Enqueue, Dequeue, Step, Bad}
-use Rattle.protocol.specs.Words.{space, openWord, enqueueWord, dequeueWord, stepWord}
+use Rattle.protocol.specs.Words.{space, newline, openWord, enqueueWord, dequeueWord, stepWord, goingLine, endWord, emptyWord, itemWord, refusedWord}
 use Rattle.protocol.specs.Line.{startsWith, fieldAt, lastAt, openLine, enqueueLine, stepLine, dequeueLine, parseLine}
+use Rattle.protocol.specs.Printed.{printed}
 
 pub record Sample : Type 0 where
   pub bytes : List ℕ
@@ -49,3 +51,22 @@ samples =
 pub lines-as-written : map (λ x. parseLine (x .bytes)) samples ≡ map (λ x. x .asks) samples
 unfolding startsWith fieldAt lastAt openLine enqueueLine stepLine dequeueLine parseLine digitsFrom numberAt digits
 lines-as-written = refl
+
+pub record Example : Type 0 where
+  pub reply : Response
+  pub line : List ℕ
+
+-- "refused 8", "going", "end 4", "empty 2", "item 1 7 3"
+abbrev pub examples : List Example
+examples =
+    record { reply = refused 8; line = refusedWord ++ (56 ∷ newline ∷ []) }
+    ∷ record { reply = accepted going 3; line = goingLine }
+    ∷ record { reply = accepted ended 4; line = endWord ++ (52 ∷ newline ∷ []) }
+    ∷ record { reply = accepted empty 2; line = emptyWord ++ (50 ∷ newline ∷ []) }
+    ∷ record { reply = accepted (item 1 7) 3; line = itemWord ++ (49 ∷ space ∷ 55 ∷ space ∷ 51 ∷ newline ∷ []) }
+    ∷ []
+
+-- Every reply of the table prints what the table says.
+pub replies-as-printed : map (λ x. printed (x .reply)) examples ≡ map (λ x. x .line) examples
+unfolding printed digits
+replies-as-printed = refl

@@ -21,7 +21,7 @@ dequeueWord = 100 ∷ []
 abbrev pub stepWord : List ℕ
 stepWord = 115 ∷ space ∷ []
 
--- Reply words, with the newline or the space that follows: "ok", "ok ", "going", "end", "empty", "item ", "refused ".
+-- Reply words, with the newline or the space that follows: "ok", "ok ", "going", "end ", "empty ", "item ", "refused ".
 abbrev pub okLine : List ℕ
 okLine = 111 ∷ 107 ∷ newline ∷ []
 
@@ -31,11 +31,11 @@ okWord = 111 ∷ 107 ∷ space ∷ []
 abbrev pub goingLine : List ℕ
 goingLine = 103 ∷ 111 ∷ 105 ∷ 110 ∷ 103 ∷ newline ∷ []
 
-abbrev pub endLine : List ℕ
-endLine = 101 ∷ 110 ∷ 100 ∷ newline ∷ []
+abbrev pub endWord : List ℕ
+endWord = 101 ∷ 110 ∷ 100 ∷ space ∷ []
 
-abbrev pub emptyLine : List ℕ
-emptyLine = 101 ∷ 109 ∷ 112 ∷ 116 ∷ 121 ∷ newline ∷ []
+abbrev pub emptyWord : List ℕ
+emptyWord = 101 ∷ 109 ∷ 112 ∷ 116 ∷ 121 ∷ space ∷ []
 
 abbrev pub itemWord : List ℕ
 itemWord = 105 ∷ 116 ∷ 101 ∷ 109 ∷ space ∷ []

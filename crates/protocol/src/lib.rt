@@ -5,11 +5,11 @@ ghost use mathlib.Core.Path.{_≡_};
 ghost use mathlib.Core.List.{_++_};
 ghost use Prim.Native.Nat.{_+_, _≤_};
 ghost use lib.ListN.{length, drop};
-ghost use Rattle.store.specs.Outcome.{response};
+ghost use Rattle.store.specs.Outcome.{responseAfter};
 ghost use Rattle.text.specs.Wrote.{Wrote};
 ghost use Rattle.protocol.specs.Line.{lineLength, startsWith, fieldAt, lastAt, openLine, enqueueLine, stepLine, dequeueLine, parseLine};
 ghost use Rattle.protocol.specs.Printed.{numberAnd, numbered, numberPair, printed, mostPrinted};
-ghost use Rattle.protocol.specs.Words.{itemWord};
+ghost use Rattle.protocol.specs.Words.{space, itemWord};
 
 // What a line asks: an open with its four sizes, a start enqueue with its thread and value, a start dequeue, a step with its
 // thread, or nothing that the program knows.
@@ -168,7 +168,7 @@ pub fn print_numbered(out: &mut [u8], at: usize, word: &[u8], n: u32) -> usize
     print_number(out, next, n, 10)
 }
 
-// Writes a call number and a value, with a space between and a newline.
+// Writes two numbers, with a space between and a newline.
 fn print_pair(out: &mut [u8], at: usize, n: u32, v: u32) -> usize
     requires { ⌜ at + 22 ≤ length (now out) ⌝ }
     ensures { λ r. ⌜ Wrote (now (out .entry)) at (numberPair n v) (now (out .exit)) r ⌝ }
@@ -177,19 +177,20 @@ fn print_pair(out: &mut [u8], at: usize, n: u32, v: u32) -> usize
     print_number(out, next, v, 10)
 }
 
-// Writes `item`, a call number and a value.
-fn print_item(out: &mut [u8], at: usize, n: u32, v: u32) -> usize
-    requires { ⌜ at + 27 ≤ length (now out) ⌝ }
-    ensures { λ r. ⌜ Wrote (now (out .entry)) at (itemWord ++ numberPair n v) (now (out .exit)) r ⌝ }
+// Writes `item`, a call number, a value and the accepted steps.
+fn print_item(out: &mut [u8], at: usize, n: u32, v: u32, steps: u32) -> usize
+    requires { ⌜ at + mostPrinted ≤ length (now out) ⌝ }
+    ensures { λ r. ⌜ Wrote (now (out .entry)) at (itemWord ++ (numberAnd n space ++ numberPair v steps)) (now (out .exit)) r ⌝ }
 {
     let next = text::write_bytes(out, at, b"item ");
-    print_pair(out, next, n, v)
+    let last = print_number(out, next, n, 32);
+    print_pair(out, last, v, steps)
 }
 
-// Writes the line of a reply at a position, and answers the position after it.
-pub fn print_reply(out: &mut [u8], at: usize, reply: Reply) -> usize
+// Writes the line of a reply, with the accepted steps of its call where it ends, at a position, and answers the position after it.
+pub fn print_reply(out: &mut [u8], at: usize, reply: Reply, steps: u32) -> usize
     requires { ⌜ at + mostPrinted ≤ length (now out) ⌝ }
-    ensures { λ r. ⌜ Wrote (now (out .entry)) at (printed (response reply)) (now (out .exit)) r ⌝ }
+    ensures { λ r. ⌜ Wrote (now (out .entry)) at (printed (responseAfter steps reply)) (now (out .exit)) r ⌝ }
 {
     match reply {
         Reply::Refused(n) => {
@@ -205,13 +206,13 @@ pub fn print_reply(out: &mut [u8], at: usize, reply: Reply) -> usize
             return text::write_bytes(out, at, b"going\n");
         }
         Reply::Ended => {
-            return text::write_bytes(out, at, b"end\n");
+            return print_numbered(out, at, b"end ", steps);
         }
         Reply::Empty => {
-            return text::write_bytes(out, at, b"empty\n");
+            return print_numbered(out, at, b"empty ", steps);
         }
         Reply::Item(n, v) => {
-            return print_item(out, at, n, v);
+            return print_item(out, at, n, v, steps);
         }
     }
 }

@@ -11,8 +11,9 @@ use lib.Seq.{getD-drop, drop-at}
 use borrow.Author.Tests.{leb-true}
 use Rattle.history.specs.Lists.{All}
 use Rattle.rules.specs.Sizes.{Sizes, between, sizesInRange, storeWords}
+use Rattle.rules.specs.Cell.{reader}
 use Rattle.rules.specs.Rule.{Effect, refuse, reply}
-use Rattle.rules.specs.Request.{Request, applied, openWrites, opened, open-store, effect, sizesOf, admitted, result}
+use Rattle.rules.specs.Request.{Request, applied, openWrites, opened, open-store, effect, stepsSoFar, sizesOf, admitted, result}
 use Rattle.rules.specs.Update.{both}
 use Rattle.rules.specs.Readback.{WriteThere, length-writes, drop-writes}
 use Rattle.rules.specs.Refusal.{by-open}
@@ -38,10 +39,10 @@ behind z m n l e = record { as-many = l; same = same }
     same : (k : ℕ) → storeWords z ≤ k → getD n k 0 ≡ getD m k 0
     same k h = sym (at n k h) ∙ ap (λ (w : List ℕ). getD w (k - storeWords z) 0) e ∙ at m k h
 
-applied-beyond : (z : Sizes) (q : Request) (m : List ℕ) (a : Effect) → Sound z q a → Beyond z m (applied z m a .words)
+applied-beyond : (k : ℕ) (z : Sizes) (q : Request) (m : List ℕ) (a : Effect) → Sound z q a → Beyond z m (applied k z m a .words)
 unfolding applied
-applied-beyond z q m (refuse n) s = unchanged z m
-applied-beyond z q m (reply r ws) s = behind z m _ (length-writes z m ws) (drop-writes z m ws (s .1))
+applied-beyond k z q m (refuse n) s = unchanged z m
+applied-beyond k z q m (reply r ws) s = behind z m _ (length-writes z m ws) (drop-writes z m ws (s .1))
 
 two-records : (z : Sizes) → sizesInRange z ≡ true → 2 ≤ z .N
 two-records z e =
@@ -66,5 +67,5 @@ pub words-beyond : (m : List ℕ)
 unfolding result
 words-beyond m = (
   (λ z. by-open (λ r. Beyond z m (r .words)) z m (λ n h. unchanged z m) (opened-beyond z m)),
-  (λ q. applied-beyond (sizesOf m) q m (admitted m (effect q)) (admitted-sound q m)),
+  (λ q. applied-beyond (stepsSoFar q (reader (sizesOf m) m)) (sizesOf m) q m (admitted m (effect q)) (admitted-sound q m)),
 )

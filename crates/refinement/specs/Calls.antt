@@ -4,15 +4,16 @@ use mathlib.Core.Path.{_≡_}
 use mathlib.Core.Logic.{_≢_}
 use mathlib.Core.Bool.{cond}
 use mathlib.Core.List.{List, [], _∷_, _++_, map}
-use Prim.Native.Nat.{ℕ}
+use Prim.Native.Nat.{ℕ, suc, _≤_}
 use lib.Dec.{eqb}
 use lib.ListN.{length, getD, take}
 use Rattle.history.specs.Lists.{All}
 use Rattle.rules.specs.Sizes.{Sizes, storeWords}
-use Rattle.rules.specs.Rule.{Response, refused, accepted, ok, started, going, ended, empty, item}
+use Rattle.rules.specs.Rule.{Reply, Response, refused, accepted, ok, started, going, ended, empty, item}
 use Rattle.rules.specs.Request.{Request, startEnqueue, startDequeue, step, Result, open-store, result}
-use Rattle.rules.specs.Play.{Played, events, play}
+use Rattle.rules.specs.Play.{Played, events, play, stepsWith}
 use Rattle.ordering.specs.Demand.{Ordered}
+use Rattle.ordering.specs.Steps.{mostDequeueSteps}
 use Rattle.engine.specs.Export.{Returned, returned, Replied, replied}
 
 -- A call, the response to it and the words of the store after it.
@@ -49,11 +50,29 @@ Refines = (p : Played) (cs : List Made) → Chain (p .words) cs → recorded cs 
 
 -- An open that was accepted, by its contract (`open_store`, crates/opening/src/lib.rt): what it left of the words before.
 abbrev pub Opens : Sizes → (before m : List ℕ) → Type 0
-Opens z before m = _≡_ {A = Result} (record { reply = accepted ok; words = m }) (open-store z before)
+Opens z before m = _≡_ {A = Result} (record { reply = accepted ok 0; words = m }) (open-store z before)
 
 -- Demand 3 of any such calls after an accepted open, whatever the store held before.
 abbrev pub Demand-3-Of-Calls : Type 0
 Demand-3-Of-Calls = (z : Sizes) (before m : List ℕ) (cs : List Made) → Opens z before m → Chain m cs → Ordered z (recorded cs (fresh m))
+
+-- The accepted steps of the call that thread t has under way, counted by such calls and their responses; k before them.
+abbrev pub stepsIn : (t : ℕ) → List Made → (k : ℕ) → ℕ
+stepsIn t [] k = k
+stepsIn t (c ∷ cs) k = stepsIn t cs (stepsWith t (c .request) (c .response) k)
+
+-- A further step that was accepted carries that number, itself included; and one of a dequeue is within the most that a dequeue makes, and has
+-- ended it where it reaches that number (document 02, U3).
+abbrev pub Step-Counts-Of-Calls : Type 0
+Step-Counts-Of-Calls =
+    (z : Sizes) (before m : List ℕ) (cs : List Made) (c : Made)
+    → Opens z before m
+    → Chain m cs
+    → Meets (recorded cs (fresh m) .words) c
+    → (t : ℕ) (r : Reply) (k : ℕ)
+    → c .request ≡ step t
+    → c .response ≡ accepted r k
+    → (k ≡ suc (stepsIn t cs 0)) × (t ≡ 0 → (k ≤ mostDequeueSteps z) × (k ≡ mostDequeueSteps z → r ≢ going))
 
 -- Dumps from two sites: the same calls after opens of the same sizes, on any two stores, got the same responses and left the same words.
 abbrev pub Same-Dumps : Type 0
@@ -90,15 +109,15 @@ ExchangeChain m (x ∷ xs) =
     (length (x .lent) ≡ 4) × Exports (x .request) m (x .lent) (x .number) (x .store) (x .reply) × ExchangeChain (x .store) xs
 
 -- What the number and the reply's words say: a refusal's number; 0 for an accepted start, word 0 the call number of an enqueue; for a step
--- 100 going, 101 end, 102 empty, 103 item, words 0 and 1 its call number and value.
+-- 100 going, 101 end, 102 empty, 103 item, words 0 and 1 its call number and value, and word 2 the accepted steps of the call.
 unfoldable pub says : Request → (number : ℕ) → (reply : List ℕ) → Response
-says (startEnqueue t v) n w = cond (eqb n 0) (accepted (started (getD w 0 0))) (refused n)
-says startDequeue n w = cond (eqb n 0) (accepted ok) (refused n)
+says (startEnqueue t v) n w = cond (eqb n 0) (accepted (started (getD w 0 0)) 0) (refused n)
+says startDequeue n w = cond (eqb n 0) (accepted ok 0) (refused n)
 says (step t) n w =
-    cond (eqb n 100) (accepted going)
-    (cond (eqb n 101) (accepted ended)
-    (cond (eqb n 102) (accepted empty)
-    (cond (eqb n 103) (accepted (item (getD w 0 0) (getD w 1 0))) (refused n))))
+    cond (eqb n 100) (accepted going (getD w 2 0))
+    (cond (eqb n 101) (accepted ended (getD w 2 0))
+    (cond (eqb n 102) (accepted empty (getD w 2 0))
+    (cond (eqb n 103) (accepted (item (getD w 0 0) (getD w 1 0)) (getD w 2 0)) (refused n))))
 
 abbrev pub madeOf : Exchange → Made
 madeOf x = record { request = x .request; response = says (x .request) (x .number) (x .reply); words = x .store }
@@ -111,3 +130,15 @@ Demand-3-For-C =
     → _≡_ {A = Returned} (record { number = 0; store = m }) (returned (open-store z before))
     → ExchangeChain m xs
     → Ordered z (recorded (map madeOf xs) (fresh m)) × All (λ x. (x .number ≢ 3) × (x .number ≢ 9)) xs
+
+-- After such calls, a further `intake_step` that was accepted leaves in word 2 of its reply the accepted steps of its call, counted in the list.
+abbrev pub Step-Counts-For-C : Type 0
+Step-Counts-For-C =
+    (z : Sizes) (before m : List ℕ) (xs : List Exchange)
+    → _≡_ {A = Returned} (record { number = 0; store = m }) (returned (open-store z before))
+    → ExchangeChain m xs
+    → (t n : ℕ) (lent s w : List ℕ)
+    → length lent ≡ 4
+    → Exports (step t) (recorded (map madeOf xs) (fresh m) .words) lent n s w
+    → 100 ≤ n
+    → getD w 2 0 ≡ suc (stepsIn t (map madeOf xs) 0)

@@ -8,7 +8,7 @@ use denote.Triple.Clauses.{AtExit}
 use borrow.Fn.Kinds.{PK, RK, Dens, resT, endedOf, Out}
 use Rattle.rules.specs.Request.{startEnqueue, startDequeue, step, Result, open-store}
 use Rattle.store.specs.Shape.{sizes}
-use Rattle.store.specs.Outcome.{response}
+use Rattle.store.specs.Outcome.{response, responseAfter}
 use Rattle.engine.specs.Export.{Returned, returned}
 use Rattle.opening.proofs.open_store.Kinds as open-store-kinds
 use Rattle.opening.proofs.open_store.Reads as open-store
@@ -46,7 +46,7 @@ pub start-dequeue-contract : Gives 1 start-dequeue-kinds.ps start-dequeue-kinds.
 start-dequeue-contract κs a r e h = h
 
 pub step-contract : Gives 1 step-kinds.ps step-kinds.r step.Learnt
-    λ κs a r e. Meets (now (a .0)) (record { request = step (a .1 .0); response = response r; words = now (e .0) })
+    λ κs a r e. Meets (now (a .0)) (record { request = step (a .1 .0); response = responseAfter (r .steps) (r .reply); words = now (e .0) })
 step-contract κs a r e h = h
 
 pub intake-open-contract : Gives 1 intake-open-kinds.ps intake-open-kinds.r intake-open.Learnt

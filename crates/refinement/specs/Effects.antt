@@ -1,23 +1,25 @@
 -- What every answer is like, on any store in range: a refusal has a number of the table, a reply is of the call's kind, and every write
 -- is of a word that the store has.
-use mathlib.Core.Path.{_≡_, refl}
+use mathlib.Core.Path.{_≡_, refl, subst⁻¹}
 use mathlib.Core.Bool.{Bool, true, false, _&&_, _||_, not, cond}
 use mathlib.Core.List.{List, [], _∷_, _++_}
 use Prim.Native.Nat.{ℕ, zero, suc, _+_, _*_, _≤_, _<_}
+use native.Mathlib.Decide.{decLe}
 use native.Mathlib.Omega.{arith}
 use lib.Dec.{leb, ltb, eqb}
 use lib.ListN.{length, getD}
-use borrow.Author.Tests.{leb-true, ltb-true, ltb-false, eqb-false, not-false}
+use borrow.Author.Tests.{leb-true, lt-ltb, ltb-true, ltb-false, eqb-false, not-false}
 use Rattle.history.specs.Lists.{All}
-use Rattle.rules.specs.Sizes.{Sizes, sizesInRange, mostPlace, storeWords}
-use Rattle.rules.specs.Cell.{Reader, reader, Write, tailRecord, headRecord, held, claimed, cursorRecord, foundRecord, cursorPosition, foundPosition, consumerPhase, headPosition, tail, starts, state, phase, position, backed, place, next, prev, _:=_, clearProducer}
+use Rattle.criterion.specs.Members.{all-append}
+use Rattle.rules.specs.Sizes.{Sizes, sizesInRange, mostPlace, mostSteps, storeWords}
+use Rattle.rules.specs.Cell.{Cell, Reader, reader, Write, tailRecord, headRecord, held, claimed, cursorRecord, foundRecord, cursorPosition, foundPosition, consumerPhase, headPosition, tail, starts, state, phase, position, backed, stepCount, place, next, prev, _:=_, clearProducer}
 use Rattle.rules.specs.Range.{inRange}
 use Rattle.rules.specs.Free.{nextFree}
 use Rattle.rules.specs.Rule.{Reply, ok, started, going, ended, empty, item, Effect, refuse, reply, need, upTo, within, index, atEnd}
 use Rattle.rules.specs.Producer.{linked, takePosition, loadTail, lookNext, claimRecord, linkClaimed, shiftTail, goBack, writeEntry, setEntry, claimAhead, linkAhead, producerRules, producerStep}
 use Rattle.rules.specs.Consumer.{byState, front, readTail, scan, readEntry, rescan, readItem, drainedAt, markHandled, retireHead, consumerRules, consumerStep}
-use Rattle.rules.specs.Request.{Request, startEnqueue, startDequeue, step, startingEnqueue, startingDequeue, stepping, effect, sizesOf, admitted}
-use Rattle.rules.specs.Update.{both, neither}
+use Rattle.rules.specs.Request.{Request, startEnqueue, startDequeue, step, startingEnqueue, startingDequeue, phaseStep, countKept, counted, stepping, effect, sizesOf, admitted}
+use Rattle.rules.specs.Update.{countOf, count-is, both, neither}
 use Rattle.rules.specs.Readback.{WriteThere}
 use Rattle.rules.specs.InRange.{InRange, range-has}
 use Rattle.memory.specs.NextFree.{RightChoice, next-free-right}
@@ -289,14 +291,41 @@ module _ (z : Sizes) (σ : Reader) (range : InRange z σ) where
       go zero h = omega arith
       go (suc r) h = h .0
 
-  step-sound : (t : ℕ) → Sound z (step t) (stepping (nextFree z σ) t z σ)
-  unfolding stepping
-  step-sound t =
+  phase-sound : (t : ℕ) → Sound z (step t) (phaseStep (nextFree z σ) t z σ)
+  unfolding phaseStep
+  phase-sound t =
       by-cond z (step t) (ltb (z .P) t) _ _ (λ _. omega arith)
       λ l. by-cond z (step t) (eqb t 0) _ _
       (λ _. either z σ range t (eqb (σ consumerPhase) 0) _ _ (omega arith) (consumer-sound z σ range t))
       λ n. either z σ range t (eqb (σ (phase t)) 0) _ _ (omega arith)
       (producer-sound z σ range t (omega (arith, eqb-false t 0 n, ltb-false (z .P) t l)) (nextFree z σ) choice-most)
+
+  -- A step that is counted writes one word more, its own thread's.
+  counted-sound : (t k : ℕ) → t ≤ z .P → (a : Effect) → Sound z (step t) a → Sound z (step t) (counted (stepCount t) k a)
+  unfolding counted
+  counted-sound t k l (refuse n) s = s
+  counted-sound t k l (reply r ws) s =
+      by-cond z (step t) (leb k mostSteps) _ _ (λ b. (s .0, all-append (WriteThere z) ws (countKept (stepCount t) k r) (s .1) (kept r))) (λ b. omega arith)
+    where
+      there : (t : ℕ) → t ≤ z .P → WriteThere z (countOf t := k)
+      there zero l = omega arith
+      there (suc p) l = (omega arith, l, omega arith)
+
+      kept : (r : Reply) → All (WriteThere z) (countKept (stepCount t) k r)
+      kept going = (subst⁻¹ (λ (c : Cell). WriteThere z (c := k)) (count-is t) (there t l), tt)
+      kept ok = tt
+      kept (started n) = tt
+      kept ended = tt
+      kept empty = tt
+      kept (item n v) = tt
+
+  step-sound : (t : ℕ) → Sound z (step t) (stepping (nextFree z σ) t z σ)
+  unfolding stepping phaseStep counted
+  step-sound t = go (decLe t (z .P))
+    where
+      go : Dec (t ≤ z .P) → Sound z (step t) (stepping (nextFree z σ) t z σ)
+      go (yes l) = counted-sound t (suc (σ (stepCount t))) l (phaseStep (nextFree z σ) t z σ) (phase-sound t)
+      go (no l) = rw (lt-ltb (z .P) t (omega arith)) (omega arith)
 
   pub answer-sound : (q : Request) → Sound z q (effect q z σ)
   unfolding effect

@@ -1,26 +1,52 @@
 -- Every request on two stores alike that only the engine has written is answered alike, whichever loose record each claim takes, if both
 -- claims find one or neither does. From the phases, one by one.
-use mathlib.Core.Path.{_≡_, refl}
+use mathlib.Core.Path.{_≡_, refl, ap, sym, _∙_}
 use mathlib.Core.Logic.{_≢_}
 use mathlib.Core.Bool.{_||_, not}
-use mathlib.Core.List.{[], _∷_}
+use mathlib.Core.List.{List, [], _∷_, _++_, append-nil}
 use Prim.Native.Nat.{ℕ, zero, suc, _≤_}
 use native.Mathlib.Omega.{arith}
 use lib.Dec.{eqb, ltb}
 use lib.ListN.{getD}
 use borrow.Author.Tests.{eqb-false, ltb-false}
-use Rattle.rules.specs.Sizes.{Sizes}
-use Rattle.rules.specs.Cell.{Reader, _:=_, starts, consumerPhase, phase, call, value}
-use Rattle.rules.specs.Rule.{refuse, ok, started}
+use Rattle.rules.specs.Sizes.{Sizes, mostSteps}
+use Rattle.rules.specs.Cell.{Reader, Write, _:=_, consumer, producer, starts, consumerPhase, phase, call, value, stepCount}
+use Rattle.rules.specs.Update.{update, after, after-more, countOf, count-is}
+use Rattle.rules.specs.Rule.{Effect, Reply, refuse, reply, ok, started, going, ended, empty, item}
 use Rattle.rules.specs.Producer.{producerRules, producerStep}
 use Rattle.rules.specs.Consumer.{consumerRules, consumerStep}
-use Rattle.rules.specs.Request.{Request, startEnqueue, startDequeue, step, startingEnqueue, startingDequeue, stepping}
+use Rattle.rules.specs.Request.{Request, countKept, startEnqueue, startDequeue, step, startingEnqueue, startingDequeue, phaseStep, counted, stepping, stepsSoFar}
 use Rattle.simulation.specs.Every.{effectTaking}
-use Rattle.renaming.specs.AlikeEffects.{Like, by-refusal, by-cond, by-plain}
+use Rattle.renaming.specs.AlikeEffects.{Stores, Like, by-refusal, by-cond, by-up-to, by-plain}
 use Rattle.renaming.specs.AlikeRecords.{Twins}
 use Rattle.renaming.specs.AlikeProducer.{take-position-alike, load-tail-alike, look-next-alike, link-claimed-alike, link-ahead-alike, shift-tail-alike, go-back-alike, write-entry-alike, set-entry-alike}
 use Rattle.renaming.specs.AlikeClaims.{BothChoose, claim-record-alike, claim-ahead-alike}
 use Rattle.renaming.specs.AlikeConsumer.{front-alike, read-tail-alike, scan-alike, read-entry-alike, rescan-alike, read-item-alike, mark-handled-alike, retire-head-alike}
+
+-- The count is written alike.
+with-count : {z : Sizes} {σ τ : Reader} → Stores z σ τ → (t n : ℕ) → Stores z (update σ (countOf t := n)) (update τ (countOf t := n))
+with-count s zero n = by-plain s going (consumer 7 := n ∷ []) _ refl (λ r u. u) (λ u r e. e) .answers .1
+with-count s (suc p) n = by-plain s going (producer (suc p) 7 := n ∷ []) _ refl (λ r u. u) (λ u r e. e) .answers .1
+
+module _ (z : Sizes) (σ τ : Reader) (t k : ℕ) where
+  kept-alike : (r : Reply) (ws vs : List Write) → Stores z (after σ ws) (after τ vs)
+      → Stores z (after σ (ws ++ countKept (stepCount t) k r)) (after τ (vs ++ countKept (stepCount t) k r))
+  kept-alike going ws vs s =
+      rw (after-more σ ws (stepCount t := k), after-more τ vs (stepCount t := k), count-is t) (with-count s t k)
+  kept-alike ok ws vs s = rw (append-nil ws, append-nil vs) s
+  kept-alike (started n) ws vs s = rw (append-nil ws, append-nil vs) s
+  kept-alike ended ws vs s = rw (append-nil ws, append-nil vs) s
+  kept-alike empty ws vs s = rw (append-nil ws, append-nil vs) s
+  kept-alike (item n v) ws vs s = rw (append-nil ws, append-nil vs) s
+
+  counted-alike : (a b : Effect) → Like z σ τ a b → Like z σ τ (counted (stepCount t) k a) (counted (stepCount t) k b)
+  unfolding counted
+  counted-alike (refuse n) (refuse m) l = record { answers = l .answers }
+  counted-alike (refuse n) (reply s vs) l = absurd (l .answers)
+  counted-alike (reply r ws) (refuse m) l = absurd (l .answers)
+  counted-alike (reply r ws) (reply s vs) l =
+      by-up-to mostSteps k k refl
+      (rw (← l .answers .0) (record { answers = (refl, kept-alike r ws vs (l .answers .1)) }))
 
 module _ {z : Sizes} {σ τ : Reader} (pair : Twins z σ τ) where
   idle-alike : Like z σ τ (refuse 7) (refuse 7)
@@ -31,6 +57,19 @@ module _ {z : Sizes} {σ τ : Reader} (pair : Twins z σ τ) where
 
   phase-same : (t : ℕ) → τ (phase t) ≡ σ (phase t)
   phase-same t = pair .stores .alike .words (phase t) tt
+
+  count-same : (t : ℕ) → τ (stepCount t) ≡ σ (stepCount t)
+  count-same t = ap τ (count-is t) ∙ go t ∙ ap σ (sym (count-is t))
+    where
+      go : (t : ℕ) → τ (countOf t) ≡ σ (countOf t)
+      go zero = pair .stores .alike .words (consumer 7) tt
+      go (suc p) = pair .stores .alike .words (producer (suc p) 7) tt
+
+  -- the number that an accepted reply carries
+  pub steps-same : (q : Request) → stepsSoFar q τ ≡ stepsSoFar q σ
+  steps-same (startEnqueue t v) = refl
+  steps-same startDequeue = refl
+  steps-same (step t) = ap suc (count-same t)
 
   consumer-alike : Like z σ τ (consumerStep z σ) (consumerStep z τ)
   unfolding consumerStep
@@ -68,9 +107,9 @@ module _ {z : Sizes} {σ τ : Reader} (pair : Twins z σ τ) where
       by-phase (suc (suc (suc (suc (suc (suc (suc (suc (suc (suc (suc zero))))))))))) e = link-ahead-alike pair t
       by-phase (suc (suc (suc (suc (suc (suc (suc (suc (suc (suc (suc (suc p)))))))))))) e = idle-alike
 
-  step-alike : (c d : ℕ) → BothChoose z σ τ c d → (t : ℕ) → Like z σ τ (stepping c t z σ) (stepping d t z τ)
-  unfolding stepping
-  step-alike c d both t =
+  phase-alike : (c d : ℕ) → BothChoose z σ τ c d → (t : ℕ) → Like z σ τ (phaseStep c t z σ) (phaseStep d t z τ)
+  unfolding phaseStep
+  phase-alike c d both t =
       by-cond (ltb (z .P) t) (ltb (z .P) t) refl
       (λ b. by-refusal 4)
       (λ b.
@@ -84,6 +123,10 @@ module _ {z : Sizes} {σ τ : Reader} (pair : Twins z σ τ) where
       by-cond (eqb (σ (phase t)) 0) (eqb (τ (phase t)) 0) (rw (phase-same t) refl)
       (λ i. idle-alike)
       (λ i. producer-alike t (omega arith, ltb-false (z .P) t b) c d both)))
+
+  step-alike : (c d : ℕ) → BothChoose z σ τ c d → (t : ℕ) → Like z σ τ (stepping c t z σ) (stepping d t z τ)
+  unfolding stepping
+  step-alike c d both t = rw (count-same t) (counted-alike z σ τ t (suc (σ (stepCount t))) _ _ (phase-alike c d both t))
 
   start-enqueue-alike : (t v : ℕ) → Like z σ τ (startingEnqueue t v z σ) (startingEnqueue t v z τ)
   unfolding startingEnqueue

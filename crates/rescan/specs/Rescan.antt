@@ -34,13 +34,13 @@ module _ (z : Sizes) (σ : Reader) where
 
 -- What moved is written first, then the cursor's move.
 pub moved : (z : Sizes) (m : List ℕ) (l p found : ℕ) (first : List Write)
-    → left Going (writes z (writes z m first) (moves l p found)) ≡ applied z m (rescanned z (reader z m) p found (cursorRecord := l ∷ cursorPosition := p ∷ []) first)
+    → left Going (writes z (writes z m first) (moves l p found)) ≡ applied 0 z m (rescanned z (reader z m) p found (cursorRecord := l ∷ cursorPosition := p ∷ []) first)
 unfolding writes applied
 moved z m l p found first = go m first (eqb p found)
   where
     go : (m : List ℕ) (first : List Write) (b : Bool)
         → left Going (writes z (writes z m first) (cond b settles (cursorRecord := l ∷ cursorPosition := p ∷ [])))
-        ≡ applied z m (cond b (goes (first ++ settles)) (goes (first ++ (cursorRecord := l ∷ cursorPosition := p ∷ []))))
+        ≡ applied 0 z m (cond b (goes (first ++ settles)) (goes (first ++ (cursorRecord := l ∷ cursorPosition := p ∷ []))))
     go m [] true = refl
     go m [] false = refl
     go m (w ∷ ws) true = go (write z m w) ws true

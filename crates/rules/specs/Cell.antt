@@ -2,7 +2,7 @@
 use mathlib.Core.Bool.{Bool, true, _&&_, cond}
 use mathlib.Core.List.{List, [], _∷_}
 use Prim.Native.Nat.{ℕ, _+_, _*_}
-use lib.Dec.{leb, ltb}
+use lib.Dec.{leb, ltb, eqb}
 use lib.ListN.{getD, set, replicate}
 use lib.Seq.{sets}
 use Rattle.rules.specs.Sizes.{Sizes, contentWords, lastClaimedWord, firstSpare, threadWords, recordWords, firstRecord}
@@ -34,7 +34,8 @@ headPosition = content 9
 abbrev pub starts : Cell
 starts = content 10
 
--- A producer's phase, 0 while it is idle, call number, value, position L, held record, claimed record, and whether phase 7 was taken. Word 7 is spare.
+-- A producer's phase, 0 while it is idle, call number, value, position L, held record, claimed record, and whether phase 7 was taken.
+-- Word 7 is the number of accepted steps of its call.
 abbrev pub phase : ℕ → Cell
 phase t = producer t 0
 
@@ -56,7 +57,7 @@ claimed t = producer t 5
 abbrev pub backed : ℕ → Cell
 backed t = producer t 6
 
--- The consumer's phase, cursor, found entry, and the item read from it. Word 7 is spare.
+-- The consumer's phase, cursor, found entry, and the item read from it. Word 7 is the number of accepted steps of its call.
 abbrev pub consumerPhase : Cell
 consumerPhase = consumer 0
 
@@ -77,6 +78,13 @@ itemNumber = consumer 5
 
 abbrev pub itemValue : Cell
 itemValue = consumer 6
+
+-- Thread t's phase, and the accepted steps of the call that it has under way (document 02, U3).
+abbrev pub threadPhase : (t : ℕ) → Cell
+threadPhase t = cond (eqb t 0) consumerPhase (phase t)
+
+abbrev pub stepCount : (t : ℕ) → Cell
+stepCount t = cond (eqb t 0) (consumer 7) (producer t 7)
 
 -- Record: place (1 for the first in the queue), next, prev, use (0 free, 1 claimed, 2 linked, 3 retired).
 abbrev pub place : ℕ → Cell

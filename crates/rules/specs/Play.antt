@@ -1,5 +1,5 @@
 -- Lists of calls from an open store: their replies, their history, and the items left (document 01, "What demand 3 speaks of").
-use mathlib.Core.Bool.{true, false}
+use mathlib.Core.Bool.{true, false, cond}
 use mathlib.Core.List.{List, [], _∷_, _++_}
 use Prim.Native.Nat.{ℕ, zero, suc, _+_, _*_}
 use lib.Dec.{leb, eqb}
@@ -44,7 +44,7 @@ replyEvents q h (item n v) = gaveItem n v ∷ []
 
 abbrev pub events : Request → History → Response → History
 events q h (refused n) = []
-events q h (accepted r) = replyEvents q h r
+events q h (accepted r k) = replyEvents q h r
 
 -- What stands after some calls: the lent words, the replies and the history, the newest first.
 pub record Played : Type 0 where
@@ -61,6 +61,22 @@ playOne q p =
 unfoldable pub play : List Request → Played → Played
 play [] p = p
 play (q ∷ qs) p = play qs (playOne q p)
+
+-- The accepted steps of the call that thread t has under way, counted by the calls of a list (document 02, U3): an accepted start of t's
+-- begins at 0, an accepted step of t's is one more. The number that a reply carries is not looked at.
+abbrev pub oneMore : Request → ℕ → ℕ
+oneMore (startEnqueue t v) k = 0
+oneMore startDequeue k = 0
+oneMore (step t) k = suc k
+
+abbrev pub stepsWith : (t : ℕ) → Request → Response → ℕ → ℕ
+stepsWith t q (refused n) k = k
+stepsWith t q (accepted r n) k = cond (eqb (threadOf q) t) (oneMore q k) k
+
+-- k before them
+unfoldable pub stepsMade : (t : ℕ) → List Request → Played → (k : ℕ) → ℕ
+stepsMade t [] p k = k
+stepsMade t (q ∷ qs) p k = stepsMade t qs (playOne q p) (stepsWith t q (result q (p .words) .reply) k)
 
 -- an item with its position
 pub record Placed : Type 0 where

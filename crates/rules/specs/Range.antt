@@ -4,7 +4,7 @@ use mathlib.Core.List.{List, [], _∷_}
 use Prim.Native.Nat.{ℕ, zero, suc}
 use lib.Dec.{leb, eqb}
 use lib.ListN.{getD}
-use Rattle.rules.specs.Sizes.{Sizes, between, mostPlace, contentWords, firstRecord}
+use Rattle.rules.specs.Sizes.{Sizes, between, mostPlace, mostSteps, contentWords, firstRecord}
 use Rattle.rules.specs.Cell.{Reader, content, lastClaimed, spare, consumer, producer, part, entry}
 
 -- What a word may hold: zero alone (a spare word, or one not in use); one number; a position, call number or count, 0 to M; a
@@ -60,25 +60,29 @@ partSorts = most mostPlace ∷ link ∷ link ∷ most 3 ∷ []
 abbrev pub entrySorts : List Sort
 entrySorts = most 2 ∷ number ∷ any ∷ []
 
+-- The accepted steps of a call under way.
+abbrev pub steps : Sort
+steps = most mostSteps
+
 -- Words 1 to 7 of a thread in each phase. A producer's: call number, value, position, held, claimed, whether phase 7 was taken,
--- spare.
+-- accepted steps.
 abbrev pub idleSorts : List Sort
 idleSorts = unused ∷ unused ∷ unused ∷ unused ∷ unused ∷ unused ∷ unused ∷ []
 
 abbrev pub startedSorts : List Sort
-startedSorts = number ∷ any ∷ unused ∷ unused ∷ unused ∷ unused ∷ unused ∷ []
+startedSorts = number ∷ any ∷ unused ∷ unused ∷ unused ∷ unused ∷ steps ∷ []
 
 abbrev pub placedSorts : List Sort
-placedSorts = number ∷ any ∷ number ∷ link ∷ unused ∷ most 1 ∷ unused ∷ []
+placedSorts = number ∷ any ∷ number ∷ link ∷ unused ∷ most 1 ∷ steps ∷ []
 
 abbrev pub linkingSorts : List Sort
-linkingSorts = number ∷ any ∷ number ∷ link ∷ link ∷ most 1 ∷ unused ∷ []
+linkingSorts = number ∷ any ∷ number ∷ link ∷ link ∷ most 1 ∷ steps ∷ []
 
 abbrev pub aheadSorts : List Sort
-aheadSorts = number ∷ any ∷ number ∷ link ∷ unused ∷ unused ∷ unused ∷ []
+aheadSorts = number ∷ any ∷ number ∷ link ∷ unused ∷ unused ∷ steps ∷ []
 
 abbrev pub linkingAheadSorts : List Sort
-linkingAheadSorts = number ∷ any ∷ number ∷ link ∷ link ∷ unused ∷ unused ∷ []
+linkingAheadSorts = number ∷ any ∷ number ∷ link ∷ link ∷ unused ∷ steps ∷ []
 
 -- phases 0 to 11
 abbrev pub lastProducerPhase : ℕ
@@ -100,21 +104,24 @@ producerSorts =
     ∷ linkingAheadSorts
     ∷ []
 
--- The consumer's: cursor record and position, found record and position, the item's call number and value, spare.
+-- The consumer's: cursor record and position, found record and position, the item's call number and value, accepted steps.
+abbrev pub frontSorts : List Sort
+frontSorts = unused ∷ unused ∷ unused ∷ unused ∷ unused ∷ unused ∷ steps ∷ []
+
 abbrev pub cursorSorts : List Sort
-cursorSorts = link ∷ number ∷ unused ∷ unused ∷ unused ∷ unused ∷ unused ∷ []
+cursorSorts = link ∷ number ∷ unused ∷ unused ∷ unused ∷ unused ∷ steps ∷ []
 
 abbrev pub rescanSorts : List Sort
-rescanSorts = link ∷ number ∷ link ∷ number ∷ unused ∷ unused ∷ unused ∷ []
+rescanSorts = link ∷ number ∷ link ∷ number ∷ unused ∷ unused ∷ steps ∷ []
 
 abbrev pub foundSorts : List Sort
-foundSorts = unused ∷ unused ∷ link ∷ number ∷ unused ∷ unused ∷ unused ∷ []
+foundSorts = unused ∷ unused ∷ link ∷ number ∷ unused ∷ unused ∷ steps ∷ []
 
 abbrev pub itemSorts : List Sort
-itemSorts = unused ∷ unused ∷ link ∷ number ∷ number ∷ any ∷ unused ∷ []
+itemSorts = unused ∷ unused ∷ link ∷ number ∷ number ∷ any ∷ steps ∷ []
 
 abbrev pub retiringSorts : List Sort
-retiringSorts = unused ∷ unused ∷ unused ∷ unused ∷ number ∷ any ∷ unused ∷ []
+retiringSorts = unused ∷ unused ∷ unused ∷ unused ∷ number ∷ any ∷ steps ∷ []
 
 -- phases 0 to 8
 abbrev pub lastConsumerPhase : ℕ
@@ -122,7 +129,7 @@ lastConsumerPhase = 8
 
 abbrev pub consumerSorts : List (List Sort)
 consumerSorts =
-    idleSorts ∷ idleSorts ∷ idleSorts ∷ cursorSorts ∷ cursorSorts ∷ rescanSorts ∷ foundSorts ∷ itemSorts ∷ retiringSorts ∷ []
+    idleSorts ∷ frontSorts ∷ frontSorts ∷ cursorSorts ∷ cursorSorts ∷ rescanSorts ∷ foundSorts ∷ itemSorts ∷ retiringSorts ∷ []
 
 -- words k, k + 1, .. of a row are of these sorts
 abbrev pub ofSorts : Sizes → (ℕ → ℕ) → ℕ → List Sort → Bool

@@ -5,11 +5,11 @@ use mathlib.Core.List.{List, [], _∷_, _++_}
 use Prim.Native.Nat.{ℕ, suc}
 use lib.Dec.{ltb, eqb}
 use lib.ListN.{length, getD, drop, replicate}
-use Rattle.rules.specs.Sizes.{Sizes, sizesInRange, contentWords, firstRecord, storeWords}
-use Rattle.rules.specs.Cell.{Reader, Write, reader, writes, _:=_, content, lastClaimed, tailRecord, headRecord, starts, consumerPhase, phase, call, value, place, used}
+use Rattle.rules.specs.Sizes.{Sizes, sizesInRange, mostSteps, contentWords, firstRecord, storeWords}
+use Rattle.rules.specs.Cell.{Cell, Reader, Write, reader, writes, _:=_, content, lastClaimed, tailRecord, headRecord, starts, consumerPhase, phase, call, value, stepCount, place, used}
 use Rattle.rules.specs.Range.{inRange}
 use Rattle.rules.specs.Free.{nextFree}
-use Rattle.rules.specs.Rule.{Effect, Response, refused, accepted, ok, started, refuse, reply}
+use Rattle.rules.specs.Rule.{Effect, Reply, Response, refused, accepted, ok, started, going, ended, empty, item, refuse, reply, upTo}
 use Rattle.rules.specs.Producer.{producerStep}
 use Rattle.rules.specs.Consumer.{consumerStep}
 
@@ -19,9 +19,9 @@ pub record Result : Type 0 where
   pub words : List ℕ
 
 -- A refused call changes no word; an accepted one makes its writes.
-unfoldable pub applied : Sizes → List ℕ → Effect → Result
-applied z m (refuse n) = record { reply = refused n; words = m }
-applied z m (reply r ws) = record { reply = accepted r; words = writes z m ws }
+unfoldable pub applied : (steps : ℕ) → Sizes → List ℕ → Effect → Result
+applied k z m (refuse n) = record { reply = refused n; words = m }
+applied k z m (reply r ws) = record { reply = accepted r k; words = writes z m ws }
 
 -- *Open* zeroes the store, writes the contents, and links record 0 with place 1 as head and tail record. After opening, the last one
 -- claimed is record 0. Words past the store are never written.
@@ -48,7 +48,7 @@ unfoldable pub open-store : Sizes → List ℕ → Result
 open-store z m =
     cond (not (sizesInRange z)) (record { reply = refused 1; words = m })
     (cond (ltb (length m) 16 || ltb (length m) (storeWords z)) (record { reply = refused 2; words = m })
-    (record { reply = accepted ok; words = opened z m }))
+    (record { reply = accepted ok 0; words = opened z m }))
 
 -- A start or a step.
 pub data Request : Type 0 where
@@ -72,12 +72,30 @@ startingDequeue z σ = cond (not (eqb (σ consumerPhase) 0)) (refuse 5) (reply o
 
 -- *Step* (thread) does one phase, where a claim takes this record (plus one; zero for none). 4: a thread above P. 7: thread idle. 8 and 9
 -- are the phases' own.
-unfoldable pub stepping : (choice : ℕ) → ℕ → Sizes → Reader → Effect
-stepping choice t z σ =
+unfoldable pub phaseStep : (choice : ℕ) → ℕ → Sizes → Reader → Effect
+phaseStep choice t z σ =
     cond (ltb (z .P) t) (refuse 4)
     (cond (eqb t 0)
     (cond (eqb (σ consumerPhase) 0) (refuse 7) (consumerStep z σ))
     (cond (eqb (σ (phase t)) 0) (refuse 7) (producerStep choice z σ t)))
+
+-- The number of accepted steps is kept where the call goes on; a call that ends has cleared its thread.
+abbrev pub countKept : Cell → ℕ → Reply → List Write
+countKept c k going = c := k ∷ []
+countKept c k ok = []
+countKept c k (started n) = []
+countKept c k ended = []
+countKept c k empty = []
+countKept c k (item n v) = []
+
+-- An accepted step is the k-th of its call. Refusal 9: that number would leave its range; looked at after the phase's own 8 and 9.
+unfoldable pub counted : Cell → (k : ℕ) → Effect → Effect
+counted c k (refuse n) = refuse n
+counted c k (reply r ws) = upTo mostSteps k (reply r (ws ++ countKept c k r))
+
+-- A step does its phase and is counted.
+unfoldable pub stepping : (choice : ℕ) → ℕ → Sizes → Reader → Effect
+stepping choice t z σ = counted (stepCount t) (suc (σ (stepCount t))) (phaseStep choice t z σ)
 
 -- What each call does. A claim takes the next free record.
 unfoldable pub effect : Request → Sizes → Reader → Effect
@@ -98,5 +116,11 @@ admitted m f =
     (cond (ltb (length m) (storeWords (sizesOf m))) (refuse 2)
     (cond (not (inRange (sizesOf m) (reader (sizesOf m) m))) (refuse 3) (f (sizesOf m) (reader (sizesOf m) m)))))
 
+-- The number of accepted steps that an accepted call's reply carries: a start 0, a step the stored number plus one.
+abbrev pub stepsSoFar : Request → Reader → ℕ
+stepsSoFar (startEnqueue t v) σ = 0
+stepsSoFar startDequeue σ = 0
+stepsSoFar (step t) σ = suc (σ (stepCount t))
+
 unfoldable pub result : Request → List ℕ → Result
-result q m = applied (sizesOf m) m (admitted m (effect q))
+result q m = applied (stepsSoFar q (reader (sizesOf m) m)) (sizesOf m) m (admitted m (effect q))

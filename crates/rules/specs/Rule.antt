@@ -15,10 +15,11 @@ pub data Reply : Type 0 where
   empty : Reply
   item : (number value : ℕ) → Reply
 
--- What any call replies: a refusal with its number, or a reply.
+-- What any call replies: a refusal with its number, or a reply with the number of accepted steps of its call so far, a step's own
+-- included (document 02, U3). An open and a start are no steps: 0.
 pub data Response : Type 0 where
   refused : ℕ → Response
-  accepted : Reply → Response
+  accepted : Reply → (steps : ℕ) → Response
 
 -- A rule's effect: a refusal, or a reply with the writes that go with it.
 pub data Effect : Type 0 where

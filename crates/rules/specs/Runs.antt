@@ -2,7 +2,7 @@
 -- to").
 use mathlib.Core.Path.{_≡_, refl}
 use mathlib.Core.List.{List, [], _∷_, _++_, map, reverse}
-use Prim.Native.Nat.{ℕ, zero, suc}
+use Prim.Native.Nat.{ℕ, zero, suc, _+_}
 use lib.ListN.{replicate}
 use Rattle.rules.specs.Sizes.{Sizes}
 use Rattle.rules.specs.Cell.{reader, writes}
@@ -11,7 +11,7 @@ use Rattle.rules.specs.Free.{free, nextFree}
 use Rattle.rules.specs.Rule.{Reply, Response, refused, accepted, ok, started, going, ended, empty, item}
 use Rattle.rules.specs.Producer.{takePosition, loadTail, lookNext, claimRecord, linkClaimed, shiftTail, goBack, writeEntry, setEntry, claimAhead, linkAhead, producerStep}
 use Rattle.rules.specs.Consumer.{front, readTail, scan, readEntry, rescan, readItem, markHandled, retireHead, consumerStep}
-use Rattle.rules.specs.Request.{Request, startEnqueue, startDequeue, step, applied, opened, open-store, startingEnqueue, startingDequeue, stepping, effect, admitted, result}
+use Rattle.rules.specs.Request.{Request, startEnqueue, startDequeue, step, applied, opened, open-store, startingEnqueue, startingDequeue, phaseStep, counted, stepping, effect, admitted, result}
 use Rattle.rules.specs.Play.{Played, play}
 
 -- An open of a store of so many zero words, the calls after it, and the replies of all of them, in order.
@@ -29,17 +29,27 @@ abbrev pub times : ℕ → Request → List Request
 times zero q = []
 times (suc n) q = q ∷ times n q
 
--- the replies of accepted calls
-abbrev pub all : List Reply → List Response
-all rs = map accepted rs
+-- The reply of an open or a start; of the n steps after a call's first k, all going; of those and the one that ends it.
+abbrev pub first : Reply → Response
+first r = accepted r 0
 
-abbrev pub goings : ℕ → List Reply
-goings zero = []
-goings (suc n) = going ∷ goings n
+abbrev pub goings : (k n : ℕ) → List Response
+goings k zero = []
+goings k (suc n) = accepted going (suc k) ∷ goings (suc k) n
+
+abbrev pub ends : (k n : ℕ) → Reply → List Response
+ends k n r = goings k n ++ (accepted r (suc (k + n)) ∷ [])
+
+-- of a start and n steps that go on; of a whole call
+abbrev pub begun : Reply → ℕ → List Response
+begun r n = first r ∷ goings 0 n
+
+abbrev pub call : Reply → ℕ → Reply → List Response
+call r n e = first r ∷ ends 0 n e
 
 -- What the rules make of some calls on these words, the replies that they give to them, and to an open and the calls after it.
 unfoldable pub playedOn : List Request → List ℕ → Played
-unfolding play result admitted applied effect startingEnqueue startingDequeue stepping reader writes inRange free nextFree takePosition loadTail lookNext claimRecord linkClaimed shiftTail goBack writeEntry setEntry claimAhead linkAhead producerStep front readTail scan readEntry rescan readItem markHandled retireHead consumerStep
+unfolding play result admitted applied effect startingEnqueue startingDequeue phaseStep counted stepping reader writes inRange free nextFree takePosition loadTail lookNext claimRecord linkClaimed shiftTail goBack writeEntry setEntry claimAhead linkAhead producerStep front readTail scan readEntry rescan readItem markHandled retireHead consumerStep
 playedOn qs m = play qs (record { words = m; replies = []; history = [] })
 
 unfoldable pub repliesTo : List Request → List ℕ → List Response
@@ -52,12 +62,12 @@ replay t = let o = open-store (t .sizes) (replicate (t .words) 0) in o .reply �
 
 abbrev pub table : List Trial
 table =
-    -- the printed run; then `d` and three steps give going, going, item 1 7
+    -- the printed run, with the step counts of document 02, U3; then `d` and three steps give going, going, item 1 7
     record {
       words = 12696;
       sizes = sized 2 2 1 9;
       requests = startDequeue ∷ times 2 (step 0) ++ (startEnqueue 1 7 ∷ times 4 (step 1)) ++ (startDequeue ∷ times 3 (step 0));
-      replies = all (ok ∷ ok ∷ going ∷ empty ∷ started 1 ∷ goings 3 ++ (ended ∷ ok ∷ going ∷ going ∷ item 1 7 ∷ []));
+      replies = first ok ∷ call ok 1 empty ++ call (started 1) 3 ended ++ call ok 2 (item 1 7);
     }
     -- B = 2, N = 2: the enqueue at position 1 takes 6 steps, at position 2 takes 7, at 3 takes 5; the one at position 4, nothing
     -- dequeued, meets 8 on its fourth
@@ -72,12 +82,12 @@ table =
           ++ (startEnqueue 1 13 ∷ times 5 (step 1))
           ++ (startEnqueue 1 14 ∷ times 4 (step 1));
       replies =
-          all
-          (ok ∷ (started 1 ∷ goings 3 ++ (ended ∷ []))
-          ++ (started 2 ∷ goings 5 ++ (ended ∷ []))
-          ++ (started 3 ∷ goings 6 ++ (ended ∷ []))
-          ++ (started 4 ∷ goings 4 ++ (ended ∷ []))
-          ++ (started 5 ∷ goings 3))
+          first ok
+          ∷ call (started 1) 3 ended
+          ++ call (started 2) 5 ended
+          ++ call (started 3) 6 ended
+          ++ call (started 4) 4 ended
+          ++ begun (started 5) 3
           ++ (refused 8 ∷ []);
     }
     -- B = 4. Producer 1 takes 0 and stops before phase 9. The dequeue steps twice. Producer 1 ends; producer 2 enqueues and
@@ -92,12 +102,7 @@ table =
           ++ (step 1 ∷ startEnqueue 2 20 ∷ times 6 (step 2))
           ++ times 5 (step 0);
       replies =
-          all
-          (ok ∷ (started 1 ∷ goings 3)
-          ++ (ok ∷ goings 2)
-          ++ (ended ∷ started 2 ∷ goings 5 ++ (ended ∷ []))
-          ++ goings 4
-          ++ (item 1 10 ∷ []));
+          first ok ∷ begun (started 1) 3 ++ begun ok 2 ++ ends 3 0 ended ++ call (started 2) 5 ended ++ ends 2 4 (item 1 10);
     }
     -- B = 1, N = 65, P = 0, P = 17, M = 0 give 1; B = 64, N = 64, P = 16 needs 12,696 words
     ∷ record { words = 52; sizes = sized 1 2 1 9; requests = []; replies = refused 1 ∷ [] }
@@ -105,14 +110,14 @@ table =
     ∷ record { words = 52; sizes = sized 2 2 0 9; requests = []; replies = refused 1 ∷ [] }
     ∷ record { words = 52; sizes = sized 2 2 17 9; requests = []; replies = refused 1 ∷ [] }
     ∷ record { words = 52; sizes = sized 2 2 1 0; requests = []; replies = refused 1 ∷ [] }
-    ∷ record { words = 12696; sizes = sized 64 64 16 9; requests = []; replies = all (ok ∷ []) }
+    ∷ record { words = 12696; sizes = sized 64 64 16 9; requests = []; replies = first ok ∷ [] }
     ∷ record { words = 12695; sizes = sized 64 64 16 9; requests = []; replies = refused 2 ∷ [] }
     -- M = 1: once enqueue 1 has ended, a second enqueue start gives 6
     ∷ record {
       words = 52;
       sizes = sized 2 2 1 1;
       requests = startEnqueue 1 7 ∷ times 4 (step 1) ++ (startEnqueue 1 8 ∷ []);
-      replies = all (ok ∷ started 1 ∷ goings 3 ++ (ended ∷ [])) ++ (refused 6 ∷ []);
+      replies = first ok ∷ call (started 1) 3 ended ++ (refused 6 ∷ []);
     }
     ∷ []
 

@@ -32,6 +32,10 @@ sizesInRange z =
 abbrev pub mostPlace : ℕ
 mostPlace = 500002
 
+-- The most accepted steps of a call that a thread's word can hold (document 02, U3).
+abbrev pub mostSteps : ℕ
+mostSteps = 100000000
+
 -- the words of the contents, of a thread, and of a record: place, next, prev and use, and three for each entry
 abbrev pub contentWords : ℕ
 contentWords = 16

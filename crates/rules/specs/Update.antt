@@ -2,15 +2,15 @@
 -- by its kind first, then by its field: so different fields are told apart by computing.
 use mathlib.Core.Path.{_≡_, refl, ap, ap₂, sym, _∙_}
 use mathlib.Core.Bool.{Bool, true, false, _&&_, _||_, cond}
-use mathlib.Core.List.{List, [], _∷_}
-use Prim.Native.Nat.{ℕ, _<_}
+use mathlib.Core.List.{List, [], _∷_, _++_}
+use Prim.Native.Nat.{ℕ, zero, suc, _<_}
 use native.Mathlib.Omega.{arith}
 use lib.Dec.{eqb}
 use lib.ListN.{getD}
-use borrow.Author.Tests.{eq-eqb, eqb-true}
+use borrow.Author.Tests.{eq-eqb, ne-eqb, eqb-true}
 use Rattle.history.specs.Lists.{All}
 use Rattle.rules.specs.Sizes.{threadWords}
-use Rattle.rules.specs.Cell.{Cell, content, lastClaimed, spare, consumer, producer, part, entry, Reader, Area, contents, ofConsumer, ofProducer, ofRecord, Write, _:=_, clear}
+use Rattle.rules.specs.Cell.{Cell, content, lastClaimed, spare, consumer, producer, part, entry, Reader, Area, contents, ofConsumer, ofProducer, ofRecord, Write, _:=_, clear, stepCount}
 
 -- The area of a cell.
 abbrev pub areaOf : Cell → Area
@@ -85,6 +85,20 @@ update σ w d = cond (touches w d) (valueLeft w) (σ d)
 abbrev pub after : Reader → List Write → Reader
 after σ [] = σ
 after σ (w ∷ ws) = after (update σ w) ws
+
+-- a list of writes, and one more
+pub after-more : (σ : Reader) (ws : List Write) (w : Write) → after σ (ws ++ (w ∷ [])) ≡ update (after σ ws) w
+after-more σ [] w = refl
+after-more σ (v ∷ ws) w = after-more (update σ v) ws w
+
+-- The word of a thread's count, by the kind of thread.
+abbrev pub countOf : (t : ℕ) → Cell
+countOf zero = consumer 7
+countOf (suc p) = producer (suc p) 7
+
+pub count-is : (t : ℕ) → stepCount t ≡ countOf t
+count-is zero = refl
+count-is (suc p) = rw (ne-eqb (suc p) 0 (λ e. omega arith)) refl
 
 -- both sides of a conjunction of tests
 pub both : (a b : Bool) → (a && b) ≡ true → (a ≡ true) × (b ≡ true)

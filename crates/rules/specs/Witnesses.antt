@@ -4,10 +4,10 @@ use mathlib.Core.List.{List, [], _∷_, _++_, map}
 use Prim.Native.Nat.{ℕ, suc}
 use lib.ListN.{replicate}
 use Rattle.rules.specs.Sizes.{Sizes, storeWords}
-use Rattle.rules.specs.Cell.{Write, reader, writes, _:=_, lastClaimed, tailRecord, headPosition, consumerPhase, foundRecord, foundPosition, itemNumber, itemValue, phase, held, claimed, place, next, used}
+use Rattle.rules.specs.Cell.{Write, reader, writes, _:=_, lastClaimed, tailRecord, headPosition, consumerPhase, foundRecord, foundPosition, itemNumber, itemValue, phase, held, claimed, stepCount, place, next, used}
 use Rattle.rules.specs.Rule.{Response, refused, accepted, ok, started, going, ended, empty, item}
 use Rattle.rules.specs.Request.{Request, startEnqueue, startDequeue, step, opened}
-use Rattle.rules.specs.Runs.{Trial, sized, times, all, goings, playedOn, repliesTo, replay}
+use Rattle.rules.specs.Runs.{Trial, sized, times, first, goings, ends, begun, call, playedOn, repliesTo, replay}
 
 abbrev pub witnesses : List Trial
 witnesses =
@@ -30,18 +30,19 @@ witnesses =
           ++ times 5 (step 1)
           ++ times 6 (step 2);
       replies =
-          all
-          (ok ∷ (started 1 ∷ goings 3 ++ (ended ∷ []))
-          ++ (started 2 ∷ goings 5 ++ (ended ∷ []))
-          ++ (started 3 ∷ goings 2)
-          ++ (ok ∷ goings 2 ++ (item 1 10 ∷ []))
-          ++ (ok ∷ goings 2 ++ (item 2 11 ∷ []))
-          ++ (ok ∷ empty ∷ [])
-          ++ (started 4 ∷ goings 7 ++ (ended ∷ []))
-          ++ (ok ∷ goings 7 ++ (item 4 13 ∷ []))
-          ++ (started 5 ∷ goings 3))
+          first ok
+          ∷ call (started 1) 3 ended
+          ++ call (started 2) 5 ended
+          ++ begun (started 3) 2
+          ++ call ok 2 (item 1 10)
+          ++ call ok 2 (item 2 11)
+          ++ call ok 0 empty
+          ++ call (started 4) 7 ended
+          ++ call ok 7 (item 4 13)
+          ++ begun (started 5) 3
           ++ (refused 8 ∷ [])
-          ++ all (goings 4 ++ (ended ∷ []) ++ (goings 5 ++ (ended ∷ [])));
+          ++ ends 2 4 ended
+          ++ ends 3 5 ended;
     }
     -- A producer stopped between phases 5 and 6 stalls nobody: producer 1 has linked a record and not moved the tail record;
     -- producer 3 moves it, and ends.
@@ -54,12 +55,7 @@ witnesses =
           ++ (startEnqueue 2 11 ∷ times 3 (step 2))
           ++ (startEnqueue 1 12 ∷ times 5 (step 1))
           ++ (startEnqueue 3 13 ∷ times 9 (step 3));
-      replies =
-          all
-          (ok ∷ (started 1 ∷ goings 3 ++ (ended ∷ []))
-          ++ (started 2 ∷ goings 3)
-          ++ (started 3 ∷ goings 5)
-          ++ (started 4 ∷ goings 8 ++ (ended ∷ [])));
+      replies = first ok ∷ call (started 1) 3 ended ++ begun (started 2) 3 ++ begun (started 3) 5 ++ call (started 4) 8 ended;
     }
     -- The scan passes an empty and a handled entry and crosses into the next record.
     ∷ record {
@@ -73,12 +69,12 @@ witnesses =
           ++ (startEnqueue 2 12 ∷ times 7 (step 2))
           ++ (startDequeue ∷ times 11 (step 0));
       replies =
-          all
-          (ok ∷ (started 1 ∷ goings 3)
-          ++ (started 2 ∷ goings 5 ++ (ended ∷ []))
-          ++ (ok ∷ goings 6 ++ (item 2 11 ∷ []))
-          ++ (started 3 ∷ goings 6 ++ (ended ∷ []))
-          ++ (ok ∷ goings 10 ++ (item 3 12 ∷ [])));
+          first ok
+          ∷ begun (started 1) 3
+          ++ call (started 2) 5 ended
+          ++ call ok 6 (item 2 11)
+          ++ call (started 3) 6 ended
+          ++ call ok 10 (item 3 12);
     }
     -- Phase 7. Producers 3 and 2 take 0 and 1 and stop; producer 1 takes 2, links a record and moves the tail record. Producers 3 and 2
     -- then load the second record, go back to the first, write and end: producer 2 at index 1, since phase 7 was taken.
@@ -95,12 +91,7 @@ witnesses =
           ++ times 4 (step 3)
           ++ times 4 (step 2);
       replies =
-          all
-          (ok ∷ (started 1 ∷ going ∷ [])
-          ++ (started 2 ∷ going ∷ [])
-          ++ (started 3 ∷ goings 6)
-          ++ (goings 3 ++ (ended ∷ []))
-          ++ (goings 3 ++ (ended ∷ [])));
+          first ok ∷ begun (started 1) 1 ++ begun (started 2) 1 ++ begun (started 3) 6 ++ ends 1 3 ended ++ ends 1 3 ended;
     }
     -- Phase 5 gives back. Producer 3, at position 2, claims the third record after producer 1 has linked the second, and gives it back;
     -- so producer 1 finds it free in phase 10.
@@ -115,12 +106,13 @@ witnesses =
           ++ times 2 (step 3)
           ++ times 2 (step 1);
       replies =
-          all
-          (ok ∷ (started 1 ∷ goings 3 ++ (ended ∷ []))
-          ++ (started 2 ∷ going ∷ started 3 ∷ goings 3)
-          ++ (started 4 ∷ goings 8)
-          ++ goings 2
-          ++ goings 2);
+          first ok
+          ∷ call (started 1) 3 ended
+          ++ begun (started 2) 1
+          ++ begun (started 3) 3
+          ++ begun (started 4) 8
+          ++ goings 3 2
+          ++ goings 8 2;
     }
     -- Phase 11 gives back. Producer 3 has set position 1 and stands before phase 10 while producer 1 links a record for position 2. What
     -- producer 3 then claims it gives back, and finds free in phase 10 of its next enqueue.
@@ -135,12 +127,7 @@ witnesses =
           ++ times 2 (step 3)
           ++ (startEnqueue 3 31 ∷ times 5 (step 3));
       replies =
-          all
-          (ok ∷ (started 1 ∷ goings 3 ++ (ended ∷ []))
-          ++ (started 2 ∷ goings 4)
-          ++ (started 3 ∷ goings 6)
-          ++ (going ∷ ended ∷ [])
-          ++ (started 4 ∷ goings 5));
+          first ok ∷ call (started 1) 3 ended ++ begun (started 2) 4 ++ begun (started 3) 6 ++ ends 4 1 ended ++ begun (started 4) 5;
     }
     -- Handled advances the head. The item at 1 is taken while 0 is empty, then the one at 0; the next dequeue passes 1 and answers empty
     -- at the record's end.
@@ -157,27 +144,27 @@ witnesses =
           ++ (startDequeue ∷ times 3 (step 0))
           ++ (startDequeue ∷ times 2 (step 0));
       replies =
-          all
-          (ok ∷ (started 1 ∷ goings 2)
-          ++ (started 2 ∷ goings 4)
-          ++ (ok ∷ goings 5)
-          ++ (going ∷ ended ∷ [])
-          ++ (going ∷ item 2 10 ∷ [])
-          ++ (ok ∷ goings 2 ++ (item 1 20 ∷ []))
-          ++ (ok ∷ going ∷ empty ∷ []));
+          first ok
+          ∷ begun (started 1) 2
+          ++ begun (started 2) 4
+          ++ begun ok 5
+          ++ ends 2 1 ended
+          ++ ends 5 1 (item 2 10)
+          ++ call ok 2 (item 1 20)
+          ++ call ok 1 empty;
     }
     -- The scan answers empty at the tail, and at the end of the tail record.
     ∷ record {
       words = 52;
       sizes = sized 2 2 1 9;
       requests = startEnqueue 1 10 ∷ step 1 ∷ startDequeue ∷ times 3 (step 0);
-      replies = all (ok ∷ started 1 ∷ going ∷ ok ∷ goings 2 ++ (empty ∷ []));
+      replies = first ok ∷ begun (started 1) 1 ++ call ok 2 empty;
     }
     ∷ record {
       words = 78;
       sizes = sized 2 3 3 9;
       requests = startEnqueue 3 30 ∷ startEnqueue 1 10 ∷ step 1 ∷ step 3 ∷ startDequeue ∷ times 5 (step 0);
-      replies = all (ok ∷ started 1 ∷ started 2 ∷ going ∷ going ∷ ok ∷ goings 4 ++ (empty ∷ []));
+      replies = first ok ∷ first (started 1) ∷ first (started 2) ∷ goings 0 1 ++ goings 0 1 ++ call ok 4 empty;
     }
     -- The rescan returns to the head. The item at 2 is found, 0 is passed while it is empty, 1 is set before it is read and found in
     -- its place, and 0 is set before it is read again: item 1.
@@ -192,12 +179,15 @@ witnesses =
           ++ (startDequeue ∷ times 7 (step 0))
           ++ (step 2 ∷ step 0 ∷ step 1 ∷ times 3 (step 0));
       replies =
-          all
-          (ok ∷ (started 1 ∷ goings 3)
-          ++ (started 2 ∷ goings 3)
-          ++ (started 3 ∷ goings 3 ++ (ended ∷ []))
-          ++ (ok ∷ goings 7)
-          ++ (going ∷ going ∷ ended ∷ goings 2 ++ (item 1 10 ∷ [])));
+          first ok
+          ∷ begun (started 1) 3
+          ++ begun (started 2) 3
+          ++ call (started 3) 3 ended
+          ++ begun ok 7
+          ++ goings 3 1
+          ++ goings 7 1
+          ++ ends 3 0 ended
+          ++ ends 8 2 (item 1 10);
     }
     -- A drained record is let go (document 02, U2). Two records are full, and the fifth enqueue meets 8. The dequeue that takes the head
     -- record's last item goes to phase 8, which retires it: with no further dequeue the producer claims it and ends.
@@ -216,18 +206,18 @@ witnesses =
           ++ times 6 (step 1)
           ++ (startDequeue ∷ times 3 (step 0));
       replies =
-          all
-          (ok ∷ (started 1 ∷ goings 3 ++ (ended ∷ []))
-          ++ (started 2 ∷ goings 5 ++ (ended ∷ []))
-          ++ (started 3 ∷ goings 6 ++ (ended ∷ []))
-          ++ (started 4 ∷ goings 4 ++ (ended ∷ []))
-          ++ (started 5 ∷ goings 3))
+          first ok
+          ∷ call (started 1) 3 ended
+          ++ call (started 2) 5 ended
+          ++ call (started 3) 6 ended
+          ++ call (started 4) 4 ended
+          ++ begun (started 5) 3
           ++ (refused 8 ∷ [])
-          ++ all (ok ∷ goings 2 ++ (item 1 10 ∷ []))
+          ++ call ok 2 (item 1 10)
           ++ (refused 8 ∷ [])
-          ++ all (ok ∷ goings 3 ++ (item 2 11 ∷ []))
-          ++ all (goings 5 ++ (ended ∷ []))
-          ++ all (ok ∷ goings 2 ++ (item 3 12 ∷ []));
+          ++ call ok 3 (item 2 11)
+          ++ ends 3 5 ended
+          ++ call ok 2 (item 3 12);
     }
     -- Refusals 4, 5 and 7 in their order: idle threads, threads that are not there, and threads with a call under way, the producer when
     -- no start is left (5, not 6).
@@ -246,15 +236,15 @@ witnesses =
           ∷ startDequeue
           ∷ [];
       replies =
-          accepted ok
+          first ok
           ∷ refused 7
           ∷ refused 7
           ∷ refused 4
           ∷ refused 4
           ∷ refused 4
-          ∷ accepted (started 1)
+          ∷ first (started 1)
           ∷ refused 5
-          ∷ accepted ok
+          ∷ first ok
           ∷ refused 5
           ∷ [];
     }
@@ -295,7 +285,7 @@ probes =
     ∷ record { sizes = sized 2 2 1 9; cells = retiring (next 0 := 2 ∷ []); requests = step 0 ∷ []; replies = refused 9 ∷ [] }
     ∷ record { sizes = sized 2 2 1 9; cells = retiring (next 0 := 2 ∷ place 1 := 6 ∷ []); requests = step 0 ∷ []; replies = refused 9 ∷ [] }
     -- It looks neither at the head position nor at the tail record: the head stands at position 0, and its record is the tail record.
-    ∷ record { sizes = sized 2 2 1 9; cells = retiring (next 0 := 2 ∷ place 1 := 2 ∷ []); requests = step 0 ∷ []; replies = all (item 3 7 ∷ []) }
+    ∷ record { sizes = sized 2 2 1 9; cells = retiring (next 0 := 2 ∷ place 1 := 2 ∷ []); requests = step 0 ∷ []; replies = accepted (item 3 7) 1 ∷ [] }
     -- In phase 8 found is not in use; a phase 9 there is not.
     ∷ record { sizes = sized 2 2 1 9; cells = retiring (foundRecord := 1 ∷ []); requests = step 0 ∷ []; replies = refused 3 ∷ [] }
     ∷ record { sizes = sized 2 2 1 9; cells = retiring (consumerPhase := 9 ∷ []); requests = step 0 ∷ []; replies = refused 3 ∷ [] }
@@ -314,8 +304,55 @@ probes =
           ∷ headPosition := 3
           ∷ [];
       requests = step 0 ∷ [];
-      replies = all (item 3 7 ∷ []);
+      replies = accepted (item 3 7) 1 ∷ [];
     }
+    -- The count is the stored one and one more (document 02, U3), up to 100,000,000; from there a step is refused with 9, also where it
+    -- would end the call.
+    ∷ record {
+      sizes = sized 2 2 1 9;
+      cells = retiring (next 0 := 2 ∷ place 1 := 2 ∷ stepCount 0 := 41 ∷ []);
+      requests = step 0 ∷ [];
+      replies = accepted (item 3 7) 42 ∷ [];
+    }
+    ∷ record {
+      sizes = sized 2 2 1 9;
+      cells = phase 1 := 3 ∷ held 1 := 1 ∷ stepCount 1 := 99999999 ∷ [];
+      requests = step 1 ∷ step 1 ∷ [];
+      replies = accepted going 100000000 ∷ refused 9 ∷ [];
+    }
+    ∷ record {
+      sizes = sized 2 2 1 9;
+      cells = consumerPhase := 2 ∷ stepCount 0 := 99999999 ∷ [];
+      requests = step 0 ∷ [];
+      replies = accepted empty 100000000 ∷ [];
+    }
+    ∷ record {
+      sizes = sized 2 2 1 9;
+      cells = consumerPhase := 2 ∷ stepCount 0 := 100000000 ∷ [];
+      requests = step 0 ∷ [];
+      replies = refused 9 ∷ [];
+    }
+    -- 8 is looked at before: with the count at its end, and then with a record free.
+    ∷ record {
+      sizes = sized 2 2 1 9;
+      cells = phase 1 := 4 ∷ held 1 := 1 ∷ stepCount 1 := 100000000 ∷ used 1 := 2 ∷ [];
+      requests = step 1 ∷ [];
+      replies = refused 8 ∷ [];
+    }
+    ∷ record {
+      sizes = sized 2 2 1 9;
+      cells = phase 1 := 4 ∷ held 1 := 1 ∷ stepCount 1 := 100000000 ∷ [];
+      requests = step 1 ∷ [];
+      replies = refused 9 ∷ [];
+    }
+    -- Its range, and that an idle thread has none.
+    ∷ record {
+      sizes = sized 2 2 1 9;
+      cells = consumerPhase := 2 ∷ stepCount 0 := 100000001 ∷ [];
+      requests = step 0 ∷ [];
+      replies = refused 3 ∷ [];
+    }
+    ∷ record { sizes = sized 2 2 1 9; cells = stepCount 1 := 1 ∷ []; requests = startDequeue ∷ []; replies = refused 3 ∷ [] }
     ∷ []
 
 pub probes-as-written : map probe probes ≡ map (λ p. p .replies) probes

@@ -1,5 +1,5 @@
--- The program prints at most 110,617 bytes: a line that asks for a call has two bytes at least, its newline with it, and prints at
--- most 27.
+-- The program prints at most 155,679 bytes: a line that asks for a call has two bytes at least, its newline with it, and prints at
+-- most 38.
 use mathlib.Core.Path.{_≡_, refl}
 use mathlib.Core.Bool.{Bool, true, false, cond}
 use mathlib.Core.List.{List, [], _∷_}
@@ -34,13 +34,13 @@ length-lines (b ∷ bs) = go (eqb b newline) (linesOf bs) (length-lines bs)
     go false [] h = omega arith
     go false (l ∷ ls) h = omega arith
 
-length-replies : (ls : List (List ℕ)) (x : Session) → 2 * length (runLines ls x .replies) ≤ 27 * bytesOf ls
+length-replies : (ls : List (List ℕ)) (x : Session) → 2 * length (runLines ls x .replies) ≤ 38 * bytesOf ls
 unfolding runLines
 length-replies [] x = omega arith
 length-replies (l ∷ ls) x = go (callOf (parseLine l)) refl (λ y. length-replies ls y)
   where
-    go : (c : Option (Session → Turn)) → callOf (parseLine l) ≡ c → ((y : Session) → 2 * length (runLines ls y .replies) ≤ 27 * bytesOf ls)
-        → 2 * length (runLine c x (runLines ls) .replies) ≤ 27 * (length l + 1 + bytesOf ls)
+    go : (c : Option (Session → Turn)) → callOf (parseLine l) ≡ c → ((y : Session) → 2 * length (runLines ls y .replies) ≤ 38 * bytesOf ls)
+        → 2 * length (runLine c x (runLines ls) .replies) ≤ 38 * (length l + 1 + bytesOf ls)
     go none e rest = omega arith
     go (some call) e rest =
         let y = call x in

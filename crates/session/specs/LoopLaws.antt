@@ -143,7 +143,7 @@ unfolding parseLine startsWith
 some-line [] call c = let z : _≡_ {A = ℕ} 0 1 = cc in absurd (omega arith)
 some-line (b ∷ bs) call c = omega arith
 
--- A line that is no bad one is not empty, adds at most one event and prints at most 27 bytes.
+-- A line that is no bad one is not empty, adds at most one event and prints at most 38 bytes.
 pub answered-short : (l : List ℕ) {store history out store′ history′ out′ : List ℕ} {at next : Place} → Answers (parseLine l) store history out at store′ history′ out′ (On next)
     → (0 < length l) × (next .events ≤ at .events + 1) × (next .bytes ≤ at .bytes + mostPrinted)
 answered-short l {store} {history} {out} {store′} {history′} {out′} {at} {next} a = go (callOf (parseLine l)) refl (a .answered)

@@ -41,7 +41,7 @@ after z m qs = play qs (from z m)
 -- What stands: nothing was opened yet, or some calls followed an accepted open.
 data Reachable : Session → Type 0 where
   unopened : {x : Session} → x .words ≡ blank → x .history ≡ [] → Reachable x
-  played : {x : Session} (z : Sizes) (m : List ℕ) (qs : List Request) → open-store z m .reply ≡ accepted ok → x .words ≡ after z m qs .words → x .history ≡ after z m qs .history → Reachable x
+  played : {x : Session} (z : Sizes) (m : List ℕ) (qs : List Request) → open-store z m .reply ≡ accepted ok 0 → x .words ≡ after z m qs .words → x .history ≡ after z m qs .history → Reachable x
 
 -- one call more
 play-more : (qs : List Request) (q : Request) (p : Played) → play (qs ++ (q ∷ [])) p ≡ playOne q (play qs p)
@@ -80,13 +80,13 @@ open-reachable z x p = go (sizesInRange z) refl (ltb (length (x .words)) 16 || l
     answered : Bool → Bool → Result
     answered a b =
         cond (not a) (record { reply = refused 1; words = x .words })
-        (cond b (record { reply = refused 2; words = x .words }) (record { reply = accepted ok; words = opened z (x .words) }))
+        (cond b (record { reply = refused 2; words = x .words }) (record { reply = accepted ok 0; words = opened z (x .words) }))
 
     go : (a : Bool) → sizesInRange z ≡ a → (b : Bool) → (ltb (length (x .words)) 16 || ltb (length (x .words)) (storeWords z)) ≡ b → Reachable (openTurn (answered a b) (x .history) .session)
     go false e b f = p
     go true e true f = p
     go true e false f =
-        let o : open-store z (x .words) ≡ record { reply = accepted ok; words = opened z (x .words) } = rw (e, f) in
+        let o : open-store z (x .words) ≡ record { reply = accepted ok 0; words = opened z (x .words) } = rw (e, f) in
         played z (x .words) [] (ap (λ (r : Result). r .reply) o) (sym (ap (λ (r : Result). r .words) o)) refl
 
 -- What every call keeps holds after any lines, if it held before them.
@@ -122,7 +122,7 @@ positive zero f = absurd (f refl)
 positive (suc t) f = omega arith
 
 -- An accepted start enqueue has a producer's thread, and gives a call number.
-module _ (t v n : ℕ) (m : List ℕ) where
+module _ (t v n k : ℕ) (m : List ℕ) where
   abbrev z : Sizes
   z = sizesOf m
 
@@ -130,9 +130,9 @@ module _ (t v n : ℕ) (m : List ℕ) where
   σ = reader z m
 
   abbrev P : Effect → Type 0
-  P a = applied z m a .reply ≡ accepted (started n) → Names t n
+  P a = applied 0 z m a .reply ≡ accepted (started n) k → Names t n
 
-  no : {k : ℕ} → refused k ≡ accepted (started n) → Names t n
+  no : {j : ℕ} → refused j ≡ accepted (started n) k → Names t n
   no e = absurd (accepted-not-refused (sym e))
 
   producer : sizesInRange z ≡ true → (eqb t 0 ≡ false) × (ltb (z .P) t ≡ false) → isProducer t ≡ true
@@ -141,10 +141,10 @@ module _ (t v n : ℕ) (m : List ℕ) where
       let g = ltb-false (z .P) t (b .1) in
       simp (le-leb 1 t (positive t (eqb-false t 0 (b .0))), le-leb t 16 (omega arith))
 
-  number : {k : ℕ} → accepted (started (suc k)) ≡ accepted (started n) → leb 1 n ≡ true
-  number {k} e = let q : n ≡ suc k = cc in le-leb 1 n (omega arith)
+  number : {j : ℕ} → accepted (started (suc j)) 0 ≡ accepted (started n) k → leb 1 n ≡ true
+  number {j} e = let q : n ≡ suc j = cc in le-leb 1 n (omega arith)
 
-  started-names : result (startEnqueue t v) m .reply ≡ accepted (started n) → Names t n
+  started-names : result (startEnqueue t v) m .reply ≡ accepted (started n) k → Names t n
   unfolding result admitted effect startingEnqueue applied
   started-names =
       by-cond P (ltb (length m) 16) (refuse 2) _ (λ _. no) λ _. by-cond P (not (sizesInRange z)) (refuse 3) _ (λ _. no) λ s.
@@ -170,19 +170,19 @@ call-named : (q : Request) (x : Session) → Named (x .history) → Named (calli
 unfolding calling
 call-named q x a = go (result q (x .words) .reply) refl (result-may q (x .words))
   where
-    names : (q : Request) (n : ℕ) → result q (x .words) .reply ≡ accepted (started n) → May q (accepted (started n)) → Names (threadOf q) n
-    names (startEnqueue t v) n e m = started-names t v n (x .words) e
-    names startDequeue n e m = absurd (omega arith)
-    names (step t) n e m = absurd (omega arith)
+    names : (q : Request) (n k : ℕ) → result q (x .words) .reply ≡ accepted (started n) k → May q (accepted (started n) k) → Names (threadOf q) n
+    names (startEnqueue t v) n k e m = started-names t v n k (x .words) e
+    names startDequeue n k e m = absurd (omega arith)
+    names (step t) n k e m = absurd (omega arith)
 
     go : (r : Response) → result q (x .words) .reply ≡ r → May q r → Named (events q (x .history) r ++ x .history)
     go (refused n) e m = a
-    go (accepted ok) e m = a
-    go (accepted (started n)) e m = (names q n e m, a)
-    go (accepted going) e m = a
-    go (accepted ended) e m = end-named (threadOf q) (x .history) (x .history) a a
-    go (accepted empty) e m = a
-    go (accepted (item n w)) e m = a
+    go (accepted ok k) e m = a
+    go (accepted (started n) k) e m = (names q n k e m, a)
+    go (accepted going k) e m = a
+    go (accepted ended k) e m = end-named (threadOf q) (x .history) (x .history) a a
+    go (accepted empty k) e m = a
+    go (accepted (item n w) k) e m = a
 
 open-named : (z : Sizes) (x : Session) → Named (x .history) → Named (opening z x .session .history)
 unfolding opening
@@ -190,7 +190,7 @@ open-named z x a = go (open-store z (x .words) .reply)
   where
     go : (r : Response) → Named (reopened r (x .history))
     go (refused n) = a
-    go (accepted r) = tt
+    go (accepted r k) = tt
 
 pub lines-named : (ls : List (List ℕ)) → Named (runLines ls start .session .history)
 lines-named ls = after-lines (λ x. Named (x .history)) open-named call-named ls start tt

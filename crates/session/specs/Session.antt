@@ -46,7 +46,7 @@ pub record Turn : Type 0 where
 -- An accepted open begins a new history.
 abbrev pub reopened : Response → History → History
 reopened (refused n) h = h
-reopened (accepted r) h = []
+reopened (accepted r k) h = []
 
 abbrev pub openTurn : Result → History → Turn
 openTurn r h = record { reply = r .reply; session = record { words = r .words; history = reopened (r .reply) h } }

@@ -9,7 +9,7 @@ use Rattle.history.specs.Form.{mostEvents}
 use Rattle.rules.specs.Request.{Request, result}
 use Rattle.rules.specs.Play.{threadOf, valueOf}
 use Rattle.store.specs.declared.Reply.{Reply}
-use Rattle.store.specs.Outcome.{left}
+use Rattle.store.specs.Outcome.{leftAfter}
 use Rattle.text.specs.Wrote.{Wrote}
 use Rattle.protocol.specs.declared.Line.{Line}
 use Rattle.protocol.specs.Words.{badLine}
@@ -34,9 +34,9 @@ pub record Turned (call : Session → Turn) (store history out : List ℕ) (at :
   pub short : next .bytes ≤ at .bytes + mostPrinted
 
 -- A call of thread t with value v was recorded and its reply printed: a turn, where the store changed as the call says.
-pub record Finished (t v : ℕ) (reply : Reply) (history out : List ℕ) (at : Place) (history′ out′ : List ℕ) (next : Place) : Type 0 where
+pub record Finished (t v : ℕ) (reply : Reply) (steps : ℕ) (history out : List ℕ) (at : Place) (history′ out′ : List ℕ) (next : Place) : Type 0 where
   pub turned :
-      (q : Request) → threadOf q ≡ t → valueOf q ≡ v → (store store′ : List ℕ) → left reply store′ ≡ result q store
+      (q : Request) → threadOf q ≡ t → valueOf q ≡ v → (store store′ : List ℕ) → leftAfter (record { reply = reply; steps = steps }) store′ ≡ result q store
       → Turned (calling q) store history out at store′ history′ out′ next
 
 -- What a line does, by the call that it asks for: a bad one prints `bad line` and stops the run, any other turns as its call does.
@@ -54,9 +54,9 @@ abbrev pub mostReplies : ℕ
 mostReplies = mostEvents * mostPrinted
 
 -- A bound on the bytes that are printed, not the most that can be printed (`length-output`, Length.antt): a line has two bytes with
--- its newline, which the last may lack, and is answered with at most 27; the judge's word has at most 12. 27 × 8,193 / 2 + 12.
+-- its newline, which the last may lack, and is answered with at most 38; the judge's word has at most 12. 38 × 8,193 / 2 + 12.
 abbrev pub mostOutput : ℕ
-mostOutput = 110617
+mostOutput = 155679
 
 -- The lines were run to the end: the buffers hold what stands after them, and their replies were printed.
 pub record Ended (r : Run) (store history before out : List ℕ) (at : Place) : Type 0 where

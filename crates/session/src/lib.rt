@@ -145,14 +145,22 @@ fn add_noted(history: &mut [u32], k: usize, noted: Noted) -> usize
 }
 
 // Records what a call of thread t with value v adds, and prints its reply.
-fn finish(history: &mut [u32], out: &mut [u8], at: Place, t: u32, v: u32, reply: Reply) -> Place
+fn finish(
+    history: &mut [u32],
+    out: &mut [u8],
+    at: Place,
+    t: u32,
+    v: u32,
+    reply: Reply,
+    steps: u32,
+) -> Place
     requires { ⌜ at .events * 4 + 4 ≤ length (now history) ⌝ }
     requires { ⌜ at .bytes + mostPrinted ≤ length (now out) ⌝ }
-    ensures { λ r. ⌜ Finished t v reply (now (history .entry)) (now (out .entry)) at (now (history .exit)) (now (out .exit)) r ⌝ }
+    ensures { λ r. ⌜ Finished t v reply steps (now (history .entry)) (now (out .entry)) at (now (history .exit)) (now (out .exit)) r ⌝ }
 {
     let noted = note(t, v, reply);
     let events = add_noted(history, at.events, noted);
-    let bytes = protocol::print_reply(out, at.bytes, reply);
+    let bytes = protocol::print_reply(out, at.bytes, reply, steps);
     Place { events, bytes }
 }
 
@@ -177,7 +185,7 @@ fn open_turn(store: &mut [u32], out: &mut [u8], at: Place, z: Shape) -> Place
 {
     let reply = opening::open_store(store, z);
     let events = reopen(at.events, reply);
-    let bytes = protocol::print_reply(out, at.bytes, reply);
+    let bytes = protocol::print_reply(out, at.bytes, reply, 0);
     Place { events, bytes }
 }
 
@@ -199,15 +207,16 @@ fn take_turn(store: &mut [u32], history: &mut [u32], out: &mut [u8], at: Place, 
         }
         Line::Enqueue(t, v) => {
             let reply = engine::start_enqueue(store, t, v);
-            return Next::On(finish(history, out, at, t, v, reply));
+            return Next::On(finish(history, out, at, t, v, reply, 0));
         }
         Line::Dequeue => {
             let reply = engine::start_dequeue(store);
-            return Next::On(finish(history, out, at, 0, 0, reply));
+            return Next::On(finish(history, out, at, 0, 0, reply, 0));
         }
         Line::Step(t) => {
-            let reply = engine::step(store, t);
-            return Next::On(finish(history, out, at, t, 0, reply));
+            let counted = engine::step(store, t);
+            let reply = counted.reply;
+            return Next::On(finish(history, out, at, t, 0, reply, counted.steps));
         }
         Line::Bad => {
             return Next::Stop(text::write_bytes(out, at.bytes, b"bad line\n"));
@@ -245,7 +254,7 @@ fn run_lines(input: &[u8], store: &mut [u32], history: &mut [u32], out: &mut [u8
 
 // What the program prints, from the bytes that it reads; the answer is how many bytes. The judge refuses no history of a run
 // (specs/Reaching.antt).
-pub fn run(input: &[u8], out: &mut [u8; 110_617]) -> usize
+pub fn run(input: &[u8], out: &mut [u8; 155_679]) -> usize
     ensures { λ r. ⌜ Wrote (now (out .entry)) 0 (output (now (input .entry))) (now (out .exit)) r ⌝ }
 {
     if 8192 < input.len() {

@@ -8,7 +8,7 @@ use lib.Dec.{eqb}
 use borrow.Author.Tests.{eqb-true, eqb-false}
 use Rattle.rules.specs.Sizes.{Sizes}
 use Rattle.rules.specs.Cell.{Reader, _:=_, tail, tailRecord, headRecord, headPosition, consumer, consumerPhase, cursorRecord, cursorPosition, foundRecord, foundPosition, place, used, state}
-use Rattle.rules.specs.Range.{number, record-number, idleSorts}
+use Rattle.rules.specs.Range.{number, record-number, frontSorts}
 use Rattle.rules.specs.Rule.{Effect, going, goes, upTo, atEnd, index, inside}
 use Rattle.rules.specs.Consumer.{moveHead, byState, front, readTail}
 use Rattle.rules.specs.Request.{step}
@@ -47,7 +47,7 @@ module _ (z : Sizes) (σ : Reader) (γ : Ghost) (good : Good z σ γ) where
       ((refl, omega arith), ((refl, omega arith), ((refl, omega arith), tt)))
       refl
       (omega arith)
-      (record { cursor-record = has-sort z record-number (σ headRecord) (good .range .words headRecord (omega arith)) .1; cursor-position = room; found-record = words .found-record; found-position = words .found-position; item-number = words .item-number; item-value = words .item-value; spare = words .spare })
+      (record { cursor-record = has-sort z record-number (σ headRecord) (good .range .words headRecord (omega arith)) .1; cursor-position = room; found-record = words .found-record; found-position = words .found-position; item-number = words .item-number; item-value = words .item-value; steps = words .steps })
       (head-linked z σ γ good, m .found)
       (ap (State.scanning (suc (σ headPosition))) (head-placed z σ γ good))
       (read-tail (z .B) (view σ γ) (good .model) seen n)))
@@ -55,7 +55,7 @@ module _ (z : Sizes) (σ : Reader) (γ : Ghost) (good : Good z σ γ) where
       seen : view σ γ .consumer ≡ State.reading
       seen = consumer-at z σ γ good 2 e
 
-      words : ConsumerWords z (λ k. σ (consumer k)) idleSorts
+      words : ConsumerWords z (λ k. σ (consumer k)) frontSorts
       words = consumer-words z σ γ good 2 e
 
   -- 1. Front. The head record is that of place lo.
@@ -63,8 +63,8 @@ module _ (z : Sizes) (σ : Reader) (γ : Ghost) (good : Good z σ γ) where
     seen-front : view σ γ .consumer ≡ State.front
     seen-front = consumer-at z σ γ good 1 e
 
-    idle-words : ConsumerWords z (λ k. σ (consumer k)) idleSorts
-    idle-words = consumer-words z σ γ good 1 e
+    front-words : ConsumerWords z (λ k. σ (consumer k)) frontSorts
+    front-words = consumer-words z σ γ good 1 e
 
     linked : σ (used h) ≡ 2
     linked = head-record-linked z σ γ good h q
@@ -116,14 +116,14 @@ module _ (z : Sizes) (σ : Reader) (γ : Ghost) (good : Good z σ γ) where
         (upTo (z .M) (suc (σ headPosition)) (goes (headPosition := suc (σ headPosition) ∷ [])))
         (slot-state z σ γ h (σ headPosition) s (good .agrees))
         (λ b.
-        consumer-goes z σ γ good (not-yet σ e (omega arith)) (consumerPhase := 2 ∷ []) 2 _ ((refl, omega arith), tt) refl (omega arith) (record { cursor-record = idle-words .cursor-record; cursor-position = idle-words .cursor-position; found-record = idle-words .found-record; found-position = idle-words .found-position; item-number = idle-words .item-number; item-value = idle-words .item-value; spare = idle-words .spare }) (m .cursor, m .found) refl
+        consumer-goes z σ γ good (not-yet σ e (omega arith)) (consumerPhase := 2 ∷ []) 2 _ ((refl, omega arith), tt) refl (omega arith) (record { cursor-record = front-words .cursor-record; cursor-position = front-words .cursor-position; found-record = front-words .found-record; found-position = front-words .found-position; item-number = front-words .item-number; item-value = front-words .item-value; steps = front-words .steps }) (m .cursor, m .found) refl
         (front-blank (z .B) (view σ γ) (good .model) seen-front n b))
         (λ b.
         consumer-goes z σ γ good (not-yet σ e (omega arith)) (foundRecord := suc h ∷ foundPosition := σ headPosition ∷ consumerPhase := 6 ∷ []) 6 _
         ((refl, omega arith), ((refl, omega arith), ((refl, omega arith), tt)))
         refl
         (omega arith)
-        (record { cursor-record = idle-words .cursor-record; cursor-position = idle-words .cursor-position; found-record = head-fits; found-position = position-fits; item-number = idle-words .item-number; item-value = idle-words .item-value; spare = idle-words .spare })
+        (record { cursor-record = front-words .cursor-record; cursor-position = front-words .cursor-position; found-record = head-fits; found-position = position-fits; item-number = front-words .item-number; item-value = front-words .item-value; steps = front-words .steps })
         (m .cursor, linked)
         (ap (State.found (σ headPosition)) placed)
         (front-found (z .B) (view σ γ) (good .model) seen-front n b))
@@ -133,7 +133,7 @@ module _ (z : Sizes) (σ : Reader) (γ : Ghost) (good : Good z σ γ) where
     moves : σ headPosition ≡ z .B * γ .shape .lo → γ .shape .lo < γ .shape .tp → Fine z σ γ (step 0) (moveHead z σ h goes)
     moves at-end more =
         by-move-head z σ γ good at-end more (Fine z σ γ (step 0)) h q goes
-        (retires z σ γ good at-end more (subst⁻¹ (ConsumerOk (z .B) (retireHead (z .B) (view σ γ) (γ .shape .lo))) seen-front tt) (idle-words .cursor-record) (idle-words .found-record))
+        (retires z σ γ good at-end more (subst⁻¹ (ConsumerOk (z .B) (retireHead (z .B) (view σ γ) (γ .shape .lo))) seen-front tt) (front-words .cursor-record) (front-words .found-record))
 
   pub front-fine : σ consumerPhase ≡ 1 → Fine z σ γ (step 0) (front z σ)
   unfolding front

@@ -80,7 +80,7 @@ module _ (z : Sizes) (σ : Reader) (γ : Ghost) (good : Good z σ γ) where
             has-sort z number (σ (entryNumber r (index z σ r (σ foundPosition))))
             (good .range .words (entryNumber r (index z σ r (σ foundPosition))) (s .fits, s .here .below, omega arith));
         item-value = tt;
-        spare = words .spare;
+        steps = words .steps;
       })
       (m .cursor, m .found)
       (ap₂ (λ (n v : ℕ). State.holding (σ foundPosition) (placeOf (placesOf σ) (σ foundRecord)) (record { number = n; value = v }))
@@ -173,7 +173,7 @@ module _ (z : Sizes) (σ : Reader) (γ : Ghost) (good : Good z σ γ) where
         (λ u k. refl)
         (refl, refl)
         (consumer-row-of z (λ k. after σ ws (consumer k)) 8 refl (omega arith)
-        (record { cursor-record = words .cursor-record; cursor-position = words .cursor-position; found-record = refl; found-position = refl; item-number = words .item-number; item-value = tt; spare = words .spare }))
+        (record { cursor-record = words .cursor-record; cursor-position = words .cursor-position; found-record = refl; found-position = refl; item-number = words .item-number; item-value = tt; steps = words .steps }))
         (m .cursor, tt)
         marked
         (drain-front (z .B) (view σ γ) (good .model) _ _ _ seen f at-end more)

@@ -60,7 +60,7 @@ module _ (z : Sizes) (σ : Reader) (γ : Ghost) (good : Good z σ γ) (e : σ co
       ((refl, omega arith), ((refl, omega arith), ((refl, omega arith), tt)))
       refl
       (omega arith)
-      (record { cursor-record = refl; cursor-position = refl; found-record = words .found-record; found-position = words .found-position; item-number = words .item-number; item-value = words .item-value; spare = words .spare })
+      (record { cursor-record = refl; cursor-position = refl; found-record = words .found-record; found-position = words .found-position; item-number = words .item-number; item-value = words .item-value; steps = words .steps })
       (tt, m .found)
       refl
       model
@@ -86,7 +86,7 @@ module _ (z : Sizes) (σ : Reader) (γ : Ghost) (good : Good z σ γ) (e : σ co
       ((refl, omega arith), ((refl, omega arith), tt))
       e
       (omega arith)
-      (record { cursor-record = linked-most z σ γ good n u; cursor-position = omega (arith, room); found-record = words .found-record; found-position = words .found-position; item-number = words .item-number; item-value = words .item-value; spare = words .spare })
+      (record { cursor-record = linked-most z σ γ good n u; cursor-position = omega (arith, room); found-record = words .found-record; found-position = words .found-position; item-number = words .item-number; item-value = words .item-value; steps = words .steps })
       (u, m .found)
       (stays z σ γ good 5 e (z .B * σ (place r)) (σ (place n)) (σ foundPosition) _ _
       ∙ ap (λ (j : ℕ). State.rescanning (z .B * σ (place r)) j (σ foundPosition) g) w)
@@ -109,7 +109,7 @@ module _ (z : Sizes) (σ : Reader) (γ : Ghost) (good : Good z σ γ) (e : σ co
       ((refl, omega arith), ((refl, omega arith), ((refl, omega arith), ((refl, omega arith), ((refl, omega arith), tt)))))
       refl
       (omega arith)
-      (record { cursor-record = refl; cursor-position = refl; found-record = linked-most z σ γ good r (linked z σ γ good r q); found-position = words .cursor-position; item-number = words .item-number; item-value = words .item-value; spare = words .spare })
+      (record { cursor-record = refl; cursor-position = refl; found-record = linked-most z σ γ good r (linked z σ γ good r q); found-position = words .cursor-position; item-number = words .item-number; item-value = words .item-value; steps = words .steps })
       (tt, linked z σ γ good r q)
       (ap (State.found (σ cursorPosition)) (sym (placed z σ γ good r q)))
       (rescan-front (z .B) (view σ γ) (good .model) _ _ _ _ seen n p (sym (eqb-true (σ headPosition) (σ cursorPosition) b))))
@@ -121,7 +121,7 @@ module _ (z : Sizes) (σ : Reader) (γ : Ghost) (good : Good z σ γ) (e : σ co
       ((refl, omega arith), ((refl, omega arith), ((refl, omega arith), ((refl, omega arith), tt))))
       e
       (omega arith)
-      (record { cursor-record = head-most z σ γ good; cursor-position = position-most z σ γ good; found-record = linked-most z σ γ good r (linked z σ γ good r q); found-position = words .cursor-position; item-number = words .item-number; item-value = words .item-value; spare = words .spare })
+      (record { cursor-record = head-most z σ γ good; cursor-position = position-most z σ γ good; found-record = linked-most z σ γ good r (linked z σ γ good r q); found-position = words .cursor-position; item-number = words .item-number; item-value = words .item-value; steps = words .steps })
       (head-linked z σ γ good, linked z σ γ good r q)
       (stays z σ γ good 5 e (σ headPosition) (placeOf (placesOf σ) (σ headRecord)) (σ cursorPosition) (σ (place r)) _
       ∙ ap₂ (λ (j l : ℕ). State.rescanning (σ headPosition) j (σ cursorPosition) l) (head-placed z σ γ good) (sym (placed z σ γ good r q)))
@@ -140,7 +140,7 @@ module _ (z : Sizes) (σ : Reader) (γ : Ghost) (good : Good z σ γ) (e : σ co
       (rescan-done (z .B) (view σ γ) (good .model) _ _ _ _ seen n p (eqb-true (suc (σ cursorPosition)) (σ foundPosition) b)))
       (λ b.
       consumer-goes z σ γ good (not-yet σ e (omega arith)) (cursorPosition := suc (σ cursorPosition) ∷ []) 5 _ ((refl, omega arith), tt) e (omega arith)
-      (record { cursor-record = words .cursor-record; cursor-position = room; found-record = words .found-record; found-position = words .found-position; item-number = words .item-number; item-value = words .item-value; spare = words .spare })
+      (record { cursor-record = words .cursor-record; cursor-position = room; found-record = words .found-record; found-position = words .found-position; item-number = words .item-number; item-value = words .item-value; steps = words .steps })
       (m .cursor, m .found)
       (stays z σ γ good 5 e (suc (σ cursorPosition)) _ _ _ _)
       (rescan-pass (z .B) (view σ γ) (good .model) _ _ _ _ seen n p (eqb-false (suc (σ cursorPosition)) (σ foundPosition) b))))

@@ -130,7 +130,7 @@ module _ (z : Sizes) (σ : Reader) (γ : Ghost) (good : Good z σ γ) where
             next = retired γ;
             good = move-keeps;
             grown = refl;
-            moved = places-stay z 0 σ (γ .shape) (retired γ .shape) moved in-sort (λ r. refl) (omega arith) (omega arith) (omega arith);
+            moved = places-stay z 0 σ γ (retired γ) moved in-sort (λ r. refl) (omega arith) (omega arith) (omega arith) (λ l. absurd (omega arith));
           }
 
 -- the consumer's words cleared before the move or after it
@@ -180,7 +180,7 @@ module _ (z : Sizes) (σ : Reader) (γ : Ghost) (good : Good z σ γ) (e : σ co
             subst (λ (τ : Reader). Good z τ (retired settled)) (cleared-first σ _ _ _)
             (move-keeps z (after σ (clearConsumer ∷ [])) settled settles (drained .0) (drained .1) tt refl refl);
         grown = ap (λ (b : Bool). gaveItem (σ itemNumber) (σ itemValue) ∷ cond b (withdrawn (γ .history)) (γ .history)) (sym is-untold);
-        moved = places-stay z 0 σ (γ .shape) (retired γ .shape) (moved z σ γ good ++ (clearConsumer ∷ [])) sorted (λ r. refl) (omega arith) (omega arith) (omega arith);
+        moved = places-stay z 0 σ γ (retired settled) (moved z σ γ good ++ (clearConsumer ∷ [])) sorted (λ r. refl) (omega arith) (omega arith) (omega arith) (λ l. absurd (omega arith));
       }
     where
       sorted : All (InSort z 0) (moved z σ γ good ++ (clearConsumer ∷ []))

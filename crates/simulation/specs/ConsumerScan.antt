@@ -57,7 +57,7 @@ module _ (z : Sizes) (σ : Reader) (γ : Ghost) (good : Good z σ γ) where
         ((refl, omega arith), ((refl, omega arith), tt))
         e
         (omega arith)
-        (record { cursor-record = linked-most z σ γ good n u; cursor-position = fits; found-record = cursor-words .found-record; found-position = cursor-words .found-position; item-number = cursor-words .item-number; item-value = cursor-words .item-value; spare = cursor-words .spare })
+        (record { cursor-record = linked-most z σ γ good n u; cursor-position = fits; found-record = cursor-words .found-record; found-position = cursor-words .found-position; item-number = cursor-words .item-number; item-value = cursor-words .item-value; steps = cursor-words .steps })
         (u, m .found)
         (stays z σ γ good 3 e (z .B * σ (place r)) (σ (place n)) (σ foundPosition) _ _ ∙ ap (State.scanning (z .B * σ (place r))) w)
         (scan-cross (z .B) (view σ γ) (good .model) _ _ (σ (place r)) seen-scanning (at-end z σ γ good r q (σ cursorPosition) end)
@@ -86,7 +86,7 @@ module _ (z : Sizes) (σ : Reader) (γ : Ghost) (good : Good z σ γ) where
       (empty-scanned-tail (z .B) (view σ γ) (good .model) _ _ (seen-scanning e) (eqb-true (σ cursorPosition) (σ tail) c)))
       (λ c.
       let w = cursor-words e in
-      consumer-goes z σ γ good (not-yet σ e (omega arith)) (consumerPhase := 4 ∷ []) 4 _ ((refl, omega arith), tt) refl (omega arith) (record { cursor-record = w .cursor-record; cursor-position = w .cursor-position; found-record = w .found-record; found-position = w .found-position; item-number = w .item-number; item-value = w .item-value; spare = w .spare }) (m .cursor, m .found) refl
+      consumer-goes z σ γ good (not-yet σ e (omega arith)) (consumerPhase := 4 ∷ []) 4 _ ((refl, omega arith), tt) refl (omega arith) (record { cursor-record = w .cursor-record; cursor-position = w .cursor-position; found-record = w .found-record; found-position = w .found-position; item-number = w .item-number; item-value = w .item-value; steps = w .steps }) (m .cursor, m .found) refl
       (scan-look (z .B) (view σ γ) (good .model) _ _ (seen-scanning e)
       (λ x. eqb-false (σ cursorPosition) (z .B * σ (place r)) b (x ∙ ap (λ (y : ℕ). z .B * y) (placed z σ γ good r q)))
       (eqb-false (σ cursorPosition) (σ tail) c)))))
@@ -133,7 +133,7 @@ module _ (z : Sizes) (σ : Reader) (γ : Ghost) (good : Good z σ γ) where
           ((refl, omega arith), ((refl, omega arith), ((refl, omega arith), ((refl, omega arith), ((refl, omega arith), tt)))))
           refl
           (omega arith)
-          (record { cursor-record = head-most z σ γ good; cursor-position = position-most z σ γ good; found-record = linked-most z σ γ good r (linked z σ γ good r q); found-position = words .cursor-position; item-number = words .item-number; item-value = words .item-value; spare = words .spare })
+          (record { cursor-record = head-most z σ γ good; cursor-position = position-most z σ γ good; found-record = linked-most z σ γ good r (linked z σ γ good r q); found-position = words .cursor-position; item-number = words .item-number; item-value = words .item-value; steps = words .steps })
           (head-linked z σ γ good, linked z σ γ good r q)
           (ap₂ (λ (k g : ℕ). State.rescanning (σ headPosition) k (σ cursorPosition) g) (head-placed z σ γ good) (sym (placed z σ γ good r q)))
           (look-found (z .B) (view σ γ) (good .model) _ _ seen p)
@@ -146,7 +146,7 @@ module _ (z : Sizes) (σ : Reader) (γ : Ghost) (good : Good z σ γ) where
           ((refl, omega arith), ((refl, omega arith), tt))
           refl
           (omega arith)
-          (record { cursor-record = words .cursor-record; cursor-position = room; found-record = words .found-record; found-position = words .found-position; item-number = words .item-number; item-value = words .item-value; spare = words .spare })
+          (record { cursor-record = words .cursor-record; cursor-position = room; found-record = words .found-record; found-position = words .found-position; item-number = words .item-number; item-value = words .item-value; steps = words .steps })
           (m .cursor, m .found)
           refl
           (look-pass (z .B) (view σ γ) (good .model) _ _ seen n))

@@ -122,7 +122,7 @@ module _ (z : Sizes) (σ : Reader) (γ : Ghost) (good : Good z σ γ) where
   pub resting-in-range : (σ′ : Reader) → ((k : ℕ) → σ′ (consumer k) ≡ 0) → consumerInRange z σ′ ≡ true
   resting-in-range σ′ none =
       consumer-row-of z (λ k. σ′ (consumer k)) 0 (none 0) (omega arith)
-      (record { cursor-record = none 1; cursor-position = none 2; found-record = none 3; found-position = none 4; item-number = none 5; item-value = none 6; spare = none 7 })
+      (record { cursor-record = none 1; cursor-position = none 2; found-record = none 3; found-position = none 4; item-number = none 5; item-value = none 6; steps = none 7 })
 
   -- The dequeue answers empty.
   pub answers-empty : untold σ ≡ false → isBusy (view σ γ .consumer) ≡ true → Invariant (z .B) (answerEmpty (view σ γ)) → Fine z σ γ (step 0) endsEmpty
@@ -178,5 +178,5 @@ module _ (z : Sizes) (σ : Reader) (γ : Ghost) (good : Good z σ γ) where
               pending = tells .pending;
             };
         grown = tells .grown;
-        moved = places-stay z 0 σ (γ .shape) (γ .shape) ws in-sort (λ x. light .parts x 0) grows (omega arith) (omega arith);
+        moved = places-stay z 0 σ γ _ ws in-sort (λ x. light .parts x 0) grows (omega arith) (omega arith) (λ l. absurd (omega arith));
       }

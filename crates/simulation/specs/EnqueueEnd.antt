@@ -62,7 +62,7 @@ module _ (z : Sizes) (lo : ℕ) (σ : Reader) (row : ℕ → ℕ) (none : (k : �
   pub idle-in-range : threadInRange z lastProducerPhase producerSorts row ≡ true
   idle-in-range =
       producer-row-of z row 0 (none 0) (omega arith)
-      (record { call = none 1; value = none 2; position = none 3; held = none 4; claimed = none 5; backed = none 6; spare = none 7 })
+      (record { call = none 1; value = none 2; position = none 3; held = none 4; claimed = none 5; backed = none 6; steps = none 7 })
 
   pub idle-thread : ThreadOk (z .N) lo σ row
   idle-thread =

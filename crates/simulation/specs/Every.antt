@@ -1,19 +1,21 @@
--- Every request on a store that only the engine has written goes on so, whichever loose record a claim takes. The next free one is loose.
+-- Every phase on a store that only the engine has written goes on so, whichever loose record a claim takes. The next free one is loose.
 use mathlib.Core.Path.{_≡_, refl}
-use mathlib.Core.Logic.{_≢_}
+use mathlib.Core.Logic.{inl, inr, _≢_}
+use mathlib.Core.List.{[]}
 use Prim.Native.Nat.{ℕ, zero, suc, _≤_}
 use native.Mathlib.Omega.{arith}
-use lib.Dec.{eqb, ltb}
+use lib.Dec.{leb, eqb, ltb}
 use lib.ListN.{getD}
-use borrow.Author.Tests.{eqb-true, eqb-false, ltb-false}
+use borrow.Author.Tests.{leb-true, ne-eqb, eqb-true, eqb-false, ltb-true, ltb-false}
 use Rattle.rules.specs.Sizes.{Sizes}
-use Rattle.rules.specs.Cell.{Reader, lastClaimed, consumerPhase, phase}
+use Rattle.rules.specs.Cell.{Reader, consumer, producer, lastClaimed, consumerPhase, phase, threadPhase}
 use Rattle.rules.specs.Free.{nextFree}
-use Rattle.rules.specs.Range.{record-number}
+use Rattle.rules.specs.Update.{both}
+use Rattle.rules.specs.Range.{record-number, consumerSorts, producerSorts, lastConsumerPhase, lastProducerPhase, ofSorts}
 use Rattle.rules.specs.Rule.{Effect, refuse}
 use Rattle.rules.specs.Producer.{producerRules, producerStep}
 use Rattle.rules.specs.Consumer.{consumerRules, consumerStep}
-use Rattle.rules.specs.Request.{Request, startEnqueue, startDequeue, step, startingEnqueue, startingDequeue, stepping, effect}
+use Rattle.rules.specs.Request.{Request, startEnqueue, startDequeue, step, startingEnqueue, startingDequeue, phaseStep, stepping, effect}
 use Rattle.memory.specs.Loose.{LooseChoice, next-free-loose}
 use Rattle.simulation.specs.View.{Ghost}
 use Rattle.simulation.specs.Good.{Good, Fine, by-cond}
@@ -27,7 +29,6 @@ use Rattle.simulation.specs.ConsumerFront.{front-fine, read-tail-fine}
 use Rattle.simulation.specs.ConsumerScan.{scan-fine, read-entry-fine}
 use Rattle.simulation.specs.ConsumerRescan.{rescan-fine}
 use Rattle.simulation.specs.ConsumerItem.{read-item-fine, mark-handled-fine}
-use Rattle.simulation.specs.Starts.{start-enqueue-fine, start-dequeue-fine}
 
 -- What a call does whose claim takes this record (plus one; zero for none).
 abbrev pub effectTaking : (c : ℕ) → Request → Sizes → Reader → Effect
@@ -43,16 +44,27 @@ effect-is startDequeue z σ = refl
 effect-is (step t) z σ = refl
 
 module _ (z : Sizes) (σ : Reader) (γ : Ghost) (good : Good z σ γ) where
-  -- a refusal that is none of 3 and 9
-  idle-fine : (q : Request) → Fine z σ γ q (refuse 7)
-  idle-fine q = ((λ e. omega arith), (λ e. omega arith))
+  -- an idle thread
+  idle-fine : (t : ℕ) → σ (threadPhase t) ≡ 0 → Fine z σ γ (step t) (refuse 7)
+  idle-fine t e = inr (inl (refl, e))
+
+  -- no phase is past the last one
+  consumer-most : σ consumerPhase ≤ lastConsumerPhase
+  consumer-most =
+      leb-true (σ consumerPhase) lastConsumerPhase
+      (both (leb (σ consumerPhase) lastConsumerPhase) (ofSorts z (λ k. σ (consumer k)) 1 (getD consumerSorts (σ consumerPhase) [])) (good .range .consuming) .0)
+
+  producer-most : (t : ℕ) → (1 ≤ t) × (t ≤ z .P) → σ (phase t) ≤ lastProducerPhase
+  producer-most t a =
+      leb-true (σ (phase t)) lastProducerPhase
+      (both (leb (σ (phase t)) lastProducerPhase) (ofSorts z (λ k. σ (producer t k)) 1 (getD producerSorts (σ (phase t)) [])) (good .range .producing t (a .0) (a .1)) .0)
 
   consumer-fine : Fine z σ γ (step 0) (consumerStep z σ)
   unfolding consumerStep
   consumer-fine = by-phase (σ consumerPhase) refl
     where
       by-phase : (p : ℕ) → σ consumerPhase ≡ p → Fine z σ γ (step 0) (getD consumerRules p (λ z σ. refuse 7) z σ)
-      by-phase zero e = idle-fine (step 0)
+      by-phase zero e = idle-fine 0 e
       by-phase (suc zero) e = front-fine z σ γ good e
       by-phase (suc (suc zero)) e = read-tail-fine z σ γ good e
       by-phase (suc (suc (suc zero))) e = scan-fine z σ γ good e
@@ -61,14 +73,14 @@ module _ (z : Sizes) (σ : Reader) (γ : Ghost) (good : Good z σ γ) where
       by-phase (suc (suc (suc (suc (suc (suc zero)))))) e = read-item-fine z σ γ good e
       by-phase (suc (suc (suc (suc (suc (suc (suc zero))))))) e = mark-handled-fine z σ γ good e
       by-phase (suc (suc (suc (suc (suc (suc (suc (suc zero)))))))) e = retire-head-fine z σ γ good e
-      by-phase (suc (suc (suc (suc (suc (suc (suc (suc (suc p))))))))) e = idle-fine (step 0)
+      by-phase (suc (suc (suc (suc (suc (suc (suc (suc (suc p))))))))) e = absurd (omega (arith, consumer-most))
 
   producer-fine : (t : ℕ) → (1 ≤ t) × (t ≤ z .P) → (c : ℕ) → LooseChoice z σ c → Fine z σ γ (step t) (producerStep c z σ t)
   unfolding producerStep
   producer-fine t a c choice = by-phase (σ (phase t)) refl
     where
       by-phase : (p : ℕ) → σ (phase t) ≡ p → Fine z σ γ (step t) (getD (producerRules c) p (λ z σ t. refuse 7) z σ t)
-      by-phase zero e = idle-fine (step t)
+      by-phase zero e = idle-fine t (rw (ne-eqb t 0 (λ x. omega (arith, a .0))) e)
       by-phase (suc zero) e = take-position-fine z σ γ good t a e
       by-phase (suc (suc zero)) e = load-tail-fine z σ γ good t a e
       by-phase (suc (suc (suc zero))) e = look-next-fine z σ γ good t a e
@@ -80,29 +92,24 @@ module _ (z : Sizes) (σ : Reader) (γ : Ghost) (good : Good z σ γ) where
       by-phase (suc (suc (suc (suc (suc (suc (suc (suc (suc zero))))))))) e = set-entry-fine z σ γ good t a e
       by-phase (suc (suc (suc (suc (suc (suc (suc (suc (suc (suc zero)))))))))) e = claim-ahead-fine z σ γ good t a e c choice
       by-phase (suc (suc (suc (suc (suc (suc (suc (suc (suc (suc (suc zero))))))))))) e = link-ahead-fine z σ γ good t a e
-      by-phase (suc (suc (suc (suc (suc (suc (suc (suc (suc (suc (suc (suc p)))))))))))) e = idle-fine (step t)
+      by-phase (suc (suc (suc (suc (suc (suc (suc (suc (suc (suc (suc (suc p)))))))))))) e = absurd (omega (arith, producer-most t a))
 
-  step-fine : (c : ℕ) → LooseChoice z σ c → (t : ℕ) → Fine z σ γ (step t) (stepping c t z σ)
-  unfolding stepping
-  step-fine c choice t =
+  pub phase-fine : (c : ℕ) → LooseChoice z σ c → (t : ℕ) → Fine z σ γ (step t) (phaseStep c t z σ)
+  unfolding phaseStep
+  phase-fine c choice t =
       by-cond (Fine z σ γ (step t)) (ltb (z .P) t) _ _
-      (λ b. ((λ e. omega arith), (λ e. omega arith)))
+      (λ b. inl (refl, ltb-true (z .P) t b))
       (λ b.
       by-cond (Fine z σ γ (step t)) (eqb t 0) _ _
       (λ e.
       by-cond (Fine z σ γ (step t)) (eqb (σ consumerPhase) 0) _ _
-      (λ d. idle-fine (step t))
+      (λ d. idle-fine t (rw e (eqb-true (σ consumerPhase) 0 d)))
       (λ d. rw (eqb-true t 0 e) consumer-fine))
       (λ e.
       let n : t ≢ 0 = eqb-false t 0 e in
       by-cond (Fine z σ γ (step t)) (eqb (σ (phase t)) 0) _ _
-      (λ d. idle-fine (step t))
+      (λ d. idle-fine t (rw e (eqb-true (σ (phase t)) 0 d)))
       (λ d. producer-fine t (omega arith, ltb-false (z .P) t b) c choice)))
-
-  pub effect-fine : (c : ℕ) → LooseChoice z σ c → (q : Request) → Fine z σ γ q (effectTaking c q z σ)
-  effect-fine c choice (startEnqueue t v) = start-enqueue-fine z σ γ good t v
-  effect-fine c choice startDequeue = start-dequeue-fine z σ γ good
-  effect-fine c choice (step t) = step-fine c choice t
 
   pub next-choice : LooseChoice z σ (nextFree z σ)
   next-choice =

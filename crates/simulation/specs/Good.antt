@@ -4,10 +4,11 @@
 -- Kept and told. In phase 8 an item is marked and not yet told. The kept history has its end, and a dequeue opened there; what was told
 -- has neither. In every other phase they are the same.
 use mathlib.Core.Path.{_≡_, refl, sym}
-use mathlib.Core.Logic.{_≢_}
+use mathlib.Core.Logic.{_⊎_, inl, inr, _≢_}
 use mathlib.Core.Bool.{Bool, true, false, cond}
 use mathlib.Core.List.{List, _++_}
-use Prim.Native.Nat.{ℕ, zero, suc, _≤_}
+use Prim.Native.Nat.{ℕ, zero, suc, _≤_, _<_}
+use native.Mathlib.Omega.{arith}
 use lib.Dec.{eqb}
 use borrow.Author.Tests.{le-leb}
 use Rattle.history.specs.Lists.{All}
@@ -15,16 +16,17 @@ use Rattle.history.specs.Event.{History}
 use Rattle.history.specs.Form.{wellFormed}
 use Rattle.criterion.specs.Late.{Late, withdrawn}
 use Rattle.rules.specs.Sizes.{Sizes, sizesInRange}
-use Rattle.rules.specs.Cell.{Cell, Reader, Write, tail, consumerPhase, itemNumber, itemValue, place}
+use Rattle.rules.specs.Cell.{Cell, Reader, Write, tail, headPosition, consumerPhase, threadPhase, itemNumber, itemValue, place}
 use Rattle.rules.specs.Update.{areaOf, after}
 use Rattle.rules.specs.Rule.{Effect, refuse, reply, need, upTo}
-use Rattle.rules.specs.Request.{Request}
+use Rattle.rules.specs.Request.{Request, startEnqueue, startDequeue, step}
 use Rattle.rules.specs.Play.{threadOf, replyEvents}
 use Rattle.rules.specs.Readback.{WriteThere}
 use Rattle.rules.specs.InRange.{InSort, OtherThread, others-untouched, InRange}
+use Rattle.model.specs.State.{gone}
 use Rattle.model.specs.Invariant.{Invariant}
-use Rattle.memory.specs.Memory.{ChainShape, Memory}
-use Rattle.simulation.specs.View.{Ghost, view, AgreesWith}
+use Rattle.memory.specs.Memory.{rowOf, Memory}
+use Rattle.simulation.specs.View.{Ghost, placesOf, placeOf, view, AgreesWith}
 
 -- an item is marked and not yet told
 abbrev pub untold : Reader → Bool
@@ -47,36 +49,78 @@ pub record Good (z : Sizes) (σ : Reader) (γ : Ghost) : Type 0 where
   pub formed : wellFormed (γ .history) ≡ true
   pub pending : Pending σ (γ .history)
 
+-- The record that another thread holds has the place that it had.
+abbrev pub PlacesKept : ℕ → Reader → Reader → Type 0
+PlacesKept t σ σ′ = (u : ℕ) → (t ≡ u → ⊥) → placeOf (placesOf σ′) (rowOf σ u 4) ≡ placeOf (placesOf σ) (rowOf σ u 4)
+
+-- What the consumer sees of a producer's call: the head and the records of the places up to the last one stay, and no entry is newly
+-- handled.
+pub record Behind (σ σ′ : Reader) (γ γ′ : Ghost) : Type 0 where
+  pub same-head : σ′ headPosition ≡ σ headPosition
+  pub same-first : γ′ .shape .lo ≡ γ .shape .lo
+  pub same-records : (k : ℕ) → k ≤ γ .shape .hi → γ′ .shape .at k ≡ γ .shape .at k
+  pub was-gone : (p : ℕ) → γ′ .entry p ≡ gone → γ .entry p ≡ gone
+
 -- What a call of thread t moves: other threads' words stay; tail, the place of the tail record and the last place only grow; a
 -- record with a place up to the old last one had it before.
-pub record Moved (t : ℕ) (σ σ′ : Reader) (g g′ : ChainShape) : Type 0 where
+pub record Moved (t : ℕ) (σ σ′ : Reader) (γ γ′ : Ghost) : Type 0 where
   pub others : (d : Cell) → OtherThread t (areaOf d) → σ′ d ≡ σ d
   pub tail-grows : σ tail ≤ σ′ tail
-  pub shifts-on : g .tp ≤ g′ .tp
-  pub last-grows : g .hi ≤ g′ .hi
-  pub had-place : (r : ℕ) → 1 ≤ σ′ (place r) → σ′ (place r) ≤ g .hi → σ (place r) ≡ σ′ (place r)
+  pub shifts-on : γ .shape .tp ≤ γ′ .shape .tp
+  pub last-grows : γ .shape .hi ≤ γ′ .shape .hi
+  pub had-place : (r : ℕ) → 1 ≤ σ′ (place r) → σ′ (place r) ≤ γ .shape .hi → σ (place r) ≡ σ′ (place r)
+  pub held-places : PlacesKept t σ σ′
+  pub behind : 1 ≤ t → Behind σ σ′ γ γ′
 
 -- Writes in range that write no place.
-pub places-stay : (z : Sizes) (t : ℕ) (σ : Reader) (g g′ : ChainShape) (ws : List Write) → All (InSort z t) ws → ((r : ℕ) → after σ ws (place r) ≡ σ (place r))
-    → σ tail ≤ after σ ws tail → g .tp ≤ g′ .tp → g .hi ≤ g′ .hi → Moved t σ (after σ ws) g g′
-places-stay z t σ g g′ ws in-sort places a b c =
-    record { others = others-untouched z t σ ws in-sort; tail-grows = a; shifts-on = b; last-grows = c; had-place = λ r l h. sym (places r) }
+pub places-stay : (z : Sizes) (t : ℕ) (σ : Reader) (γ γ′ : Ghost) (ws : List Write) → All (InSort z t) ws → ((r : ℕ) → after σ ws (place r) ≡ σ (place r))
+    → σ tail ≤ after σ ws tail → γ .shape .tp ≤ γ′ .shape .tp → γ .shape .hi ≤ γ′ .shape .hi → (1 ≤ t → Behind σ (after σ ws) γ γ′)
+    → Moved t σ (after σ ws) γ γ′
+places-stay z t σ γ γ′ ws in-sort places a b c behind =
+    record {
+      others = others-untouched z t σ ws in-sort;
+      tail-grows = a;
+      shifts-on = b;
+      last-grows = c;
+      had-place = λ r l h. sym (places r);
+      held-places = λ u n. held (rowOf σ u 4);
+      behind = behind;
+    }
+  where
+    held : (x : ℕ) → placeOf (placesOf (after σ ws)) x ≡ placeOf (placesOf σ) x
+    held zero = refl
+    held (suc r) = places r
 
 -- What a call says: what was told grows by the events of its reply.
 pub record Tells (σ σ′ : Reader) (q : Request) (r : Rattle.rules.specs.Rule.Reply) (g g′ : History) : Type 0 where
   pub pending : Pending σ′ g′
   pub grown : told σ′ g′ ≡ replyEvents q (told σ g) r ++ told σ g
 
--- An answer to request q that goes on so: a refusal is none of 3 and 9, and a reply leaves such a store, with what it tells.
+-- The refusals that are left on such a store: of a start 4 to 6; of a step 4 for a thread that is not there, 7 for an idle one, and 8 for an
+-- enqueue.
+abbrev pub Refusable : Sizes → Reader → Request → ℕ → Type 0
+Refusable z σ (startEnqueue t v) n = (4 ≤ n) × (n ≤ 6)
+Refusable z σ startDequeue n = n ≡ 5
+Refusable z σ (step t) n = ((n ≡ 4) × (z .P < t)) ⊎ (((n ≡ 7) × (σ (threadPhase t) ≡ 0)) ⊎ ((n ≡ 8) × (1 ≤ t)))
+
+-- none of them is 3 or 9
+pub none-of-3-and-9 : (z : Sizes) (σ : Reader) (q : Request) (n : ℕ) → Refusable z σ q n → (n ≢ 3) × (n ≢ 9)
+none-of-3-and-9 z σ (startEnqueue t v) n r = ((λ e. omega arith), (λ e. omega arith))
+none-of-3-and-9 z σ startDequeue n r = ((λ e. omega arith), (λ e. omega arith))
+none-of-3-and-9 z σ (step t) n (inl r) = ((λ e. omega arith), (λ e. omega arith))
+none-of-3-and-9 z σ (step t) n (inr (inl r)) = ((λ e. omega arith), (λ e. omega arith))
+none-of-3-and-9 z σ (step t) n (inr (inr r)) = ((λ e. omega arith), (λ e. omega arith))
+
+-- An answer to request q that goes on so: a refusal is one of these, and a reply leaves such a store, with what it tells.
 pub record Goes (z : Sizes) (σ : Reader) (γ : Ghost) (q : Request) (r : Rattle.rules.specs.Rule.Reply) (ws : List Write) : Type 0 where
   pub there : All (WriteThere z) ws
   pub next : Ghost
   pub good : Good z (after σ ws) next
   pub grown : told (after σ ws) (next .history) ≡ replyEvents q (told σ (γ .history)) r ++ told σ (γ .history)
-  pub moved : Moved (threadOf q) σ (after σ ws) (γ .shape) (next .shape)
+  pub moved : Moved (threadOf q) σ (after σ ws) γ next
 
 abbrev pub Fine : (z : Sizes) (σ : Reader) (γ : Ghost) → Request → Effect → Type 0
-Fine z σ γ q (refuse n) = (n ≢ 3) × (n ≢ 9)
+Fine z σ γ q (refuse n) = Refusable z σ q n
 Fine z σ γ q (reply r ws) = Goes z σ γ q r ws
 
 -- To show something of a rule's answer, show it at each leaf.

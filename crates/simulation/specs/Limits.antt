@@ -12,7 +12,9 @@ use Rattle.rules.specs.Update.{both}
 
 pub record Limits (z : Sizes) : Type 0 where
   pub two-entries : 2 ≤ z .B
+  pub most-entries : z .B ≤ mostEntries
   pub two-records : 2 ≤ z .N
+  pub most-records : z .N ≤ mostRecords
   pub one-producer : 1 ≤ z .P
   pub most-producers : z .P ≤ mostProducers
   pub most-starts : z .M ≤ mostStarts
@@ -27,7 +29,9 @@ limits z e =
     let r = both entries records (p .0) in
     record {
       two-entries = leb-true 2 (z .B) (both (leb 2 (z .B)) (leb (z .B) mostEntries) (r .0) .0);
+      most-entries = leb-true (z .B) mostEntries (both (leb 2 (z .B)) (leb (z .B) mostEntries) (r .0) .1);
       two-records = leb-true 2 (z .N) (both (leb 2 (z .N)) (leb (z .N) mostRecords) (r .1) .0);
+      most-records = leb-true (z .N) mostRecords (both (leb 2 (z .N)) (leb (z .N) mostRecords) (r .1) .1);
       one-producer = leb-true 1 (z .P) (both (leb 1 (z .P)) (leb (z .P) mostProducers) (p .1) .0);
       most-producers = leb-true (z .P) mostProducers (both (leb 1 (z .P)) (leb (z .P) mostProducers) (p .1) .1);
       most-starts = leb-true (z .M) mostStarts (both (leb 1 (z .M)) (leb (z .M) mostStarts) (m .1) .1);

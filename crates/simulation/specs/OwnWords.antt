@@ -112,7 +112,7 @@ module _ (z : Sizes) (σ : Reader) (γ : Ghost) (good : Good z σ γ) where
       producer-goes z σ γ good t a r to ws (γ .shape .tp) (γ .entry) (γ .owner) (γ .content) h in-sort
       (own-there z t (ofProducer t) (of-producer z t a) ws own)
       (record { parts = λ y k. same (part y k) refl; entries = λ y n i k. same (entry y i k) refl })
-      (same headRecord refl, same cursorRecord refl, same foundRecord refl)
+      (same headRecord refl, same cursorRecord refl, same foundRecord refl, same headPosition refl)
       in-row
       thread
       none
@@ -125,6 +125,7 @@ module _ (z : Sizes) (σ : Reader) (γ : Ghost) (good : Good z σ γ) where
       formed
       grown
       (omega (arith, same tail refl), omega arith)
+      (λ p e. e)
     where
       σ′ : Reader
       σ′ = after σ ws
@@ -187,6 +188,6 @@ module _ (z : Sizes) (σ : Reader) (γ : Ghost) (good : Good z σ γ) where
           good = consumer-keeps-good x h in-row linked seen model formed (tells .pending);
           grown = tells .grown;
           moved =
-              subst⁻¹ (λ (t : ℕ). Moved t σ (after σ ws) (γ .shape) (γ .shape)) of
-              (places-stay z 0 σ (γ .shape) (γ .shape) ws in-sort (λ x. same (place x) refl) (omega (arith, same tail refl)) (omega arith) (omega arith));
+              subst⁻¹ (λ (t : ℕ). Moved t σ (after σ ws) γ (later γ h)) of
+              (places-stay z 0 σ γ (later γ h) ws in-sort (λ x. same (place x) refl) (omega (arith, same tail refl)) (omega arith) (omega arith) (λ l. absurd (omega arith)));
         }

@@ -1,6 +1,6 @@
 -- Producer phases 4 and 10, which claim a record.
 use mathlib.Core.Path.{_≡_, refl, ap, sym, _∙_}
-use mathlib.Core.Logic.{_≢_}
+use mathlib.Core.Logic.{inr, _≢_}
 use mathlib.Core.Bool.{true}
 use mathlib.Core.List.{List, [], _∷_}
 use Prim.Native.Nat.{ℕ, zero, suc, _≤_, _<_}
@@ -56,7 +56,7 @@ module _ (z : Sizes) (σ : Reader) (γ : Ghost) (good : Good z σ γ) (t : ℕ) 
       (sym (consumer-same σ σ′ r (λ k. refl) places (loose .not-linked) (m .cursor) (m .found))))
       (good .formed)
       refl
-      (record { others = others-untouched z t σ ws in-sort; tail-grows = omega arith; shifts-on = omega arith; last-grows = omega arith; had-place = λ y l b. old-place y l (ℕ-discrete y r) })
+      (record { others = others-untouched z t σ ws in-sort; tail-grows = omega arith; shifts-on = omega arith; last-grows = omega arith; had-place = λ y l b. old-place y l (ℕ-discrete y r); held-places = λ u n. place-same σ σ′ r places (σ (held u)) (loose .not-held u); behind = λ l. record { same-head = refl; same-first = refl; same-records = λ k b. refl; was-gone = λ p e. e } })
     where
       m : Memory z σ (γ .shape)
       m = good .memory
@@ -100,11 +100,11 @@ module _ (z : Sizes) (σ : Reader) (γ : Ghost) (good : Good z σ γ) (t : ℕ) 
   -- 4. Claim a record; to 5. Refusal 8: no record free.
   pub claim-record-fine : σ (phase t) ≡ 4 → (c : ℕ) → LooseChoice z σ c → Fine z σ γ (step t) (claimRecord z σ t c)
   unfolding claimRecord
-  claim-record-fine e zero none = ((λ q. omega arith), (λ q. omega arith))
+  claim-record-fine e zero none = inr (inr (refl, a-producer .0))
   claim-record-fine e (suc r) one =
       let old = own-words z σ γ good t a-producer 4 e in
       claims 4 5 r e (omega arith) (one .0) (one .1) (λ n v L k. refl) (omega arith)
-      (record { call = old .call; value = tt; position = old .position; held = old .held; claimed = rw self (one .0); backed = old .backed; spare = old .spare })
+      (record { call = old .call; value = tt; position = old .position; held = old .held; claimed = rw self (one .0); backed = old .backed; steps = old .steps })
 
   -- 10. If none is free, end; else claim; to 11.
   pub claim-ahead-fine : σ (phase t) ≡ 10 → (c : ℕ) → LooseChoice z σ c → Fine z σ γ (step t) (claimAhead z σ t c)
@@ -125,4 +125,4 @@ module _ (z : Sizes) (σ : Reader) (γ : Ghost) (good : Good z σ γ) (t : ℕ) 
   claim-ahead-fine e (suc r) one =
       let old = own-words z σ γ good t a-producer 10 e in
       claims 10 11 r e (omega arith) (one .0) (one .1) (λ n v L k. refl) (omega arith)
-      (record { call = old .call; value = tt; position = old .position; held = old .held; claimed = rw self (one .0); backed = old .backed; spare = old .spare })
+      (record { call = old .call; value = tt; position = old .position; held = old .held; claimed = rw self (one .0); backed = old .backed; steps = old .steps })

@@ -1,7 +1,7 @@
 -- Producer phases 1, 8 and 9, which take a position, write its entry and set it.
 use mathlib.Core.Path.{_≡_, refl, ap, ap₂, sym, _∙_, subst, fun-ext}
 use mathlib.Core.Logic.{inl, inr}
-use mathlib.Core.Bool.{true, _&&_, cond, and-false}
+use mathlib.Core.Bool.{Bool, true, false, _&&_, cond, and-false}
 use mathlib.Core.List.{List, [], _∷_, _++_}
 use mathlib.Core.Option.{some}
 use Prim.Native.Nat.{ℕ, suc, _+_, _≤_}
@@ -21,7 +21,7 @@ use Rattle.rules.specs.Producer.{takePosition, writeEntry, setEntry}
 use Rattle.rules.specs.Request.{step}
 use Rattle.rules.specs.Play.{replyEvents}
 use Rattle.rules.specs.InRange.{InSort}
-use Rattle.model.specs.State.{put, Producer, started, writing, setting, idle, callOf, override}
+use Rattle.model.specs.State.{Entry, put, gone, Producer, started, writing, setting, idle, callOf, override}
 use Rattle.model.specs.Invariant.{Invariant, Inside}
 use Rattle.model.specs.Facts.{override-same, override-other}
 use Rattle.model.specs.Moves.{withProducer, withEntry, setEntry as setEntered}
@@ -31,7 +31,7 @@ use Rattle.model.specs.Count.{tail-below}
 use Rattle.model.specs.Bounds.{writing-place, setting-place}
 use Rattle.memory.specs.Memory.{Holdable, ThreadOk, rowOf, held-is}
 use Rattle.memory.specs.OtherThreads.{others-kept}
-use Rattle.simulation.specs.View.{Ghost, placesOf, placeOf, producersOf, consumerFrom, view}
+use Rattle.simulation.specs.View.{Ghost, placesOf, placeOf, producersOf, consumerFrom, view, codeOf}
 use Rattle.simulation.specs.Good.{Good, Goes, Fine, by-need, by-cond, by-up-to}
 use Rattle.simulation.specs.Told.{ToEnqueue}
 use Rattle.simulation.specs.Rows.{ProducerWords, of-sort, has-sort, producer-row-of}
@@ -40,6 +40,11 @@ use Rattle.simulation.specs.OwnWords.{of-producer, own-in-sort, own-ther
 use Rattle.simulation.specs.RecordSteps.{seen-as}
 use Rattle.simulation.specs.EnqueueEnd.{end-formed, end-adds, idle-in-range, idle-thread, idle-seen}
 use Rattle.simulation.specs.Entries.{other-record, other-entry, by-inside, Slot, slot, slot-changes, slot-state, slot-number, slot-value}
+
+-- setting an entry makes none handled
+set-not-gone : (b : Bool) (x : Entry) → cond b put x ≡ gone → x ≡ gone
+set-not-gone true x e = let z : _≡_ {A = ℕ} 1 2 = ap codeOf e in absurd (omega arith)
+set-not-gone false x e = e
 
 module _ (z : Sizes) (σ : Reader) (γ : Ghost) (good : Good z σ γ) (t : ℕ) (a-producer : (1 ≤ t) × (t ≤ z .P)) where
   self : eqb t t ≡ true
@@ -57,9 +62,9 @@ module _ (z : Sizes) (σ : Reader) (γ : Ghost) (good : Good z σ γ) (t : ℕ) 
       in-sort
       ((a-producer .0, a-producer .1, omega arith), (omega arith, ((a-producer .0, a-producer .1, omega arith), tt)))
       (record { parts = λ x j. refl; entries = λ x u i j. refl })
-      (refl, refl, refl)
+      (refl, refl, refl, refl)
       (producer-row-of z (rowOf σ′ t) 2 two (omega arith)
-      (record { call = old .call; value = tt; position = rw self (omega (arith, room)); held = omega (arith, old .held); claimed = old .claimed; backed = omega (arith, old .backed); spare = old .spare }))
+      (record { call = old .call; value = tt; position = rw self (omega (arith, room)); held = omega (arith, old .held); claimed = old .claimed; backed = omega (arith, old .backed); steps = old .steps }))
       (unclaimed (z .N) (γ .shape .lo) σ (rowOf σ′ t) (good .memory .threads t .holding) (old .claimed)
       (λ l. absurd (omega (arith, two))) (λ x. omega (arith, two)) (λ x. omega (arith, two)))
       (old .claimed)
@@ -69,7 +74,8 @@ module _ (z : Sizes) (σ : Reader) (γ : Ghost) (good : Good z σ γ) (t : ℕ) 
       (producers-after t σ σ′ (others-kept z t σ takeWrites in-sort) (λ u x. refl) _ (rw self refl)))
       (good .formed)
       refl
-      (omega arith, omega arith))
+      (omega arith, omega arith)
+      (λ p x. x))
     where
       σ′ : Reader
       σ′ = after σ takeWrites
@@ -129,8 +135,8 @@ module _ (z : Sizes) (σ : Reader) (γ : Ghost) (good : Good z σ γ) (t : ℕ) 
           in-sort
           ((s .fits, s .here .below, omega arith), ((s .fits, s .here .below, omega arith), ((a-producer .0, a-producer .1, omega arith), tt)))
           (record { parts = λ x j. refl; entries = λ x n b j. rw (other-record σ h (s .linked) x n, and-false (eqb (index z σ h (σ (position t))) b), and-false (eqb 2 j), and-false (eqb 1 j)) refl })
-          (refl, refl, refl)
-          (producer-row-of z (rowOf σ′ t) 9 nine (omega arith) (record { call = old .call; value = old .value; position = old .position; held = old .held; claimed = old .claimed; backed = old .backed; spare = old .spare }))
+          (refl, refl, refl, refl)
+          (producer-row-of z (rowOf σ′ t) 9 nine (omega arith) (record { call = old .call; value = old .value; position = old .position; held = old .held; claimed = old .claimed; backed = old .backed; steps = old .steps }))
           (unclaimed (z .N) (γ .shape .lo) σ (rowOf σ′ t) (good .memory .threads t .holding) (old .claimed)
           (λ l. good .memory .threads t .has-held (omega arith)) (λ x. omega (arith, nine)) (λ x. omega (arith, nine)))
           (old .claimed)
@@ -147,6 +153,7 @@ module _ (z : Sizes) (σ : Reader) (γ : Ghost) (good : Good z σ γ) (t : ℕ) 
           (good .formed)
           refl
           (omega arith, omega arith)
+          (λ p x. x)
         where
           i : ℕ
           i = index z σ h (σ (position t))
@@ -196,7 +203,7 @@ module _ (z : Sizes) (σ : Reader) (γ : Ghost) (good : Good z σ γ) (t : ℕ) 
           parts = λ y j. same (part y j) refl;
           entries = λ y n a j. same (entry y a j) refl ∙ rw (other-record σ h (s .linked) y n, and-false (eqb i a), and-false (eqb 0 j)) refl;
         })
-        (same headRecord refl, same cursorRecord refl, same foundRecord refl)
+        (same headRecord refl, same cursorRecord refl, same foundRecord refl, same headPosition refl)
         in-row
         thread
         none
@@ -214,6 +221,7 @@ module _ (z : Sizes) (σ : Reader) (γ : Ghost) (good : Good z σ γ) (t : ℕ) 
         formed
         grown
         (omega (arith, same tail refl), omega arith)
+        (λ p. set-not-gone (eqb (σ (position t)) p) (γ .entry p))
       where
         ws : List Write
         ws = state h i := 1 ∷ rest
@@ -236,7 +244,7 @@ module _ (z : Sizes) (σ : Reader) (γ : Ghost) (good : Good z σ γ) (t : ℕ) 
     goes-ahead flag =
         sets (phase t := 10 ∷ []) going tt _ (γ .history) ((refl, omega arith), tt)
         (producer-row-of z (rowOf σ′ t) 10 ten (omega arith)
-        (record { call = setting-words .call; value = tt; position = setting-words .position; held = setting-words .held; claimed = setting-words .claimed; backed = flag; spare = setting-words .spare }))
+        (record { call = setting-words .call; value = tt; position = setting-words .position; held = setting-words .held; claimed = setting-words .claimed; backed = flag; steps = setting-words .steps }))
         (unclaimed (z .N) (γ .shape .lo) σ (rowOf σ′ t) (good .memory .threads t .holding) (setting-words .claimed)
         (λ l. good .memory .threads t .has-held (omega arith)) (λ x. omega (arith, ten)) (λ x. omega (arith, ten)))
         (setting-words .claimed)

@@ -28,7 +28,7 @@ use Rattle.model.specs.Invariant.{Invariant}
 use Rattle.model.specs.Moves.{withProducer, linkLast}
 use Rattle.model.specs.Walking.{producer-clause, pass-on, link-last}
 use Rattle.model.specs.Enqueues.{finish-keeps}
-use Rattle.memory.specs.Chain.{withPlace}
+use Rattle.memory.specs.Chain.{withPlace, with-place-other}
 use Rattle.memory.specs.Memory.{Blank, rowOf, Memory, claimed-is, held-is}
 use Rattle.memory.specs.LastRecord.{held-last, held-before-last}
 use Rattle.memory.specs.OtherThreads.{Untouched, OthersKept, others-kept}
@@ -106,7 +106,8 @@ module _ (z : Sizes) (σ : Reader) (γ : Ghost) (good : Good z σ γ) (t : ℕ) 
           (sym (consumer-same σ σ′ c (λ k. same (consumer k) refl) places not-linked (m .cursor) (m .found))))
           formed
           grown
-          (places-stay z t σ (γ .shape) (γ .shape) giveWrites in-sort (λ y. same (place y) refl) (omega (arith, same tail refl)) (omega arith) (omega arith))
+          (places-stay z t σ γ (later γ H) giveWrites in-sort (λ y. same (place y) refl) (omega (arith, same tail refl)) (omega arith) (omega arith)
+          (λ l. record { same-head = same headPosition refl; same-first = refl; same-records = λ k h. refl; was-gone = λ p e. e }))
         where
           σ′ : Reader
           σ′ = after σ giveWrites
@@ -225,6 +226,14 @@ module _ (z : Sizes) (σ : Reader) (γ : Ghost) (good : Good z σ γ) (t : ℕ) 
             shifts-on = omega arith;
             last-grows = omega arith;
             had-place = λ y l b. old-place y b (ℕ-discrete y c);
+            held-places = λ u n. place-same σ σ′ c places (σ (held u)) (not-held u);
+            behind =
+                λ l. record {
+                  same-head = same headPosition refl;
+                  same-first = refl;
+                  same-records = λ k b. with-place-other (γ .shape .at) (suc (γ .shape .hi)) c k (λ e. omega arith);
+                  was-gone = λ p e. e;
+                };
           })
         where
           self : eqb c c ≡ true
@@ -273,7 +282,7 @@ module _ (z : Sizes) (σ : Reader) (γ : Ghost) (good : Good z σ γ) (t : ℕ) 
     held : σ′ (producer t 4) ≡ σ (producer t 4)
     claimed : σ′ (producer t 5) ≡ 0
     backed : σ′ (producer t 6) ≡ σ (producer t 6)
-    spare : σ′ (producer t 7) ≡ σ (producer t 7)
+    steps : σ′ (producer t 7) ≡ σ (producer t 7)
 
   onward-in-range : (σ′ : Reader) → σ (phase t) ≡ 5 → Onward σ′ → producerInRange z σ′ t ≡ true
   onward-in-range σ′ e w =
@@ -286,7 +295,7 @@ module _ (z : Sizes) (σ : Reader) (γ : Ghost) (good : Good z σ γ) (t : ℕ) 
         held = rw (w .held) (old .held);
         claimed = w .claimed;
         backed = rw (w .backed) (old .backed);
-        spare = w .spare ∙ old .spare;
+        steps = rw (w .steps) (old .steps);
       })
 
   onward-lets-go : (σ′ : Reader) → Onward σ′ → LetGo σ σ′ t
@@ -302,7 +311,7 @@ module _ (z : Sizes) (σ : Reader) (γ : Ghost) (good : Good z σ γ) (t : ℕ) 
   link-claimed-fine e =
       by-linked 5 (λ ws. goes (ws ++ onward)) e (omega arith) (inl refl)
       (λ h c q w none fits.
-      let now : Onward (linkedThen h c onward) = record { in-phase = rw self refl; call = refl; position = refl; held = refl; claimed = rw self refl; backed = refl; spare = refl } in
+      let now : Onward (linkedThen h c onward) = record { in-phase = rw self refl; call = refl; position = refl; held = refl; claimed = rw self refl; backed = refl; steps = refl } in
       links z σ γ good t a-producer h c q w onward own going tt _ (γ .history) (good .formed) refl none fits
       (onward-in-range (linkedThen h c onward) e now)
       (onward-lets-go (linkedThen h c onward) now)
@@ -310,7 +319,7 @@ module _ (z : Sizes) (σ : Reader) (γ : Ghost) (good : Good z σ γ) (t : ℕ) 
       (pass-on (z .B) (linkLast (view σ γ)) (link-last (z .B) (view σ γ) (good .model)) t _ _ _ _ seen
       (rw q (omega (arith, held-last (good .memory) t h q none .1)))))
       (λ h c q w below.
-      let now : Onward (after σ (used c := 0 ∷ onward)) = record { in-phase = rw self refl; call = refl; position = refl; held = refl; claimed = rw self refl; backed = refl; spare = refl } in
+      let now : Onward (after σ (used c := 0 ∷ onward)) = record { in-phase = rw self refl; call = refl; position = refl; held = refl; claimed = rw self refl; backed = refl; steps = refl } in
       gives z σ γ good t a-producer h c q w onward own going tt _ (γ .history) (good .formed) refl
       (onward-in-range (after σ (used c := 0 ∷ onward)) e now)
       (onward-lets-go (after σ (used c := 0 ∷ onward)) now)

@@ -14,7 +14,7 @@ use Rattle.history.specs.Event.{History}
 use Rattle.history.specs.Form.{wellFormed}
 use Rattle.history.specs.Linearization.{Item}
 use Rattle.rules.specs.Sizes.{Sizes}
-use Rattle.rules.specs.Cell.{Reader, Write, tail, producer, tailRecord, headRecord, cursorRecord, foundRecord, phase, call, value, position, held}
+use Rattle.rules.specs.Cell.{Reader, Write, tail, producer, tailRecord, headRecord, headPosition, cursorRecord, foundRecord, phase, call, value, position, held}
 use Rattle.rules.specs.Update.{after}
 use Rattle.rules.specs.Range.{producerSorts, producerInRange}
 use Rattle.rules.specs.Rule.{Reply}
@@ -22,14 +22,14 @@ use Rattle.rules.specs.Request.{step}
 use Rattle.rules.specs.Play.{replyEvents}
 use Rattle.rules.specs.Readback.{WriteThere}
 use Rattle.rules.specs.InRange.{InSort, writes-keep-range}
-use Rattle.model.specs.State.{Entry, Producer, State, override}
+use Rattle.model.specs.State.{Entry, gone, Producer, State, override}
 use Rattle.model.specs.Invariant.{Invariant}
 use Rattle.model.specs.Moves.{withProducer}
 use Rattle.memory.specs.Memory.{ChainShape, Held, ThreadOk, rowOf}
 use Rattle.memory.specs.OtherThreads.{OthersKept, others-kept}
 use Rattle.memory.specs.Light.{Light, producer-keeps}
 use Rattle.simulation.specs.View.{Ghost, placesOf, placeOf, producerAt, producerOf, producersOf, view, Agrees, cellOf}
-use Rattle.simulation.specs.Good.{Good, Goes, Tells, places-stay}
+use Rattle.simulation.specs.Good.{Good, Goes, PlacesKept, Tells, places-stay}
 use Rattle.simulation.specs.Told.{ToEnqueue, enqueue-tells}
 use Rattle.simulation.specs.Rows.{ProducerWords, producer-row-has}
 
@@ -54,10 +54,6 @@ withProducers s f =
 -- the invariant, with the producers seen another way
 pub as-seen : {B : ℕ} {s : State} {f : ℕ → Producer} → Invariant B s → s .producer ≡ f → Invariant B (withProducers s f)
 as-seen {B} {s} i e = subst (λ (g : ℕ → Producer). Invariant B (withProducers s g)) e i
-
--- The record that another producer holds has the place that it had.
-abbrev pub PlacesKept : ℕ → Reader → Reader → Type 0
-PlacesKept t σ σ′ = (u : ℕ) → (t ≡ u → ⊥) → placeOf (placesOf σ′) (rowOf σ u 4) ≡ placeOf (placesOf σ) (rowOf σ u 4)
 
 -- The producers after a call of thread t: only t's is another one.
 pub producers-after : (t : ℕ) (σ σ′ : Reader) → OthersKept t σ σ′ → PlacesKept t σ σ′ → (x : Producer) → producersOf σ′ t ≡ x
@@ -120,7 +116,7 @@ module _ (z : Sizes) (σ : Reader) (γ : Ghost) (good : Good z σ γ) (t : ℕ) 
       All (InSort z t) ws
       → All (WriteThere z) ws
       → Light σ (after σ ws)
-      → (after σ ws headRecord ≡ σ headRecord) × (after σ ws cursorRecord ≡ σ cursorRecord) × (after σ ws foundRecord ≡ σ foundRecord)
+      → (after σ ws headRecord ≡ σ headRecord) × (after σ ws cursorRecord ≡ σ cursorRecord) × (after σ ws foundRecord ≡ σ foundRecord) × (after σ ws headPosition ≡ σ headPosition)
       → producerInRange z (after σ ws) t ≡ true
       → ThreadOk (z .N) (γ .shape .lo) σ (rowOf (after σ ws) t)
       → rowOf (after σ ws) t 5 ≡ 0
@@ -130,8 +126,9 @@ module _ (z : Sizes) (σ : Reader) (γ : Ghost) (good : Good z σ γ) (t : ℕ) 
       → wellFormed h ≡ true
       → h ≡ replyEvents (step t) (γ .history) r ++ γ .history
       → (σ tail ≤ after σ ws tail) × (γ .shape .tp ≤ tp)
+      → ((p : ℕ) → entry p ≡ gone → γ .entry p ≡ gone)
       → Goes z σ γ (step t) r ws
-  producer-goes r of ws tp entry owner content h in-sort there light fixed in-row own claims-none tail-at agrees model formed grown grows =
+  producer-goes r of ws tp entry owner content h in-sort there light fixed in-row own claims-none tail-at agrees model formed grown grows was-gone =
       record {
         there = there;
         next = record { shape = record { lo = γ .shape .lo; tp = tp; hi = γ .shape .hi; at = γ .shape .at }; entry = entry; owner = owner; content = content; history = h };
@@ -148,7 +145,9 @@ module _ (z : Sizes) (σ : Reader) (γ : Ghost) (good : Good z σ γ) (t : ℕ) 
               pending = tells .pending;
             };
         grown = tells .grown;
-        moved = places-stay z t σ (γ .shape) _ ws in-sort (λ x. light .parts x 0) (grows .0) (grows .1) (omega arith);
+        moved =
+            places-stay z t σ γ _ ws in-sort (λ x. light .parts x 0) (grows .0) (grows .1) (omega arith)
+            (λ l. record { same-head = fixed .3; same-first = refl; same-records = λ k h. refl; was-gone = was-gone });
       }
     where
       tells : Tells σ (after σ ws) (step t) r (γ .history) h

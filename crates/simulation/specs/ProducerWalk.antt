@@ -44,7 +44,7 @@ module _ (z : Sizes) (σ : Reader) (γ : Ghost) (good : Good z σ γ) (t : ℕ) 
     held : σ′ (producer t 4) ≡ x
     claimed : σ′ (producer t 5) ≡ σ (producer t 5)
     backed : σ′ (producer t 6) ≡ f
-    spare : σ′ (producer t 7) ≡ σ (producer t 7)
+    steps : σ′ (producer t 7) ≡ σ (producer t 7)
 
   -- A step in such a phase p that goes on to such a phase p′.
   walks : (p p′ x f : ℕ) (ws : List Write) (y : Producer) → σ (phase t) ≡ p
@@ -58,7 +58,7 @@ module _ (z : Sizes) (σ : Reader) (γ : Ghost) (good : Good z σ γ) (t : ℕ) 
       producer-own z σ γ good t a-producer going tt ws y (γ .history) own
       (producer-row-of z (rowOf σ′ t) p′ (row .in-phase) (omega arith)
       (subst⁻¹ (ProducerWords z (rowOf σ′ t)) sorts′
-      (record { call = rw (row .call) (old .call); value = tt; position = rw (row .position) (old .position); held = rw (row .held) fits; claimed = none; backed = rw (row .backed) flag; spare = row .spare ∙ old .spare })))
+      (record { call = rw (row .call) (old .call); value = tt; position = rw (row .position) (old .position); held = rw (row .held) fits; claimed = none; backed = rw (row .backed) flag; steps = rw (row .steps) (old .steps) })))
       (unclaimed (z .N) (γ .shape .lo) σ (rowOf σ′ t) (rw (row .held) holding) none
       (λ h. rw (row .held) (some (omega (arith, row .in-phase))))
       (λ q. not-five (sym (row .in-phase) ∙ q))
@@ -103,7 +103,7 @@ module _ (z : Sizes) (σ : Reader) (γ : Ghost) (good : Good z σ γ) (t : ℕ) 
   phase-alone p p′ y e past sorts sorts′ l not-five seen model =
       walks p p′ (σ (held t)) (σ (producer t 6)) (phase t := p′ ∷ []) y e sorts sorts′ l not-five
       ((refl, omega arith), tt)
-      (record { in-phase = rw self refl; call = refl; value = refl; position = refl; held = refl; claimed = refl; backed = refl; spare = refl })
+      (record { in-phase = rw self refl; call = refl; value = refl; position = refl; held = refl; claimed = refl; backed = refl; steps = refl })
       (held-most p e sorts)
       (flag-most p e sorts)
       (good .memory .threads t .holding)
@@ -170,7 +170,7 @@ module _ (z : Sizes) (σ : Reader) (γ : Ghost) (good : Good z σ γ) (t : ℕ) 
       let linked : σ (used r) ≡ 2 = ap (λ (x : ℕ). σ (used x)) is ∙ m .chain .linked (γ .shape .tp) low high in
       chooses 2 r (σ (producer t 6)) (held t := suc r ∷ phase t := choose z σ t r ∷ []) e refl
       ((refl, omega arith), ((refl, omega arith), tt))
-      (record { in-phase = rw self refl; call = refl; value = refl; position = refl; held = rw self refl; claimed = refl; backed = refl; spare = refl })
+      (record { in-phase = rw self refl; call = refl; value = refl; position = refl; held = rw self refl; claimed = refl; backed = refl; steps = refl })
       (omega (arith, has-sort z record-number (σ tailRecord) (good .range .words tailRecord (omega arith)) .1))
       (flag-most 2 e refl)
       (inl linked)
@@ -216,7 +216,7 @@ module _ (z : Sizes) (σ : Reader) (γ : Ghost) (good : Good z σ γ) (t : ℕ) 
           let same : p ≡ γ .shape .at j = omega arith in
           chooses 7 p 1 (held t := suc p ∷ backed t := 1 ∷ phase t := choose z σ t p ∷ []) e refl
           ((refl, omega arith), ((refl, omega arith), ((refl, omega arith), tt)))
-          (record { in-phase = rw self refl; call = refl; value = refl; position = refl; held = rw self refl; claimed = refl; backed = rw self refl; spare = refl })
+          (record { in-phase = rw self refl; call = refl; value = refl; position = refl; held = rw self refl; claimed = refl; backed = rw self refl; steps = refl })
           (omega (arith, m .chain .fits j (omega arith) (omega arith)))
           (omega arith)
           (inl (ap (λ (x : ℕ). σ (used x)) same ∙ m .chain .linked j (omega arith) (omega arith)))
@@ -258,8 +258,8 @@ module _ (z : Sizes) (σ : Reader) (γ : Ghost) (good : Good z σ γ) (t : ℕ) 
         in-sort
         (omega arith, ((a-producer .0, a-producer .1, omega arith), tt))
         (record { parts = λ x j. refl; entries = λ x u i j. refl })
-        (refl, refl, refl)
-        (producer-row-of z (rowOf σ′ t) 2 two (omega arith) (record { call = old .call; value = old .value; position = old .position; held = old .held; claimed = old .claimed; backed = old .backed; spare = old .spare }))
+        (refl, refl, refl, refl)
+        (producer-row-of z (rowOf σ′ t) 2 two (omega arith) (record { call = old .call; value = old .value; position = old .position; held = old .held; claimed = old .claimed; backed = old .backed; steps = old .steps }))
         (unclaimed (z .N) (γ .shape .lo) σ (rowOf σ′ t) (good .memory .threads t .holding) none
         (λ l. absurd (omega (arith, two))) (λ x. omega (arith, two)) (λ x. omega (arith, two)))
         none
@@ -270,6 +270,7 @@ module _ (z : Sizes) (σ : Reader) (γ : Ghost) (good : Good z σ γ) (t : ℕ) 
         (good .formed)
         refl
         (omega arith, omega (arith, tail-placed))
+        (λ p x. x)
       where
         σ′ : Reader
         σ′ = after σ (shiftWrites n)

@@ -35,7 +35,7 @@ module _ (z : Sizes) (σ : Reader) (γ : Ghost) (good : Good z σ γ) (t : ℕ) 
       → Invariant (z .B) (view (after σ ws) γ′)
       → wellFormed (γ′ .history) ≡ true
       → γ′ .history ≡ replyEvents q (γ .history) r ++ γ .history
-      → Moved (threadOf q) σ (after σ ws) (γ .shape) (γ′ .shape)
+      → Moved (threadOf q) σ (after σ ws) γ γ′
       → Goes z σ γ q r ws
   record-goes q r of ws γ′ in-sort there in-row memory agrees model formed grown moved =
       record {

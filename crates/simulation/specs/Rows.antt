@@ -79,7 +79,7 @@ pub record ProducerWords (z : Sizes) (row : ℕ → ℕ) (ss : List Sort) : Type
   pub held : OfSort z (getD ss 3 any) (row 4)
   pub claimed : OfSort z (getD ss 4 any) (row 5)
   pub backed : OfSort z (getD ss 5 any) (row 6)
-  pub spare : OfSort z (getD ss 6 any) (row 7)
+  pub steps : OfSort z (getD ss 6 any) (row 7)
 
 -- Words 1 to 7 of the consumer.
 pub record ConsumerWords (z : Sizes) (row : ℕ → ℕ) (ss : List Sort) : Type 0 where
@@ -89,7 +89,7 @@ pub record ConsumerWords (z : Sizes) (row : ℕ → ℕ) (ss : List Sort) : Type
   pub found-position : OfSort z (getD ss 3 any) (row 4)
   pub item-number : OfSort z (getD ss 4 any) (row 5)
   pub item-value : OfSort z (getD ss 5 any) (row 6)
-  pub spare : OfSort z (getD ss 6 any) (row 7)
+  pub steps : OfSort z (getD ss 6 any) (row 7)
 
 -- no phase has more than seven words
 fewWords : List (List Sort) → ℕ → Bool
@@ -125,23 +125,23 @@ module _ (z : Sizes) (row : ℕ → ℕ) where
   pub producer-row-has : threadInRange z lastProducerPhase producerSorts row ≡ true → (p : ℕ) → row 0 ≡ p → ProducerWords z row (getD producerSorts p [])
   producer-row-has e p q =
       let w = row-has z lastProducerPhase producerSorts row e p q in
-      record { call = w 0; value = w 1; position = w 2; held = w 3; claimed = w 4; backed = w 5; spare = w 6 }
+      record { call = w 0; value = w 1; position = w 2; held = w 3; claimed = w 4; backed = w 5; steps = w 6 }
 
   pub producer-row-of : (p : ℕ) → row 0 ≡ p → p ≤ lastProducerPhase → ProducerWords z row (getD producerSorts p []) → threadInRange z lastProducerPhase producerSorts row ≡ true
   unfolding fewWords
   producer-row-of p q l w =
       row-of z lastProducerPhase producerSorts row refl p q l
       (seven (λ j. OfSort z (getD (getD producerSorts p []) j any) (row (suc j)))
-      (w .call) (w .value) (w .position) (w .held) (w .claimed) (w .backed) (w .spare))
+      (w .call) (w .value) (w .position) (w .held) (w .claimed) (w .backed) (w .steps))
 
   pub consumer-row-has : threadInRange z lastConsumerPhase consumerSorts row ≡ true → (p : ℕ) → row 0 ≡ p → ConsumerWords z row (getD consumerSorts p [])
   consumer-row-has e p q =
       let w = row-has z lastConsumerPhase consumerSorts row e p q in
-      record { cursor-record = w 0; cursor-position = w 1; found-record = w 2; found-position = w 3; item-number = w 4; item-value = w 5; spare = w 6 }
+      record { cursor-record = w 0; cursor-position = w 1; found-record = w 2; found-position = w 3; item-number = w 4; item-value = w 5; steps = w 6 }
 
   pub consumer-row-of : (p : ℕ) → row 0 ≡ p → p ≤ lastConsumerPhase → ConsumerWords z row (getD consumerSorts p []) → threadInRange z lastConsumerPhase consumerSorts row ≡ true
   unfolding fewWords
   consumer-row-of p q l w =
       row-of z lastConsumerPhase consumerSorts row refl p q l
       (seven (λ j. OfSort z (getD (getD consumerSorts p []) j any) (row (suc j)))
-      (w .cursor-record) (w .cursor-position) (w .found-record) (w .found-position) (w .item-number) (w .item-value) (w .spare))
+      (w .cursor-record) (w .cursor-position) (w .found-record) (w .found-position) (w .item-number) (w .item-value) (w .steps))

@@ -45,7 +45,7 @@ module _ (z : Sizes) (σ : Reader) (γ : Ghost) (good : Good z σ γ) where
       record-goes z σ γ good t a (startEnqueue t v) (started (suc (σ starts))) tt (startWrites t v) (later γ (enqueueStarted t (suc (σ starts)) v ∷ γ .history)) in-sort
       (omega arith, ((a .0, a .1, omega arith), ((a .0, a .1, omega arith), ((a .0, a .1, omega arith), tt))))
       (producer-row-of z (rowOf σ′ t) 1 one (omega arith)
-      (record { call = rw self room; value = tt; position = old .position; held = old .held; claimed = old .claimed; backed = old .backed; spare = old .spare }))
+      (record { call = rw self room; value = tt; position = old .position; held = old .held; claimed = old .claimed; backed = old .backed; steps = omega (arith, old .steps) }))
       (producer-keeps z σ σ′ (γ .shape) m (record { parts = λ x j. refl; entries = λ x u i j. refl }) t (γ .shape .tp) a (others-kept z t σ (startWrites t v) in-sort)
       (unclaimed (z .N) (γ .shape .lo) σ (rowOf σ′ t) (m .threads t .holding) (old .claimed)
       (λ l. absurd (omega (arith, one))) (λ x. omega (arith, one)) (λ x. omega (arith, one)))
@@ -62,7 +62,8 @@ module _ (z : Sizes) (σ : Reader) (γ : Ghost) (good : Good z σ γ) where
       (enqueue-may-start (γ .history) (good .formed) t (suc (σ starts)) v (good .model .calls .of-producers t ∙ ap callOf (seen-at z σ γ good t a 0 e))
       (λ b. omega (arith, good .model .past .numbered (suc (σ starts)) b .1)))
       refl
-      (places-stay z t σ (γ .shape) (γ .shape) (startWrites t v) in-sort (λ x. refl) (omega arith) (omega arith) (omega arith))
+      (places-stay z t σ γ _ (startWrites t v) in-sort (λ x. refl) (omega arith) (omega arith) (omega arith)
+      (λ l. record { same-head = refl; same-first = refl; same-records = λ k h. refl; was-gone = λ p e. e }))
     where
       m : Memory z σ (γ .shape)
       m = good .memory
@@ -87,14 +88,14 @@ module _ (z : Sizes) (σ : Reader) (γ : Ghost) (good : Good z σ γ) where
   unfolding startingEnqueue
   start-enqueue-fine t v =
       by-cond (Fine z σ γ (startEnqueue t v)) (eqb t 0 || ltb (z .P) t) _ _
-      (λ b. ((λ q. omega arith), (λ q. omega arith)))
+      (λ b. omega arith)
       (λ b.
       let there = neither (eqb t 0) (ltb (z .P) t) b in
       by-cond (Fine z σ γ (startEnqueue t v)) (not (eqb (σ (phase t)) 0)) _ _
-      (λ c. ((λ q. omega arith), (λ q. omega arith)))
+      (λ c. omega arith)
       (λ c.
       by-cond (Fine z σ γ (startEnqueue t v)) (eqb (σ starts) (z .M)) _ _
-      (λ d. ((λ q. omega arith), (λ q. omega arith)))
+      (λ d. omega arith)
       (λ d.
       let n : σ starts ≢ z .M = eqb-false (σ starts) (z .M) d in
       let most : σ starts ≤ z .M = has-sort z number (σ starts) (good .range .words starts (omega arith)) in
@@ -106,12 +107,12 @@ module _ (z : Sizes) (σ : Reader) (γ : Ghost) (good : Good z σ γ) where
   unfolding startingDequeue
   start-dequeue-fine =
       by-cond (Fine z σ γ startDequeue) (not (eqb (σ consumerPhase) 0)) _ _
-      (λ b. ((λ q. omega arith), (λ q. omega arith)))
+      (λ b. refl)
       (λ b.
       let e : σ consumerPhase ≡ 0 = eqb-true (σ consumerPhase) 0 (not-false (eqb (σ consumerPhase) 0) b) in
       let words = consumer-words z σ γ good 0 e in
       consumer-own z σ γ good (consumerPhase := 1 ∷ []) ((refl, omega arith), tt) startDequeue refl ok State.front (dequeueStarted ∷ γ .history)
-      (consumer-row-of z (λ k. after σ (consumerPhase := 1 ∷ []) (consumer k)) 1 refl (omega arith) (record { cursor-record = words .cursor-record; cursor-position = words .cursor-position; found-record = words .found-record; found-position = words .found-position; item-number = words .item-number; item-value = words .item-value; spare = words .spare }))
+      (consumer-row-of z (λ k. after σ (consumerPhase := 1 ∷ []) (consumer k)) 1 refl (omega arith) (record { cursor-record = words .cursor-record; cursor-position = words .cursor-position; found-record = words .found-record; found-position = words .found-position; item-number = words .item-number; item-value = words .item-value; steps = omega (arith, words .steps) }))
       (good .memory .cursor, good .memory .found)
       refl
       (begin-dequeue (z .B) (view σ γ) (good .model))

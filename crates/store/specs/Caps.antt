@@ -3,7 +3,7 @@ use mathlib.Core.List.{List, [], _∷_}
 use Prim.Native.Nat.{ℕ}
 use lib.ListN.{getD}
 use Rattle.history.specs.Event.{mostProducers}
-use Rattle.rules.specs.Sizes.{Sizes, mostEntries, mostRecords, mostStarts, mostPlace, contentWords, recordWords}
+use Rattle.rules.specs.Sizes.{Sizes, mostEntries, mostRecords, mostStarts, mostPlace, mostSteps, contentWords, recordWords}
 use Rattle.rules.specs.Cell.{Cell, content, lastClaimed, spare, consumer, producer, part, entry}
 use Rattle.rules.specs.Range.{Sort, unused, exactly, number, link, record-number, most, any, lastConsumerPhase, lastProducerPhase}
 
@@ -27,10 +27,10 @@ cap z any = mostWord
 
 -- words 1 to 7 of a producer and of the consumer, in any phase
 abbrev pub producerCaps : Sizes → List ℕ
-producerCaps z = z .M ∷ mostWord ∷ z .M ∷ z .N ∷ z .N ∷ 1 ∷ 0 ∷ []
+producerCaps z = z .M ∷ mostWord ∷ z .M ∷ z .N ∷ z .N ∷ 1 ∷ mostSteps ∷ []
 
 abbrev pub consumerCaps : Sizes → List ℕ
-consumerCaps z = z .N ∷ z .M ∷ z .N ∷ z .M ∷ z .M ∷ mostWord ∷ 0 ∷ []
+consumerCaps z = z .N ∷ z .M ∷ z .N ∷ z .M ∷ z .M ∷ mostWord ∷ mostSteps ∷ []
 
 abbrev pub contentCaps : Sizes → List ℕ
 contentCaps z = z .B ∷ z .N ∷ z .P ∷ z .M ∷ contentWords ∷ mostWord ∷ z .M ∷ z .N ∷ z .N ∷ z .M ∷ z .M ∷ []

@@ -1,16 +1,16 @@
 -- Laws of the accessors: a cell that is there is one word, a word in range is at most its cap, and zeros written one by one.
-use mathlib.Core.Path.{_≡_, ap, sym, _∙_, subst}
+use mathlib.Core.Path.{_≡_, refl, ap, sym, _∙_, subst}
 use mathlib.Core.Bool.{true}
-use mathlib.Core.List.{List, [], _∷_}
+use mathlib.Core.List.{List, [], _∷_, _++_}
 use Prim.Native.Nat.{ℕ, zero, suc, _+_, _*_, _≤_, _<_}
 use native.Mathlib.Nat.{mul-le-mul-left, mul-le-mul-right}
 use native.Mathlib.Omega.{arith}
 use lib.Dec.{leb}
 use lib.ListN.{length, getD, set, replicate}
 use lib.Seq.{sets}
-use borrow.Author.Tests.{leb-true, eqb-true}
-use Rattle.rules.specs.Sizes.{Sizes, recordWords, firstRecord, mostEntries, mostRecords, mostPlace}
-use Rattle.rules.specs.Cell.{Cell, content, lastClaimed, spare, consumer, producer, part, entry, address, reader}
+use borrow.Author.Tests.{ne-eqb, leb-true, eqb-true}
+use Rattle.rules.specs.Sizes.{Sizes, contentWords, threadWords, recordWords, firstRecord, mostEntries, mostRecords, mostPlace}
+use Rattle.rules.specs.Cell.{Cell, content, lastClaimed, spare, consumer, producer, part, entry, stepCount, address, reader, Write, write, writes}
 use Rattle.rules.specs.Update.{both}
 use Rattle.rules.specs.Range.{Sort, unused, exactly, number, link, record-number, most, any, ofSort, ofSorts, threadInRange, placedSorts, consumerSorts, producerSorts, contentSorts, lastClaimedSort, lastConsumerPhase, lastProducerPhase}
 use Rattle.rules.specs.Address.{There, there-is}
@@ -140,6 +140,21 @@ pub reads-word : (z : Sizes) (m : List ℕ) (c : Cell) → Admitted z m → Ther
 reads-word z m c a h at e w =
     let i : reader z m c ≡ getD m at 0 = word-at z m c h ∙ ap (λ (x : ℕ). getD m x 0) (sym e) in
     record { is = i; most = subst (λ (x : ℕ). x ≤ capOf z c) i (in-range-most z m a c h (rw i w)) }
+
+-- where a thread's step count is
+pub step-count-there : (z : Sizes) (t : ℕ) → t ≤ z .P → There z (stepCount t)
+step-count-there z zero h = omega arith
+step-count-there z (suc t) h = rw (ne-eqb (suc t) 0 (λ e. omega arith)) (omega arith)
+
+pub step-count-at : (z : Sizes) (t : ℕ) → contentWords + threadWords * t + 7 ≡ address z (stepCount t)
+step-count-at z zero = refl
+step-count-at z (suc t) = rw (ne-eqb (suc t) 0 (λ e. omega arith)) refl
+
+-- one list of writes, then another
+pub writes-then : (z : Sizes) (m : List ℕ) (ws vs : List Write) → writes z m (ws ++ vs) ≡ writes z (writes z m ws) vs
+unfolding writes
+writes-then z m [] vs = refl
+writes-then z m (w ∷ ws) vs = writes-then z (write z m w) ws vs
 
 -- zeros written one by one
 pub clear-more : (n : ℕ) (l : List ℕ) (at : ℕ) → set (sets l at (replicate n 0)) (at + n) 0 ≡ sets l at (replicate (suc n) 0)

@@ -6,7 +6,7 @@ ghost use lib.ListN.{length, set, replicate};
 ghost use lib.Seq.{sets};
 ghost use Rattle.history.specs.Event.{mostProducers};
 ghost use Rattle.rules.specs.Sizes.{firstRecord, recordWords, storeWords, mostEntries, mostRecords, mostPlace, mostWords};
-ghost use Rattle.rules.specs.Cell.{reader, place, used, write, _:=_, content, lastClaimed, consumer, producer, part, entry, headRecord, headPosition, cursorRecord, cursorPosition, foundRecord, foundPosition, clearConsumer, clearProducer, wipe};
+ghost use Rattle.rules.specs.Cell.{reader, place, used, write, _:=_, content, lastClaimed, consumer, producer, part, entry, headRecord, headPosition, cursorRecord, cursorPosition, foundRecord, foundPosition, stepCount, clearConsumer, clearProducer, wipe};
 ghost use Rattle.rules.specs.Address.{There};
 ghost use Rattle.store.specs.Shape.{sizes};
 ghost use Rattle.store.specs.Caps.{mostRecordWords};
@@ -37,6 +37,12 @@ pub enum Reply {
     Ended,
     Empty,
     Item(u32, u32),
+}
+
+// A reply with the number of accepted steps of its call so far.
+pub struct Counted {
+    pub reply: Reply,
+    pub steps: u32,
 }
 
 // Words 6 to 10 of the contents: the queue's two ends, and the enqueue starts.
@@ -262,6 +268,25 @@ pub fn read_producer(s: &[u32], z: Shape, t: u32) -> Producer
         claimed: producer_word(s, z, t, word::CLAIMED),
         backed: producer_word(s, z, t, word::BACKED),
     }
+}
+
+// The accepted steps of the call that thread t has under way; the consumer is thread 0.
+pub fn step_count(s: &[u32], z: Shape, t: u32) -> u32
+    requires { ⌜ Admitted (sizes z) (now s) ⌝ }
+    requires { ⌜ t ≤ z .producers ⌝ }
+    ensures { λ k. ⌜ reader (sizes z) (now (s .entry)) (stepCount t) ≡ k ⌝ }
+{
+    let at = size::CONTENT_WORDS + size::THREAD_WORDS * t + word::STEPS;
+    word_at(s, z, at)
+}
+
+pub fn put_step_count(s: &mut [u32], z: Shape, t: u32, v: u32)
+    requires { ⌜ Room (sizes z) (now s) ⌝ }
+    requires { ⌜ t ≤ z .producers ⌝ }
+    ensures { λ _. ⌜ now (s .exit) ≡ write (sizes z) (now (s .entry)) (stepCount t := v) ⌝ }
+{
+    let at = size::CONTENT_WORDS + size::THREAD_WORDS * t + word::STEPS;
+    put_word(s, z, at, v);
 }
 
 // Word j of record r, its entries' words included.

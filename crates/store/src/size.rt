@@ -12,6 +12,9 @@ pub const MOST_STARTS: u32 = 1000000;
 // The largest place that a record may have.
 pub const MOST_PLACE: u32 = 500002;
 
+// The most accepted steps of a call that a thread's word can hold (document 02, U3).
+pub const MOST_STEPS: u32 = 100000000;
+
 // The words of the contents and of a thread. Every thread's words begin after the contents: the consumer's first.
 pub const CONTENT_WORDS: u32 = 16;
 

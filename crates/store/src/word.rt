@@ -27,8 +27,10 @@ pub const STARTS: u32 = 10;
 // Word 11, the record claimed last.
 pub const LAST_CLAIMED: u32 = 11;
 
-// A thread's phase.
+// A thread's phase, and the accepted steps of its call.
 pub const PHASE: u32 = 0;
+
+pub const STEPS: u32 = 7;
 
 // A producer's words.
 pub const CALL: u32 = 1;

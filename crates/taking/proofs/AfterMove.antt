@@ -4,20 +4,18 @@ use mathlib.Core.Logic.{_⊎_, inl, inr}
 use mathlib.Core.Bool.{Bool, true, false, cond}
 use mathlib.Core.List.{List, [], _∷_, _++_}
 use Prim.Native.Nat.{ℕ, zero, suc, _*_}
-use native.Mathlib.Omega.{arith}
 use lib.Dec.{leb}
-use denote.Enum.Declared.{tagOf}
-use types.Run.{OneOf}
 use Rattle.rules.specs.Sizes.{Sizes}
 use Rattle.rules.specs.Cell.{Reader, reader, Write, write, writes, _:=_, clearConsumer, headRecord, headPosition, next, place, used}
-use Rattle.rules.specs.Rule.{Effect, item, refuse, reply, refused, accepted, going, goes, need, upTo}
+use Rattle.rules.specs.Rule.{Effect, item, refuse, reply, goes, need, upTo}
 use Rattle.rules.specs.Consumer.{moveHead}
 use Rattle.rules.specs.Request.{Result, applied}
 use Rattle.rules.specs.Refusal.{accepted-not-refused}
 use Rattle.store.specs.declared.Reply.{Reply}
-use Rattle.store.specs.declared.Reply.the-variants.{Refused, Ok, Started, Going, Ended, Empty, Item}
-use Rattle.store.specs.Outcome.{response, left}
-use Rattle.store.proofs.Reply.{the-type}
+use Rattle.store.specs.declared.Reply.the-variants.{Refused, Going, Item}
+use Rattle.store.specs.Outcome.{left}
+use Rattle.store.specs.Words.{writes-then}
+use Rattle.store.proofs.Replies.{NotGoing, not-going}
 
 -- The move is refused, or it is made, whatever follows it.
 abbrev Moves : (f : List Write → Effect) → (a b : Effect) → Type 0
@@ -43,30 +41,6 @@ module _ (z : Sizes) (σ : Reader) (h : ℕ) where
       to zero = inl (refl, refl)
       to (suc n) = placed n (σ (place n))
 
--- one list of writes, then another
-writes-then : (z : Sizes) (m : List ℕ) (ws vs : List Write) → writes z m (ws ++ vs) ≡ writes z (writes z m ws) vs
-unfolding writes
-writes-then z m [] vs = refl
-writes-then z m (w ∷ ws) vs = writes-then z (write z m w) ws vs
-
-another : _≡_ {A = ℕ} 0 1 → ⊥
-another e = omega arith
-
--- a reply that means going is Going
-not-another : (r : Reply) → response r ≡ accepted going → OneOf (0 ∷ 1 ∷ 2 ∷ 4 ∷ 5 ∷ 6 ∷ []) (tagOf the-type r) → ⊥
-not-another (Refused n) e k = accepted-not-refused (sym e)
-not-another Ok e k = another cc
-not-another (Started n) e k = another cc
-not-another Going e (inl k) = omega arith
-not-another Going e (inr (inl k)) = omega arith
-not-another Going e (inr (inr (inl k))) = omega arith
-not-another Going e (inr (inr (inr (inl k)))) = omega arith
-not-another Going e (inr (inr (inr (inr (inl k))))) = omega arith
-not-another Going e (inr (inr (inr (inr (inr k))))) = omega arith
-not-another Ended e k = another cc
-not-another Empty e k = another cc
-not-another (Item n v) e k = another cc
-
 module _ (z : Sizes) (m m′ : List ℕ) (h n v : ℕ) where
   -- what phase 8 does once the move is made
   abbrev gives : List Write → Effect
@@ -76,22 +50,22 @@ module _ (z : Sizes) (m m′ : List ℕ) (h n v : ℕ) where
   Known = Moves gives (moveHead z (reader z m) h goes) (moveHead z (reader z m) h gives)
 
   -- The move was refused.
-  pub refused-move : (r : Reply) → left r m′ ≡ applied z m (moveHead z (reader z m) h goes)
-      → OneOf (0 ∷ 1 ∷ 2 ∷ 4 ∷ 5 ∷ 6 ∷ []) (tagOf the-type r) → left (Refused 9) m′ ≡ applied z m (moveHead z (reader z m) h gives)
+  pub refused-move : (r : Reply) → left r m′ ≡ applied 0 z m (moveHead z (reader z m) h goes)
+      → NotGoing r → left (Refused 9) m′ ≡ applied 0 z m (moveHead z (reader z m) h gives)
   unfolding applied
   refused-move r e k = go (moves z (reader z m) h gives)
     where
-      go : Known → left (Refused 9) m′ ≡ applied z m (moveHead z (reader z m) h gives)
+      go : Known → left (Refused 9) m′ ≡ applied 0 z m (moveHead z (reader z m) h gives)
       go (inl (a, b)) = rw b (ap (left (Refused 9)) (ap (λ (x : Result). x .words) (rw a at e)))
-      go (inr (ws, a, b)) = absurd (not-another r (ap (λ (x : Result). x .reply) (rw a at e)) k)
+      go (inr (ws, a, b)) = absurd (not-going r (ap (λ (x : Result). x .reply) (rw a at e)) k)
 
   -- It was made.
-  pub made-move : left Going m′ ≡ applied z m (moveHead z (reader z m) h goes)
-      → left (Item n v) (write z m′ clearConsumer) ≡ applied z m (moveHead z (reader z m) h gives)
+  pub made-move : left Going m′ ≡ applied 0 z m (moveHead z (reader z m) h goes)
+      → left (Item n v) (write z m′ clearConsumer) ≡ applied 0 z m (moveHead z (reader z m) h gives)
   unfolding applied writes
   made-move e = go (moves z (reader z m) h gives)
     where
-      go : Known → left (Item n v) (write z m′ clearConsumer) ≡ applied z m (moveHead z (reader z m) h gives)
+      go : Known → left (Item n v) (write z m′ clearConsumer) ≡ applied 0 z m (moveHead z (reader z m) h gives)
       go (inl (a, b)) = absurd (accepted-not-refused (ap (λ (x : Result). x .reply) (rw a at e)))
       go (inr (ws, a, b)) =
           let left-words : m′ ≡ writes z m ws = ap (λ (x : Result). x .words) (rw a at e) in

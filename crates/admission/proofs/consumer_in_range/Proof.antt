@@ -3,9 +3,9 @@ use mathlib.Core.Path.{refl, _∙_}
 use native.Mathlib.Omega.{arith}
 use borrow.Author.Needs.{needs}
 use denote.Ref.{now}
-use Rattle.rules.specs.Range.{idleSorts, cursorSorts, rescanSorts, foundSorts, itemSorts, retiringSorts}
+use Rattle.rules.specs.Range.{cursorSorts, rescanSorts, foundSorts, itemSorts, retiringSorts}
 use Rattle.store.specs.Shape.{sizes}
-use Rattle.admission.specs.Rows.{consumer-row, consumer-past, idle-phase, cursor-phase}
+use Rattle.admission.specs.Rows.{consumer-row, front-row, consumer-past, cursor-phase}
 use Rattle.admission.proofs.consumer_in_range.Statement.{statement}
 use Rattle.admission.proofs.consumer_in_range.Tie as tie
 
@@ -21,11 +21,14 @@ shared-slice-read-phase c = search needs
 returns : tie.Need-returns
 returns c = consumer-past (sizes (c .before .before .before .args .z)) (now (c .before .before .before .args .s)) (λ j. omega (arith, c .before .shared-slice-known2 .given j)) _ refl (c .if1 .taken)
 
+select-requires : tie.Need-select-requires
+select-requires c κs = search needs
+
 row-at-most-requires : tie.Need-row-at-most-requires
 row-at-most-requires c κs = search needs
 
 returns-2 : tie.Need-returns-2
-returns-2 c = consumer-row (sizes (c .before .before .before .before .before .args .z)) (now (c .before .before .before .before .before .args .s)) (λ j. omega (arith, c .before .before .before .shared-slice-known2 .given j)) _ idleSorts refl (c .before .before .if1 .left) (idle-phase _ (c .before .if2 .taken)) refl refl ∙ c .row-at-most .ensures
+returns-2 c = front-row (sizes (c .before .before .before .before .before .before .args .z)) (now (c .before .before .before .before .before .before .args .s)) (λ j. omega (arith, c .before .before .before .before .shared-slice-known2 .given j)) _ refl (c .before .before .if2 .taken) ∙ rw (c .before .select .ensures) at (c .row-at-most .ensures)
 
 row-at-most-requires-2 : tie.Need-row-at-most-requires-2
 row-at-most-requires-2 c κs = search needs
@@ -65,6 +68,7 @@ consumer-in-range-spec =
     mul-phase
     shared-slice-read-phase
     returns
+    select-requires
     row-at-most-requires
     returns-2
     row-at-most-requires-2

@@ -73,7 +73,7 @@ shared-slice-read-result-4 : tie.Need-shared-slice-read-result-4
 shared-slice-read-result-4 c = search needs
 
 returns : tie.Need-returns
-returns c = rw (and-true (leb (getD (now (c .before .before .before .before .before .before .before .args .s)) (c .before .before .before .before .before .before .before .args .at + 7) 0) 0)) refl
+returns c = rw (and-true (leb (getD (now (c .before .before .before .before .before .before .before .args .s)) (c .before .before .before .before .before .before .before .args .at + 7) 0) (c .before .before .before .before .before .before .before .args .g))) refl
 
 pub row-at-most-spec : {M : Type 1} → statement M
 row-at-most-spec =

@@ -1,5 +1,7 @@
 -- `engine::deliver` meets its contract.
+use mathlib.Core.Path.{_∙_}
 use borrow.Author.Needs.{needs}
+use Rattle.engine.specs.Delivery.{same-code}
 use Rattle.engine.proofs.deliver.Statement.{statement}
 use Rattle.engine.proofs.deliver.Tie as tie
 
@@ -10,7 +12,9 @@ returned-code-requires : tie.Need-returned-code-requires
 returned-code-requires c κs = search needs
 
 returns : tie.Need-returns
-returns c = (c .returned-code .ensures, c .before .store-reply .ensures)
+returns c =
+    let a = c .before .before .before .args in
+    (c .returned-code .ensures ∙ same-code (a .c .steps) (a .c .reply), c .before .store-reply .ensures)
 
 pub deliver-spec : {M : Type 1} → statement M
 deliver-spec = tie.close (tie.spec store-reply-requires returned-code-requires returns)

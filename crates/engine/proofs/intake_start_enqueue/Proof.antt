@@ -18,7 +18,7 @@ returns : tie.Need-returns
 returns c =
     let args = c .before .before .before .before .before .before .before .args in
     let start-enqueue = c .before .before .before .before .start-enqueue in
-    replied-of (start-enqueue .result) (now (args .reply)) (c .deliver .ensures .0) (c .deliver .ensures .1) (start-enqueue .ensures)
+    replied-of (record { reply = start-enqueue .result; steps = 0 }) (now (args .reply)) (c .deliver .ensures .0) (c .deliver .ensures .1) (start-enqueue .ensures)
 
 pub intake-start-enqueue-spec : {M : Type 1} → statement M
 intake-start-enqueue-spec =

@@ -3,7 +3,7 @@ use mathlib.Core.Path.{_∙_}
 use native.Mathlib.Omega.{arith}
 use borrow.Author.Needs.{needs}
 use denote.Ref.{now}
-use Rattle.rules.specs.Request.{step, effect}
+use Rattle.rules.specs.Request.{step}
 use Rattle.admission.specs.Admit.{admitted-by}
 use Rattle.engine.specs.Calls.{call-refused, call-answered, admitted-as}
 use Rattle.engine.proofs.step.Statement.{statement}
@@ -21,22 +21,21 @@ returns c = call-refused (step (c .before .before .before .before .args .t)) (no
 shape-of-requires : tie.Need-shape-of-requires
 shape-of-requires c κs = omega (arith, admitted-by (now (c .before .before .before .before .before .before .args .s)) (c .before .before .before .admit .ensures ∙ c .before .before .if1 .left))
 
-step-thread-requires : tie.Need-step-thread-requires
-step-thread-requires c κs =
+count-step-requires : tie.Need-count-step-requires
+count-step-requires c κs =
     admitted-as (c .shape-of .result) (now (c .before .before .before .before .before .before .before .args .s)) (c .shape-of .ensures) (c .before .before .before .before .admit .ensures ∙ c .before .before .before .if1 .left)
 
 same-length-2 : tie.Need-same-length-2
 same-length-2 c = search needs
 
 returns-2 : tie.Need-returns-2
-unfolding effect
 returns-2 c =
     let args = c .before .before .before .before .before .before .before .before .before .before .args in
     let admit = c .before .before .before .before .before .before .before .admit in
     let if1 = c .before .before .before .before .before .before .if1 in
     let shape-of = c .before .before .before .shape-of in
-    let step-thread = c .before .before .step-thread in
-    call-answered (step (args .t)) (now (args .s)) _ (shape-of .result) (shape-of .ensures) (admit .ensures ∙ if1 .left) (step-thread .ensures)
+    let count-step = c .before .before .count-step in
+    call-answered (step (args .t)) (now (args .s)) _ (shape-of .result) (shape-of .ensures) (admit .ensures ∙ if1 .left) (count-step .ensures)
 
 pub step-spec : {M : Type 1} → statement M
 step-spec =
@@ -46,6 +45,6 @@ step-spec =
     same-length
     returns
     shape-of-requires
-    step-thread-requires
+    count-step-requires
     same-length-2
     returns-2)

@@ -1,103 +1,96 @@
 -- `engine::step_thread` meets its contract.
-use mathlib.Core.Path.{refl}
 use native.Mathlib.Omega.{arith}
 use borrow.Author.Needs.{needs}
-use borrow.Author.Tests.{lt-ltb}
-use Rattle.rules.specs.Request.{applied, stepping, effect}
 use Rattle.engine.specs.Calls.{consumer-idle, consumer-steps, producer-idle, producer-steps, past}
 use Rattle.engine.proofs.step_thread.Statement.{statement}
 use Rattle.engine.proofs.step_thread.Tie as tie
-
-returns : tie.Need-returns
-unfolding effect stepping applied
-returns c = rw (lt-ltb _ _ (c .if1 .taken)) refl
 
 read-consumer-requires : tie.Need-read-consumer-requires
 read-consumer-requires c κs = search needs
 
 read-front-requires : tie.Need-read-front-requires
-read-front-requires c κs = c .before .before .before .before .before .before .before .before .pre
+read-front-requires c κs = c .before .before .before .before .before .before .pre .0
 
 read-tail-requires : tie.Need-read-tail-requires
-read-tail-requires c κs = c .before .before .before .before .before .before .before .before .pre
+read-tail-requires c κs = c .before .before .before .before .before .before .pre .0
 
 scan-on-requires : tie.Need-scan-on-requires
-scan-on-requires c κs = c .before .before .before .before .before .before .before .before .pre
+scan-on-requires c κs = c .before .before .before .before .before .before .pre .0
 
 read-entry-requires : tie.Need-read-entry-requires
-read-entry-requires c κs = c .before .before .before .before .before .before .before .before .pre
+read-entry-requires c κs = c .before .before .before .before .before .before .pre .0
 
 rescan-on-requires : tie.Need-rescan-on-requires
-rescan-on-requires c κs = c .before .before .before .before .before .before .before .before .pre
+rescan-on-requires c κs = c .before .before .before .before .before .before .pre .0
 
 read-item-requires : tie.Need-read-item-requires
-read-item-requires c κs = c .before .before .before .before .before .before .before .before .pre
+read-item-requires c κs = c .before .before .before .before .before .before .pre .0
 
 mark-handled-requires : tie.Need-mark-handled-requires
-mark-handled-requires c κs = c .before .before .before .before .before .before .before .before .pre
+mark-handled-requires c κs = c .before .before .before .before .before .before .pre .0
 
 retire-head-requires : tie.Need-retire-head-requires
-retire-head-requires c κs = c .before .before .before .before .before .before .before .before .pre
+retire-head-requires c κs = c .before .before .before .before .before .before .pre .0
 
 same-length : tie.Need-same-length
 same-length c = search needs
 
-returns-2 : tie.Need-returns-2
-returns-2 c = consumer-steps (c .before .before .before .before .before .read-consumer .ensures) (c .before .before .before .before .before .before .before .before .if1 .left) (c .before .before .before .before .before .before .before .if2 .taken) 0 (c .before .before .before .before .match .keys1) (c .before .before .read-front .ensures)
+returns : tie.Need-returns
+returns c = consumer-steps (c .before .before .before .before .before .read-consumer .ensures) (c .before .before .before .before .before .before .before .before .before .pre .1) (c .before .before .before .before .before .before .before .if1 .taken) 0 (c .before .before .before .before .match .keys1) (c .before .before .read-front .ensures)
 
 same-length-2 : tie.Need-same-length-2
 same-length-2 c = search needs
 
-returns-3 : tie.Need-returns-3
-returns-3 c = consumer-steps (c .before .before .before .before .before .read-consumer .ensures) (c .before .before .before .before .before .before .before .before .if1 .left) (c .before .before .before .before .before .before .before .if2 .taken) 1 (c .before .before .before .before .match .keys2) (c .before .before .read-tail .ensures)
+returns-2 : tie.Need-returns-2
+returns-2 c = consumer-steps (c .before .before .before .before .before .read-consumer .ensures) (c .before .before .before .before .before .before .before .before .before .pre .1) (c .before .before .before .before .before .before .before .if1 .taken) 1 (c .before .before .before .before .match .keys2) (c .before .before .read-tail .ensures)
 
 same-length-3 : tie.Need-same-length-3
 same-length-3 c = search needs
 
-returns-4 : tie.Need-returns-4
-returns-4 c = consumer-steps (c .before .before .before .before .before .read-consumer .ensures) (c .before .before .before .before .before .before .before .before .if1 .left) (c .before .before .before .before .before .before .before .if2 .taken) 2 (c .before .before .before .before .match .keys3) (c .before .before .scan-on .ensures)
+returns-3 : tie.Need-returns-3
+returns-3 c = consumer-steps (c .before .before .before .before .before .read-consumer .ensures) (c .before .before .before .before .before .before .before .before .before .pre .1) (c .before .before .before .before .before .before .before .if1 .taken) 2 (c .before .before .before .before .match .keys3) (c .before .before .scan-on .ensures)
 
 same-length-4 : tie.Need-same-length-4
 same-length-4 c = search needs
 
-returns-5 : tie.Need-returns-5
-returns-5 c = consumer-steps (c .before .before .before .before .before .read-consumer .ensures) (c .before .before .before .before .before .before .before .before .if1 .left) (c .before .before .before .before .before .before .before .if2 .taken) 3 (c .before .before .before .before .match .keys4) (c .before .before .read-entry .ensures)
+returns-4 : tie.Need-returns-4
+returns-4 c = consumer-steps (c .before .before .before .before .before .read-consumer .ensures) (c .before .before .before .before .before .before .before .before .before .pre .1) (c .before .before .before .before .before .before .before .if1 .taken) 3 (c .before .before .before .before .match .keys4) (c .before .before .read-entry .ensures)
 
 same-length-5 : tie.Need-same-length-5
 same-length-5 c = search needs
 
-returns-6 : tie.Need-returns-6
-returns-6 c = consumer-steps (c .before .before .before .before .before .read-consumer .ensures) (c .before .before .before .before .before .before .before .before .if1 .left) (c .before .before .before .before .before .before .before .if2 .taken) 4 (c .before .before .before .before .match .keys5) (c .before .before .rescan-on .ensures)
+returns-5 : tie.Need-returns-5
+returns-5 c = consumer-steps (c .before .before .before .before .before .read-consumer .ensures) (c .before .before .before .before .before .before .before .before .before .pre .1) (c .before .before .before .before .before .before .before .if1 .taken) 4 (c .before .before .before .before .match .keys5) (c .before .before .rescan-on .ensures)
 
 same-length-6 : tie.Need-same-length-6
 same-length-6 c = search needs
 
-returns-7 : tie.Need-returns-7
-returns-7 c = consumer-steps (c .before .before .before .before .before .read-consumer .ensures) (c .before .before .before .before .before .before .before .before .if1 .left) (c .before .before .before .before .before .before .before .if2 .taken) 5 (c .before .before .before .before .match .keys6) (c .before .before .read-item .ensures)
+returns-6 : tie.Need-returns-6
+returns-6 c = consumer-steps (c .before .before .before .before .before .read-consumer .ensures) (c .before .before .before .before .before .before .before .before .before .pre .1) (c .before .before .before .before .before .before .before .if1 .taken) 5 (c .before .before .before .before .match .keys6) (c .before .before .read-item .ensures)
 
 same-length-7 : tie.Need-same-length-7
 same-length-7 c = search needs
 
-returns-8 : tie.Need-returns-8
-returns-8 c = consumer-steps (c .before .before .before .before .before .read-consumer .ensures) (c .before .before .before .before .before .before .before .before .if1 .left) (c .before .before .before .before .before .before .before .if2 .taken) 6 (c .before .before .before .before .match .keys7) (c .before .before .mark-handled .ensures)
+returns-7 : tie.Need-returns-7
+returns-7 c = consumer-steps (c .before .before .before .before .before .read-consumer .ensures) (c .before .before .before .before .before .before .before .before .before .pre .1) (c .before .before .before .before .before .before .before .if1 .taken) 6 (c .before .before .before .before .match .keys7) (c .before .before .mark-handled .ensures)
 
 same-length-8 : tie.Need-same-length-8
 same-length-8 c = search needs
 
-returns-9 : tie.Need-returns-9
-returns-9 c = consumer-steps (c .before .before .before .before .before .read-consumer .ensures) (c .before .before .before .before .before .before .before .before .if1 .left) (c .before .before .before .before .before .before .before .if2 .taken) 7 (c .before .before .before .before .match .keys8) (c .before .before .retire-head .ensures)
+returns-8 : tie.Need-returns-8
+returns-8 c = consumer-steps (c .before .before .before .before .before .read-consumer .ensures) (c .before .before .before .before .before .before .before .before .before .pre .1) (c .before .before .before .before .before .before .before .if1 .taken) 7 (c .before .before .before .before .match .keys8) (c .before .before .retire-head .ensures)
 
 same-length-9 : tie.Need-same-length-9
 same-length-9 c = search needs
 
-returns-10 : tie.Need-returns-10
-returns-10 c = consumer-idle (c .before .read-consumer .ensures) (c .before .before .before .before .if1 .left) (c .before .before .before .if2 .taken) (c .match .keys9)
+returns-9 : tie.Need-returns-9
+returns-9 c = consumer-idle (c .before .read-consumer .ensures) (c .before .before .before .before .before .pre .1) (c .before .before .before .if1 .taken) (c .match .keys9)
 
 same-length-10 : tie.Need-same-length-10
 same-length-10 c = search needs
 
-returns-11 : tie.Need-returns-11
-returns-11 c = absurd (omega (arith, past 8 (c .before .read-consumer .result .phase) (c .match .rest .0) (c .match .rest .1)))
+returns-10 : tie.Need-returns-10
+returns-10 c = absurd (omega (arith, past 8 (c .before .read-consumer .result .phase) (c .match .rest .0) (c .match .rest .1)))
 
 read-producer-requires : tie.Need-read-producer-requires
 read-producer-requires c κs = search needs
@@ -138,86 +131,85 @@ link-ahead-requires c κs = search needs
 same-length-11 : tie.Need-same-length-11
 same-length-11 c = search needs
 
-returns-12 : tie.Need-returns-12
-returns-12 c = producer-steps (c .before .before .before .before .before .read-producer .ensures) (c .before .before .before .before .before .before .before .before .if1 .left) (c .before .before .before .before .before .before .before .if2 .left) 0 (c .before .before .before .before .match2 .keys1) (c .before .before .take-position .ensures)
+returns-11 : tie.Need-returns-11
+returns-11 c = producer-steps (c .before .before .before .before .before .read-producer .ensures) (c .before .before .before .before .before .before .before .before .before .pre .1) (c .before .before .before .before .before .before .before .if1 .left) 0 (c .before .before .before .before .match2 .keys1) (c .before .before .take-position .ensures)
 
 same-length-12 : tie.Need-same-length-12
 same-length-12 c = search needs
 
-returns-13 : tie.Need-returns-13
-returns-13 c = producer-steps (c .before .before .before .before .before .read-producer .ensures) (c .before .before .before .before .before .before .before .before .if1 .left) (c .before .before .before .before .before .before .before .if2 .left) 1 (c .before .before .before .before .match2 .keys2) (c .before .before .load-tail .ensures)
+returns-12 : tie.Need-returns-12
+returns-12 c = producer-steps (c .before .before .before .before .before .read-producer .ensures) (c .before .before .before .before .before .before .before .before .before .pre .1) (c .before .before .before .before .before .before .before .if1 .left) 1 (c .before .before .before .before .match2 .keys2) (c .before .before .load-tail .ensures)
 
 same-length-13 : tie.Need-same-length-13
 same-length-13 c = search needs
 
-returns-14 : tie.Need-returns-14
-returns-14 c = producer-steps (c .before .before .before .before .before .read-producer .ensures) (c .before .before .before .before .before .before .before .before .if1 .left) (c .before .before .before .before .before .before .before .if2 .left) 2 (c .before .before .before .before .match2 .keys3) (c .before .before .look-next .ensures)
+returns-13 : tie.Need-returns-13
+returns-13 c = producer-steps (c .before .before .before .before .before .read-producer .ensures) (c .before .before .before .before .before .before .before .before .before .pre .1) (c .before .before .before .before .before .before .before .if1 .left) 2 (c .before .before .before .before .match2 .keys3) (c .before .before .look-next .ensures)
 
 same-length-14 : tie.Need-same-length-14
 same-length-14 c = search needs
 
-returns-15 : tie.Need-returns-15
-returns-15 c = producer-steps (c .before .before .before .before .before .read-producer .ensures) (c .before .before .before .before .before .before .before .before .if1 .left) (c .before .before .before .before .before .before .before .if2 .left) 3 (c .before .before .before .before .match2 .keys4) (c .before .before .claim-record .ensures)
+returns-14 : tie.Need-returns-14
+returns-14 c = producer-steps (c .before .before .before .before .before .read-producer .ensures) (c .before .before .before .before .before .before .before .before .before .pre .1) (c .before .before .before .before .before .before .before .if1 .left) 3 (c .before .before .before .before .match2 .keys4) (c .before .before .claim-record .ensures)
 
 same-length-15 : tie.Need-same-length-15
 same-length-15 c = search needs
 
-returns-16 : tie.Need-returns-16
-returns-16 c = producer-steps (c .before .before .before .before .before .read-producer .ensures) (c .before .before .before .before .before .before .before .before .if1 .left) (c .before .before .before .before .before .before .before .if2 .left) 4 (c .before .before .before .before .match2 .keys5) (c .before .before .link-claimed .ensures)
+returns-15 : tie.Need-returns-15
+returns-15 c = producer-steps (c .before .before .before .before .before .read-producer .ensures) (c .before .before .before .before .before .before .before .before .before .pre .1) (c .before .before .before .before .before .before .before .if1 .left) 4 (c .before .before .before .before .match2 .keys5) (c .before .before .link-claimed .ensures)
 
 same-length-16 : tie.Need-same-length-16
 same-length-16 c = search needs
 
-returns-17 : tie.Need-returns-17
-returns-17 c = producer-steps (c .before .before .before .before .before .read-producer .ensures) (c .before .before .before .before .before .before .before .before .if1 .left) (c .before .before .before .before .before .before .before .if2 .left) 5 (c .before .before .before .before .match2 .keys6) (c .before .before .shift-tail .ensures)
+returns-16 : tie.Need-returns-16
+returns-16 c = producer-steps (c .before .before .before .before .before .read-producer .ensures) (c .before .before .before .before .before .before .before .before .before .pre .1) (c .before .before .before .before .before .before .before .if1 .left) 5 (c .before .before .before .before .match2 .keys6) (c .before .before .shift-tail .ensures)
 
 same-length-17 : tie.Need-same-length-17
 same-length-17 c = search needs
 
-returns-18 : tie.Need-returns-18
-returns-18 c = producer-steps (c .before .before .before .before .before .read-producer .ensures) (c .before .before .before .before .before .before .before .before .if1 .left) (c .before .before .before .before .before .before .before .if2 .left) 6 (c .before .before .before .before .match2 .keys7) (c .before .before .go-back .ensures)
+returns-17 : tie.Need-returns-17
+returns-17 c = producer-steps (c .before .before .before .before .before .read-producer .ensures) (c .before .before .before .before .before .before .before .before .before .pre .1) (c .before .before .before .before .before .before .before .if1 .left) 6 (c .before .before .before .before .match2 .keys7) (c .before .before .go-back .ensures)
 
 same-length-18 : tie.Need-same-length-18
 same-length-18 c = search needs
 
-returns-19 : tie.Need-returns-19
-returns-19 c = producer-steps (c .before .before .before .before .before .read-producer .ensures) (c .before .before .before .before .before .before .before .before .if1 .left) (c .before .before .before .before .before .before .before .if2 .left) 7 (c .before .before .before .before .match2 .keys8) (c .before .before .write-entry .ensures)
+returns-18 : tie.Need-returns-18
+returns-18 c = producer-steps (c .before .before .before .before .before .read-producer .ensures) (c .before .before .before .before .before .before .before .before .before .pre .1) (c .before .before .before .before .before .before .before .if1 .left) 7 (c .before .before .before .before .match2 .keys8) (c .before .before .write-entry .ensures)
 
 same-length-19 : tie.Need-same-length-19
 same-length-19 c = search needs
 
-returns-20 : tie.Need-returns-20
-returns-20 c = producer-steps (c .before .before .before .before .before .read-producer .ensures) (c .before .before .before .before .before .before .before .before .if1 .left) (c .before .before .before .before .before .before .before .if2 .left) 8 (c .before .before .before .before .match2 .keys9) (c .before .before .set-entry .ensures)
+returns-19 : tie.Need-returns-19
+returns-19 c = producer-steps (c .before .before .before .before .before .read-producer .ensures) (c .before .before .before .before .before .before .before .before .before .pre .1) (c .before .before .before .before .before .before .before .if1 .left) 8 (c .before .before .before .before .match2 .keys9) (c .before .before .set-entry .ensures)
 
 same-length-20 : tie.Need-same-length-20
 same-length-20 c = search needs
 
-returns-21 : tie.Need-returns-21
-returns-21 c = producer-steps (c .before .before .before .before .before .read-producer .ensures) (c .before .before .before .before .before .before .before .before .if1 .left) (c .before .before .before .before .before .before .before .if2 .left) 9 (c .before .before .before .before .match2 .keys10) (c .before .before .claim-ahead .ensures)
+returns-20 : tie.Need-returns-20
+returns-20 c = producer-steps (c .before .before .before .before .before .read-producer .ensures) (c .before .before .before .before .before .before .before .before .before .pre .1) (c .before .before .before .before .before .before .before .if1 .left) 9 (c .before .before .before .before .match2 .keys10) (c .before .before .claim-ahead .ensures)
 
 same-length-21 : tie.Need-same-length-21
 same-length-21 c = search needs
 
-returns-22 : tie.Need-returns-22
-returns-22 c = producer-steps (c .before .before .before .before .before .read-producer .ensures) (c .before .before .before .before .before .before .before .before .if1 .left) (c .before .before .before .before .before .before .before .if2 .left) 10 (c .before .before .before .before .match2 .keys11) (c .before .before .link-ahead .ensures)
+returns-21 : tie.Need-returns-21
+returns-21 c = producer-steps (c .before .before .before .before .before .read-producer .ensures) (c .before .before .before .before .before .before .before .before .before .pre .1) (c .before .before .before .before .before .before .before .if1 .left) 10 (c .before .before .before .before .match2 .keys11) (c .before .before .link-ahead .ensures)
 
 same-length-22 : tie.Need-same-length-22
 same-length-22 c = search needs
 
-returns-23 : tie.Need-returns-23
-returns-23 c = producer-idle (c .before .read-producer .ensures) (c .before .before .before .before .if1 .left) (c .before .before .before .if2 .left) (c .match2 .keys12)
+returns-22 : tie.Need-returns-22
+returns-22 c = producer-idle (c .before .read-producer .ensures) (c .before .before .before .before .before .pre .1) (c .before .before .before .if1 .left) (c .match2 .keys12)
 
 same-length-23 : tie.Need-same-length-23
 same-length-23 c = search needs
 
-returns-24 : tie.Need-returns-24
-returns-24 c = absurd (omega (arith, past 11 (c .before .read-producer .result .phase) (c .match2 .rest .0) (c .match2 .rest .1)))
+returns-23 : tie.Need-returns-23
+returns-23 c = absurd (omega (arith, past 11 (c .before .read-producer .result .phase) (c .match2 .rest .0) (c .match2 .rest .1)))
 
 pub step-thread-spec : {M : Type 1} → statement M
 step-thread-spec =
     tie.close
     (tie.spec
-    returns
     read-consumer-requires
     read-front-requires
     read-tail-requires
@@ -228,25 +220,25 @@ step-thread-spec =
     mark-handled-requires
     retire-head-requires
     same-length
-    returns-2
+    returns
     same-length-2
-    returns-3
+    returns-2
     same-length-3
-    returns-4
+    returns-3
     same-length-4
-    returns-5
+    returns-4
     same-length-5
-    returns-6
+    returns-5
     same-length-6
-    returns-7
+    returns-6
     same-length-7
-    returns-8
+    returns-7
     same-length-8
-    returns-9
+    returns-8
     same-length-9
-    returns-10
+    returns-9
     same-length-10
-    returns-11
+    returns-10
     read-producer-requires
     take-position-requires
     load-tail-requires
@@ -260,28 +252,28 @@ step-thread-spec =
     claim-ahead-requires
     link-ahead-requires
     same-length-11
-    returns-12
+    returns-11
     same-length-12
-    returns-13
+    returns-12
     same-length-13
-    returns-14
+    returns-13
     same-length-14
-    returns-15
+    returns-14
     same-length-15
-    returns-16
+    returns-15
     same-length-16
-    returns-17
+    returns-16
     same-length-17
-    returns-18
+    returns-17
     same-length-18
-    returns-19
+    returns-18
     same-length-19
-    returns-20
+    returns-19
     same-length-20
-    returns-21
+    returns-20
     same-length-21
-    returns-22
+    returns-21
     same-length-22
-    returns-23
+    returns-22
     same-length-23
-    returns-24)
+    returns-23)

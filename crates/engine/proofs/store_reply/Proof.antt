@@ -19,20 +19,32 @@ element-write-reply c = search needs
 enum-told-3 : tie.Need-enum-told-3
 enum-told-3 c = search needs
 
+element-write-reply-2 : tie.Need-element-write-reply-2
+element-write-reply-2 c = search needs
+
 enum-told-4 : tie.Need-enum-told-4
 enum-told-4 c = search needs
+
+element-write-reply-3 : tie.Need-element-write-reply-3
+element-write-reply-3 c = search needs
 
 enum-told-5 : tie.Need-enum-told-5
 enum-told-5 c = search needs
 
+element-write-reply-4 : tie.Need-element-write-reply-4
+element-write-reply-4 c = search needs
+
 enum-known-r-2 : tie.Need-enum-known-r-2
 enum-known-r-2 c = search needs
 
-element-write-reply-2 : tie.Need-element-write-reply-2
-element-write-reply-2 c = search needs
+element-write-reply-5 : tie.Need-element-write-reply-5
+element-write-reply-5 c = search needs
 
-element-write-reply-3 : tie.Need-element-write-reply-3
-element-write-reply-3 c = search needs
+element-write-reply-6 : tie.Need-element-write-reply-6
+element-write-reply-6 c = search needs
+
+element-write-reply-7 : tie.Need-element-write-reply-7
+element-write-reply-7 c = search needs
 
 returns : tie.Need-returns
 returns c = search needs
@@ -44,13 +56,13 @@ returns-3 : tie.Need-returns-3
 returns-3 c = rw (c .before .r .given .1) refl
 
 returns-4 : tie.Need-returns-4
-returns-4 c = search needs
+returns-4 c = rw (c .enum-told3 .given .1) refl
 
 returns-5 : tie.Need-returns-5
-returns-5 c = search needs
+returns-5 c = rw (c .enum-told4 .given .1) refl
 
 returns-6 : tie.Need-returns-6
-returns-6 c = search needs
+returns-6 c = rw (c .enum-told5 .given .1) refl
 
 returns-7 : tie.Need-returns-7
 returns-7 c = rw (c .before .r2 .given .1) refl
@@ -64,11 +76,15 @@ store-reply-spec =
     enum-known-r
     element-write-reply
     enum-told-3
-    enum-told-4
-    enum-told-5
-    enum-known-r-2
     element-write-reply-2
+    enum-told-4
     element-write-reply-3
+    enum-told-5
+    element-write-reply-4
+    enum-known-r-2
+    element-write-reply-5
+    element-write-reply-6
+    element-write-reply-7
     returns
     returns-2
     returns-3

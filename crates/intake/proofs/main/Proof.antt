@@ -37,7 +37,7 @@ run-requires : tie.Need-run-requires
 run-requires c κs = search needs
 
 array-share-prefix-out : tie.Need-array-share-prefix-out
-array-share-prefix-out c = wrote-within (c .run .ensures) (length-replicate {A = ℕ} 110617 0) (length-output _)
+array-share-prefix-out c = wrote-within (c .run .ensures) (length-replicate {A = ℕ} 155679 0) (length-output _)
 
 slice-aggregate-print : tie.Need-slice-aggregate-print
 slice-aggregate-print c = sym (length-take-le _ _ (array-share-prefix-out (c .before)))

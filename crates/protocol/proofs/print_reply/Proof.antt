@@ -71,34 +71,34 @@ returns-4 c = rw (c .before .before .before .before .before .enum-told2 .given .
 enum-told-3 : tie.Need-enum-told-3
 enum-told-3 c = search needs
 
-slice-aggregate-write-bytes-3 : tie.Need-slice-aggregate-write-bytes-3
-slice-aggregate-write-bytes-3 c = search needs
+slice-aggregate-print-numbered-3 : tie.Need-slice-aggregate-print-numbered-3
+slice-aggregate-print-numbered-3 c = search needs
 
-write-bytes-requires-3 : tie.Need-write-bytes-requires-3
-write-bytes-requires-3 c κs = search needs
+print-numbered-requires-3 : tie.Need-print-numbered-requires-3
+print-numbered-requires-3 c κs = search needs
 
 same-length-5 : tie.Need-same-length-5
 same-length-5 c = search needs
 
 returns-5 : tie.Need-returns-5
 unfolding printed
-returns-5 c = rw (c .before .before .before .before .before .enum-told3 .given .1) (c .before .before .write-bytes3 .ensures)
+returns-5 c = rw (c .before .before .before .before .before .enum-told3 .given .1) (c .before .before .print-numbered3 .ensures)
 
 enum-told-4 : tie.Need-enum-told-4
 enum-told-4 c = search needs
 
-slice-aggregate-write-bytes-4 : tie.Need-slice-aggregate-write-bytes-4
-slice-aggregate-write-bytes-4 c = search needs
+slice-aggregate-print-numbered-4 : tie.Need-slice-aggregate-print-numbered-4
+slice-aggregate-print-numbered-4 c = search needs
 
-write-bytes-requires-4 : tie.Need-write-bytes-requires-4
-write-bytes-requires-4 c κs = search needs
+print-numbered-requires-4 : tie.Need-print-numbered-requires-4
+print-numbered-requires-4 c κs = search needs
 
 same-length-6 : tie.Need-same-length-6
 same-length-6 c = search needs
 
 returns-6 : tie.Need-returns-6
 unfolding printed
-returns-6 c = rw (c .before .before .before .before .before .enum-told4 .given .1) (c .before .before .write-bytes4 .ensures)
+returns-6 c = rw (c .before .before .before .before .before .enum-told4 .given .1) (c .before .before .print-numbered4 .ensures)
 
 enum-known-reply-3 : tie.Need-enum-known-reply-3
 enum-known-reply-3 c = search needs
@@ -138,13 +138,13 @@ print-reply-spec =
     same-length-4
     returns-4
     enum-told-3
-    slice-aggregate-write-bytes-3
-    write-bytes-requires-3
+    slice-aggregate-print-numbered-3
+    print-numbered-requires-3
     same-length-5
     returns-5
     enum-told-4
-    slice-aggregate-write-bytes-4
-    write-bytes-requires-4
+    slice-aggregate-print-numbered-4
+    print-numbered-requires-4
     same-length-6
     returns-6
     enum-known-reply-3

@@ -23,7 +23,7 @@ same-length-2 c = search needs
 returns : tie.Need-returns
 returns c =
     let x = c .before .before .before .before .reopen .ensures in
-    λ history. open-turned (c .before .before .before .before .before .before .before .open-store .result) (c .before .before .print-reply .ensures) (sizes (c .before .before .before .before .before .before .before .before .before .before .before .args .z)) (c .before .before .before .before .before .before .before .open-store .ensures) (x .0) (x .1)
+    λ history. open-turned (c .before .before .before .before .before .before .before .open-store .result) 0 (c .before .before .print-reply .ensures) (sizes (c .before .before .before .before .before .before .before .before .before .before .before .args .z)) (c .before .before .before .before .before .before .before .open-store .ensures) (x .0) (x .1)
 
 pub open-turn-spec : {M : Type 1} → statement M
 open-turn-spec =

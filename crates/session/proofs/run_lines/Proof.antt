@@ -14,7 +14,7 @@ abbrev Inv-loop : tie.InvT-loop
 Inv-loop input store₀ history₀ out₀ at₀ events₀ bytes₀ store history out at events bytes =
     (at ≤ length input + 1)
     × (2 * events ≤ at)
-    × (bytes ≤ 27 * (at / 2))
+    × (bytes ≤ 38 * (at / 2))
     × (length store ≡ length store₀)
     × (length history ≡ length history₀)
     × (length out ≡ length out₀)

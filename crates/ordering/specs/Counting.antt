@@ -1,0 +1,172 @@
+-- The counts are those of the list, a dequeue ends within its number, and a step is refused only to wait: proved along every list, beside
+-- demand 3.
+use mathlib.Core.Path.{_≡_, refl, ap, sym, _∙_, subst, subst⁻¹}
+use mathlib.Core.Logic.{inl, inr, _≢_}
+use mathlib.Core.List.{List, [], _∷_}
+use Prim.Native.Nat.{ℕ, zero, suc, _+_, _*_, _/_, _≤_, _<_}
+use native.Mathlib.Nat.{mul-div-cancel-left}
+use native.Mathlib.Omega.{arith}
+use lib.Dec.{eqb}
+use borrow.Author.Tests.{eq-eqb}
+use Rattle.rules.specs.Sizes.{Sizes}
+use Rattle.rules.specs.Cell.{Cell, Reader, reader, threadPhase, stepCount}
+use Rattle.rules.specs.Update.{after, countOf, count-is}
+use Rattle.rules.specs.Free.{nextFree}
+use Rattle.rules.specs.Rule.{Effect, Reply, going, refuse, reply, Response, refused, accepted, ok}
+use Rattle.rules.specs.Request.{Request, step, Result, applied, effect, stepping, stepsSoFar, result, open-store}
+use Rattle.rules.specs.Play.{Played, playOne, play, stepsWith, stepsMade}
+use Rattle.rules.specs.Readback.{reader-writes}
+use Rattle.rules.specs.Refusal.{accepted-not-refused}
+use Rattle.simulation.specs.Good.{Refusable}
+use Rattle.simulation.specs.Every.{effect-is, next-choice}
+use Rattle.simulation.specs.Opened.{openReader}
+use Rattle.progress.specs.Count.{triangle, triangle-is}
+use Rattle.progress.specs.Measure.{phaseOf, stepsLeft}
+use Rattle.progress.specs.Bounds.{mostLeft, some-left}
+use Rattle.progress.specs.Paced.{Paced, Keeps, call-keeps, accepted-busy}
+use Rattle.ordering.specs.Theorem.{Maintained, played, result-is, keeps, opened-kept, opened-cells}
+use Rattle.ordering.specs.Steps.{openedPlay, stepsWithThis, StepCounts, mostDequeueSteps, DequeueEnds, RefusedToWait}
+
+-- The count of thread t's call, where one is under way, is n.
+abbrev Tally : Sizes → Played → (t n : ℕ) → Type 0
+Tally z p t n = t ≤ z .P → reader z (p .words) (phaseOf t) ≢ 0 → reader z (p .words) (countOf t) ≡ n
+
+-- One call.
+module _ {z : Sizes} {p : Played} (k : Maintained z p) (q : Request) (t n : ℕ) (tally : Tally z p t n) where
+  abbrev σ : Reader
+  σ = reader z (p .words)
+
+  by-answer : (i : ℕ) (a : Effect) → Keeps z σ (k .beside) q a
+      → Tally z (played q p (applied i z (p .words) a)) t (stepsWith t q (applied i z (p .words) a .reply) n)
+  unfolding applied
+  by-answer i (refuse m) f = tally
+  by-answer i (reply r ws) f =
+      subst⁻¹ (λ (τ : Reader). t ≤ z .P → τ (phaseOf t) ≢ 0 → τ (countOf t) ≡ stepsWith t q (accepted r i) n)
+      (reader-writes z (p .words) ws (k .fits) (f .goes .there)) (λ l busy. f .counts t n l busy (tally l))
+
+  call-tallied : Tally z (playOne q p) t (stepsWith t q (result q (p .words) .reply) n)
+  call-tallied =
+      subst⁻¹ (λ (r : Result). Tally z (played q p r) t (stepsWith t q (r .reply) n)) (result-is k q)
+      (by-answer (stepsSoFar q σ) (effect q z σ)
+      (subst⁻¹ (Keeps z σ (k .beside) q) (effect-is q z σ)
+      (call-keeps z σ (k .beside) (k .good) (k .paced) (nextFree z σ) (next-choice z σ (k .beside) (k .good)) q)))
+
+-- All of them.
+record Counted (z : Sizes) (p : Played) (t n : ℕ) : Type 0 where
+  maintained : Maintained z p
+  tally : Tally z p t n
+
+counts-along : {z : Sizes} (qs : List Request) {p : Played} (t n : ℕ) → Counted z p t n → Counted z (play qs p) t (stepsMade t qs p n)
+unfolding play stepsMade
+counts-along [] t n c = c
+counts-along (q ∷ qs) {p} t n c =
+    counts-along qs t (stepsWith t q (result q (p .words) .reply) n)
+    (record { maintained = keeps (c .maintained) q; tally = call-tallied (c .maintained) q t n (c .tally) })
+
+-- two replies with one number
+same-steps : {r s : Reply} {j k : ℕ} → accepted r j ≡ accepted s k → (r ≡ s) × (j ≡ k)
+same-steps e = (cc, cc)
+
+-- A further step of thread t that was accepted.
+module _ {z : Sizes} {p : Played} {t n : ℕ} (c : Counted z p t n) (r : Reply) (k : ℕ) (e : result (step t) (p .words) .reply ≡ accepted r k) where
+  abbrev τ : Reader
+  τ = reader z (p .words)
+
+  abbrev m : Maintained z p
+  m = c .maintained
+
+  -- what it says of the store before it
+  record Accepted : Type 0 where
+    there : t ≤ z .P
+    busy : τ (phaseOf t) ≢ 0
+    number : k ≡ suc (τ (countOf t))
+    goes-on : r ≡ going → suc (τ (countOf t)) < mostLeft z t
+
+  is-accepted : Accepted
+  unfolding applied
+  is-accepted =
+      go (effect (step t) z τ) (sym (effect-is (step t) z τ))
+      (subst⁻¹ (Keeps z τ (m .beside) (step t)) (effect-is (step t) z τ)
+      (call-keeps z τ (m .beside) (m .good) (m .paced) (nextFree z τ) (next-choice z τ (m .beside) (m .good)) (step t)))
+      (sym (ap (λ (x : Result). x .reply) (result-is m (step t))) ∙ e)
+    where
+      go : (a : Effect) → stepping (nextFree z τ) t z τ ≡ a → Keeps z τ (m .beside) (step t) a
+          → applied (suc (τ (stepCount t))) z (p .words) a .reply ≡ accepted r k → Accepted
+      go (refuse x) is f d = absurd (accepted-not-refused (sym d))
+      go (reply s ws) is f d =
+          let by = accepted-busy z τ (m .beside) (m .good) (m .paced) (nextFree z τ) (next-choice z τ (m .beside) (m .good)) t s ws is in
+          record {
+            there = by .0;
+            busy = by .1;
+            number = sym (same-steps d .1) ∙ ap (λ (x : Cell). suc (τ x)) (count-is t);
+            goes-on =
+                λ i.
+                let still = f .goes-on (same-steps d .0 ∙ i) in
+                let count : after τ ws (countOf t) ≡ suc (τ (countOf t)) = f .counts t (τ (countOf t)) (by .0) still (λ b. refl) ∙ rw (eq-eqb t t refl) refl in
+                omega (arith, f .paced t (by .0) still, some-left z (after τ ws) (f .goes .next) (f .goes .good) t (by .0) still);
+          }
+
+  -- the list's number
+  counted-in-list : k ≡ suc n
+  counted-in-list = is-accepted .number ∙ ap suc (c .tally (is-accepted .there) (is-accepted .busy))
+
+  within : (suc n ≤ mostLeft z t) × (suc n ≡ mostLeft z t → r ≢ going)
+  within =
+      let a = is-accepted in
+      let is : suc n ≡ suc (τ (countOf t)) = sym counted-in-list ∙ a .number in (
+        omega (arith, m .paced t (a .there) (a .busy), some-left z τ (m .beside) (m .good) t (a .there) (a .busy)),
+        λ last i. omega (arith, a .goes-on i),
+      )
+
+-- After an open no call is under way.
+module _ (z : Sizes) (m : List ℕ) (opens : open-store z m .reply ≡ accepted ok 0) (t : ℕ) where
+  at-open : Counted z (openedPlay z m) t 0
+  at-open = record { maintained = opened-kept z m opens; tally = subst⁻¹ (λ (σ : Reader). t ≤ z .P → σ (phaseOf t) ≢ 0 → σ (countOf t) ≡ 0) (opened-cells z m opens) (none t) }
+    where
+      none : (t : ℕ) → t ≤ z .P → openReader z (phaseOf t) ≢ 0 → openReader z (countOf t) ≡ 0
+      none zero l busy = refl
+      none (suc x) l busy = refl
+
+  after-list : (requests : List Request) → Counted z (play requests (openedPlay z m)) t (stepsMade t requests (openedPlay z m) 0)
+  after-list requests = counts-along requests t 0 at-open
+
+-- The count in a reply is the number of accepted steps in the list.
+pub step-counts : StepCounts
+step-counts z m requests opens t r k e = counted-in-list (after-list z m opens t requests) r k e
+
+-- 1 + 2 + .. + n by its formula
+triangle-half : (n : ℕ) → triangle n ≡ n * suc n / 2
+triangle-half n = sym (mul-div-cancel-left (triangle n) (omega arith)) ∙ ap (λ (x : ℕ). x / 2) (triangle-is n)
+
+most-is : (z : Sizes) → mostLeft z 0 ≡ mostDequeueSteps z
+most-is z = ap (λ (x : ℕ). z .N * (5 * z .B + 3) + 3 * z .B + 1 + x) (triangle-half (z .N * suc (z .B)))
+
+-- A dequeue ends within its number.
+pub dequeue-ends : DequeueEnds
+dequeue-ends z m requests opens r k e =
+    let w = within (after-list z m opens 0 requests) r k e in
+    (subst (λ (x : ℕ). stepsWithThis z m requests 0 ≤ x) (most-is z) (w .0), λ last. w .1 (last ∙ sym (most-is z)))
+
+-- A step of a call under way is refused only with 8.
+module _ {z : Sizes} {p : Played} (k : Maintained z p) (t n : ℕ) (there : t ≤ z .P) (busy : reader z (p .words) (threadPhase t) ≢ 0) where
+  waits : result (step t) (p .words) .reply ≡ refused n → (n ≡ 8) × (1 ≤ t)
+  unfolding applied
+  waits e =
+      let τ = reader z (p .words) in
+      go (effect (step t) z τ)
+      (subst⁻¹ (Keeps z τ (k .beside) (step t)) (effect-is (step t) z τ)
+      (call-keeps z τ (k .beside) (k .good) (k .paced) (nextFree z τ) (next-choice z τ (k .beside) (k .good)) (step t)))
+      (sym (ap (λ (x : Result). x .reply) (result-is k (step t))) ∙ e)
+    where
+      one-of : (x : ℕ) → Refusable z (reader z (p .words)) (step t) x → x ≡ n → (n ≡ 8) × (1 ≤ t)
+      one-of x (inl r) q = absurd (omega (arith, r .1))
+      one-of x (inr (inl r)) q = absurd (busy (r .1))
+      one-of x (inr (inr r)) q = (sym q ∙ r .0, r .1)
+
+      go : (a : Effect) → Keeps z (reader z (p .words)) (k .beside) (step t) a
+          → applied (suc (reader z (p .words) (stepCount t))) z (p .words) a .reply ≡ refused n → (n ≡ 8) × (1 ≤ t)
+      go (refuse x) f d = one-of x f cc
+      go (reply s ws) f d = absurd (accepted-not-refused d)
+
+pub refused-to-wait : RefusedToWait
+refused-to-wait z m requests opens t n there busy = waits (after-list z m opens t requests .maintained) t n there busy

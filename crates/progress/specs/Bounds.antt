@@ -1,0 +1,99 @@
+-- The most steps that a call has left at its start, and that they fit a thread's word.
+use mathlib.Core.Path.{_≡_, refl, ap}
+use mathlib.Core.Logic.{_≢_}
+use mathlib.Core.Bool.{true}
+use mathlib.Core.List.{[]}
+use Prim.Native.Nat.{ℕ, zero, suc, _+_, _-_, _*_, _≤_, _<_}
+use native.Mathlib.Omega.{arith}
+use lib.Dec.{leb}
+use lib.ListN.{getD}
+use borrow.Author.Tests.{leb-true}
+use Rattle.rules.specs.Sizes.{Sizes, sizesInRange, mostSteps}
+use Rattle.rules.specs.Update.{both}
+use Rattle.rules.specs.Range.{consumerSorts, producerSorts, lastConsumerPhase, lastProducerPhase, ofSorts}
+use Rattle.rules.specs.Cell.{Reader, consumer, producer, headRecord, headPosition, consumerPhase, cursorRecord, cursorPosition, foundRecord, foundPosition, phase, position, held, tailRecord}
+use Rattle.simulation.specs.View.{Ghost, placesOf, placeOf}
+use Rattle.simulation.specs.Good.{Good}
+use Rattle.simulation.specs.Limits.{limits}
+use Rattle.simulation.specs.ConsumerSteps.{head-placed}
+use Rattle.progress.specs.Count.{count-most, scaled, product, triangle, triangle-is, triangle-less}
+use Rattle.progress.specs.Measure.{phaseOf, begun, enqueueAt, enqueueLeft, dequeueAt, dequeueLeft, stepsLeft}
+
+-- By the thread: a dequeue's, and an enqueue's.
+abbrev pub mostLeft : Sizes → (t : ℕ) → ℕ
+mostLeft z zero = z .N * (5 * z .B + 3) + 3 * z .B + 1 + triangle (z .N * suc (z .B))
+mostLeft z (suc p) = 5 * z .P + z .N + 5
+
+-- They fit a thread's word.
+pub most-fits : (z : Sizes) → sizesInRange z ≡ true → (t : ℕ) → mostLeft z t ≤ mostSteps
+most-fits z e zero =
+    let l = limits z e in
+    let v : z .N * suc (z .B) ≤ 64 * 65 = product (z .N) (suc (z .B)) 64 65 (l .most-records) (omega (arith, l .most-entries)) in
+    let square : (z .N * suc (z .B)) * suc (z .N * suc (z .B)) ≤ 4160 * 4161 = product (z .N * suc (z .B)) (suc (z .N * suc (z .B))) 4160 4161 (omega arith) (omega arith) in
+    let rows : z .N * (5 * z .B + 3) ≤ 64 * 323 = product (z .N) (5 * z .B + 3) 64 323 (l .most-records) (omega (arith, l .most-entries)) in
+    omega (arith, triangle-is (z .N * suc (z .B)), l .most-entries)
+most-fits z e (suc p) = let l = limits z e in omega (arith, l .most-producers, l .most-records)
+
+module _ (z : Sizes) (σ : Reader) (γ : Ghost) (good : Good z σ γ) where
+  -- at the start
+  pub dequeue-starts : σ consumerPhase ≡ 1 → dequeueLeft z σ ≤ mostLeft z 0
+  unfolding dequeueLeft
+  dequeue-starts e =
+      rw e
+      (omega (
+        arith,
+        scaled (suc (z .B)) (begun z σ) (z .N) most,
+        scaled (suc (2 * z .B)) (z .N + begun z σ) (z .N + z .N) (omega (arith, most)),
+        good .model .places .head-from,
+        ap (λ (x : ℕ). z .B * x) (head-placed z σ γ good),
+      ))
+    where
+      most : begun z σ ≤ z .N
+      most = count-most (z .N) _
+
+  pub enqueue-starts : (p : ℕ) → σ (phase (suc p)) ≡ 1 → enqueueLeft z σ (suc p) ≤ mostLeft z (suc p)
+  unfolding enqueueLeft
+  enqueue-starts p e = rw e (omega arith)
+
+  -- While a call is under way there is a step left.
+  some-rescan : 1 ≤ triangle (z .N * suc (z .B))
+  some-rescan =
+      let l = limits z (good .sizes) in
+      omega (arith, triangle-less 0 (z .N * suc (z .B)) (omega (arith, scaled (z .N) 1 (suc (z .B)) (omega arith), l .two-records)))
+
+  at-dequeue : (p hp lo c k f g : ℕ) → p ≢ 0 → p ≤ lastConsumerPhase → 1 ≤ dequeueAt z σ p hp lo c k f g
+  at-dequeue zero hp lo c k f g b l = absurd (b refl)
+  at-dequeue (suc zero) hp lo c k f g b l = omega arith
+  at-dequeue (suc (suc zero)) hp lo c k f g b l = omega (arith, some-rescan)
+  at-dequeue (suc (suc (suc zero))) hp lo c k f g b l = omega arith
+  at-dequeue (suc (suc (suc (suc zero)))) hp lo c k f g b l = omega (arith, some-rescan)
+  at-dequeue (suc (suc (suc (suc (suc zero))))) hp lo c k f g b l = omega arith
+  at-dequeue (suc (suc (suc (suc (suc (suc zero)))))) hp lo c k f g b l = omega arith
+  at-dequeue (suc (suc (suc (suc (suc (suc (suc zero))))))) hp lo c k f g b l = omega arith
+  at-dequeue (suc (suc (suc (suc (suc (suc (suc (suc zero)))))))) hp lo c k f g b l = omega arith
+  at-dequeue (suc (suc (suc (suc (suc (suc (suc (suc (suc p))))))))) hp lo c k f g b l = absurd (omega arith)
+
+  at-enqueue : (p L k tp : ℕ) → p ≢ 0 → p ≤ lastProducerPhase → 1 ≤ enqueueAt z σ p L k tp
+  at-enqueue zero L k tp b l = absurd (b refl)
+  at-enqueue (suc zero) L k tp b l = omega arith
+  at-enqueue (suc (suc zero)) L k tp b l = omega arith
+  at-enqueue (suc (suc (suc zero))) L k tp b l = omega arith
+  at-enqueue (suc (suc (suc (suc zero)))) L k tp b l = omega arith
+  at-enqueue (suc (suc (suc (suc (suc zero))))) L k tp b l = omega arith
+  at-enqueue (suc (suc (suc (suc (suc (suc zero)))))) L k tp b l = omega arith
+  at-enqueue (suc (suc (suc (suc (suc (suc (suc zero))))))) L k tp b l = omega arith
+  at-enqueue (suc (suc (suc (suc (suc (suc (suc (suc zero)))))))) L k tp b l = omega arith
+  at-enqueue (suc (suc (suc (suc (suc (suc (suc (suc (suc zero))))))))) L k tp b l = omega arith
+  at-enqueue (suc (suc (suc (suc (suc (suc (suc (suc (suc (suc zero)))))))))) L k tp b l = omega arith
+  at-enqueue (suc (suc (suc (suc (suc (suc (suc (suc (suc (suc (suc zero))))))))))) L k tp b l = omega arith
+  at-enqueue (suc (suc (suc (suc (suc (suc (suc (suc (suc (suc (suc (suc p)))))))))))) L k tp b l = absurd (omega arith)
+
+  pub some-left : (t : ℕ) → t ≤ z .P → σ (phaseOf t) ≢ 0 → 1 ≤ stepsLeft z σ t
+  unfolding dequeueLeft enqueueLeft
+  some-left zero l busy =
+      let r = both (leb (σ consumerPhase) lastConsumerPhase) (ofSorts z (λ k. σ (consumer k)) 1 (getD consumerSorts (σ consumerPhase) [])) (good .range .consuming) in
+      at-dequeue (σ consumerPhase) (σ headPosition) (placeOf (placesOf σ) (σ headRecord)) (σ cursorPosition) (placeOf (placesOf σ) (σ cursorRecord)) (σ foundPosition)
+      (placeOf (placesOf σ) (σ foundRecord)) busy (leb-true (σ consumerPhase) lastConsumerPhase (r .0))
+  some-left (suc p) l busy =
+      let r = both (leb (σ (phase (suc p))) lastProducerPhase) (ofSorts z (λ k. σ (producer (suc p) k)) 1 (getD producerSorts (σ (phase (suc p))) [])) (good .range .producing (suc p) (omega arith) l) in
+      at-enqueue (σ (phase (suc p))) (σ (position (suc p))) (placeOf (placesOf σ) (σ (held (suc p)))) (placeOf (placesOf σ) (σ tailRecord)) busy (leb-true (σ (phase (suc p))) lastProducerPhase (r .0))

@@ -1,0 +1,77 @@
+-- How many numbers pass a test, and triangular numbers.
+use mathlib.Core.Path.{_≡_, refl}
+use mathlib.Core.Bool.{Bool, true, false, cond}
+use Prim.Native.Nat.{ℕ, zero, suc, _+_, _*_, _≤_, _<_}
+use native.Mathlib.Nat.{mul-le-mul-left, mul-le-mul}
+use native.Mathlib.Decide.{ℕ-discrete}
+use native.Mathlib.Omega.{arith}
+
+-- how many of 0 to n - 1 pass the test
+abbrev pub count : (n : ℕ) → (ℕ → Bool) → ℕ
+count zero p = 0
+count (suc n) p = cond (p n) 1 0 + count n p
+
+one-more : (b : Bool) → cond b 1 0 ≤ 1
+one-more true = omega arith
+one-more false = omega arith
+
+more : (a b : Bool) → (a ≡ true → b ≡ true) → cond a 1 0 ≤ cond b 1 0
+more true b h = rw (h refl) (omega arith)
+more false b h = omega arith
+
+pub count-most : (n : ℕ) (p : ℕ → Bool) → count n p ≤ n
+count-most zero p = omega arith
+count-most (suc n) p = omega (arith, one-more (p n), count-most n p)
+
+-- a weaker test
+pub count-grows : (n : ℕ) (p q : ℕ → Bool) → ((k : ℕ) → k < n → p k ≡ true → q k ≡ true) → count n p ≤ count n q
+count-grows zero p q h = omega arith
+count-grows (suc n) p q h = omega (arith, more (p n) (q n) (h n (omega arith)), count-grows n p q (λ k l. h k (omega arith)))
+
+pub count-same : (n : ℕ) (p q : ℕ → Bool) → ((k : ℕ) → k < n → p k ≡ true → q k ≡ true) → ((k : ℕ) → k < n → q k ≡ true → p k ≡ true) → count n p ≡ count n q
+count-same n p q f g = omega (arith, count-grows n p q f, count-grows n q p g)
+
+-- a weaker test that one more passes
+pub count-less : (n : ℕ) (p q : ℕ → Bool) → ((k : ℕ) → k < n → p k ≡ true → q k ≡ true)
+    → (j : ℕ) → j < n → p j ≡ false → q j ≡ true → count n p < count n q
+count-less zero p q h j l a b = absurd (omega arith)
+count-less (suc n) p q h j l a b = go (ℕ-discrete j n) (λ g. count-less n p q (λ k g. h k (omega arith)) j g a b)
+  where
+    rest : count n p ≤ count n q
+    rest = count-grows n p q (λ k g. h k (omega arith))
+
+    go : Dec (j ≡ n) → (j < n → count n p < count n q) → cond (p n) 1 0 + count n p < cond (q n) 1 0 + count n q
+    go (yes e) below = rw (rw e at a, rw e at b) (omega (arith, rest))
+    go (no d) below = omega (arith, more (p n) (q n) (h n (omega arith)), below (omega arith))
+
+-- one that fails
+pub count-below : (n : ℕ) (p : ℕ → Bool) (j : ℕ) → j < n → p j ≡ false → count n p < n
+count-below n p j l a = omega (arith, count-less n p (λ k. true) (λ k g e. refl) j l a refl, count-most n (λ k. true))
+
+-- so many times the smaller number; of two smaller ones; and at least once more of the greater one
+pub scaled : (c a b : ℕ) → a ≤ b → c * a ≤ c * b
+scaled c a b l = mul-le-mul-left c l
+
+pub product : (a b c d : ℕ) → a ≤ c → b ≤ d → a * b ≤ c * d
+product a b c d h l = mul-le-mul h l
+
+pub scaled-less : (c a b : ℕ) → a < b → c * a + c ≤ c * b
+scaled-less c a b l = omega (arith, scaled c (suc a) b l)
+
+-- 1 + 2 + .. + n
+abbrev pub triangle : ℕ → ℕ
+triangle zero = 0
+triangle (suc n) = suc n + triangle n
+
+pub triangle-is : (n : ℕ) → 2 * triangle n ≡ n * suc n
+triangle-is zero = refl
+triangle-is (suc n) = omega (arith, triangle-is n)
+
+-- n + 1 more with every number
+pub triangle-less : (a b : ℕ) → a < b → suc a + triangle a ≤ triangle b
+triangle-less a zero l = absurd (omega arith)
+triangle-less a (suc b) l = go (ℕ-discrete a b) (triangle-less a b)
+  where
+    go : Dec (a ≡ b) → (a < b → suc a + triangle a ≤ triangle b) → suc a + triangle a ≤ suc b + triangle b
+    go (yes e) below = rw e (omega arith)
+    go (no n) below = omega (arith, below (omega arith))

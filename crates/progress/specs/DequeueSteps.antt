@@ -1,0 +1,416 @@
+-- A dequeue's own steps lower what it has left.
+use mathlib.Core.Path.{_≡_, refl, ap, sym, _∙_}
+use mathlib.Core.Logic.{_≢_}
+use mathlib.Core.Bool.{Bool, true, false, _&&_, cond, and-false}
+use mathlib.Core.List.{List, [], _∷_, _++_}
+use Prim.Native.Nat.{ℕ, zero, suc, _+_, _-_, _*_, _≤_, _<_}
+use native.Mathlib.Nat.{mul-comm, mul-suc}
+use native.Mathlib.Decide.{decLt, ℕ-discrete}
+use native.Mathlib.Omega.{arith}
+use lib.Dec.{eqb, ltb}
+use lib.ListN.{getD}
+use borrow.Author.Tests.{eq-eqb, ne-eqb, eqb-true, eqb-false, lt-ltb, le-ltb, ltb-true}
+use Rattle.rules.specs.Sizes.{Sizes}
+use Rattle.rules.specs.Cell.{Reader, Write, _:=_, clearConsumer, tail, tailRecord, headRecord, headPosition, consumerPhase, cursorRecord, cursorPosition, foundRecord, foundPosition, itemNumber, itemValue, place, next, used, state, entryNumber, entryValue}
+use Rattle.rules.specs.Update.{after, both, and-true}
+use Rattle.rules.specs.Rule.{Effect, refuse, reply, item, goes, need, upTo, atEnd, index, inside}
+use Rattle.rules.specs.Consumer.{byState, endsEmpty, moveHead, front, readTail, scan, readEntry, rescanned, rescan, readItem, drainedAt, markFront, markHandled, retireHead, consumerRules, consumerStep}
+use Rattle.model.specs.State.{rescanning}
+use Rattle.model.specs.Invariant.{Inside}
+use Rattle.model.specs.Dequeues.{consumer-clause}
+use Rattle.memory.specs.Memory.{Linked, Memory}
+use Rattle.simulation.specs.View.{Ghost, placesOf, placeOf, view, codeOf}
+use Rattle.simulation.specs.Good.{Good, by-cond}
+use Rattle.simulation.specs.Limits.{limits}
+use Rattle.simulation.specs.ConsumerCursor.{linked-most}
+use Rattle.simulation.specs.ConsumerSteps.{consumer-at, head-placed, head-record-linked, head-record-placed}
+use Rattle.progress.specs.Count.{count-less, count-below, scaled, scaled-less, triangle, triangle-less}
+use Rattle.progress.specs.Measure.{rank, begun, along, rescans, looking, reading, fronting, dequeueAt, dequeueLeft}
+use Rattle.progress.specs.Leaves.{each-need, each-up-to, each-inside, each-cross}
+use Rattle.progress.specs.Lowers.{Lowers, refused-lowers, goes-lowers, empty-lowers, item-lowers}
+
+-- what a dequeue has left, by the words that say it
+dequeue-is : (z : Sizes) (σ : Reader) (p hp lo c k f g : ℕ) → σ consumerPhase ≡ p → σ headPosition ≡ hp → placeOf (placesOf σ) (σ headRecord) ≡ lo
+    → σ cursorPosition ≡ c → placeOf (placesOf σ) (σ cursorRecord) ≡ k → σ foundPosition ≡ f → placeOf (placesOf σ) (σ foundRecord) ≡ g
+    → dequeueLeft z σ ≡ dequeueAt z σ p hp lo c k f g
+unfolding dequeueLeft
+dequeue-is z σ p hp lo c k f g a b d e h i j = rw (a, b, d, e, h, i, j) refl
+
+-- an entry's state by cases
+each-state : (P : Effect → Type 0) (x : ℕ) (a b c : Effect) → P a → P b → P c → P (byState x a b c)
+each-state P zero a b c f g h = f
+each-state P (suc zero) a b c f g h = g
+each-state P (suc (suc x)) a b c f g h = h
+
+module _ (z : Sizes) (σ : Reader) (γ : Ghost) (good : Good z σ γ) where
+  abbrev hp : ℕ
+  hp = σ headPosition
+
+  abbrev lo : ℕ
+  lo = placeOf (placesOf σ) (σ headRecord)
+
+  abbrev c : ℕ
+  c = σ cursorPosition
+
+  abbrev k : ℕ
+  k = placeOf (placesOf σ) (σ cursorRecord)
+
+  abbrev f : ℕ
+  f = σ foundPosition
+
+  abbrev g : ℕ
+  g = placeOf (placesOf σ) (σ foundRecord)
+
+  m : Memory z σ (γ .shape)
+  m = good .memory
+
+  two : 2 ≤ z .B
+  two = limits z (good .sizes) .two-entries
+
+  -- Ranks: a linked record is counted at every greater place, and not at its own.
+  counted-at : (r j : ℕ) → σ (used r) ≡ 2 → σ (place r) < j → (eqb (σ (used r)) 2 && ltb (σ (place r)) j) ≡ true
+  counted-at r j u l = and-true (eq-eqb (σ (used r)) 2 u) (lt-ltb (σ (place r)) j l)
+
+  not-at : (r : ℕ) → (eqb (σ (used r)) 2 && ltb (σ (place r)) (σ (place r))) ≡ false
+  not-at r = rw (le-ltb (σ (place r)) (σ (place r)) (omega arith), and-false (eqb (σ (used r)) 2)) refl
+
+  rank-grows : (r j : ℕ) → σ (used r) ≡ 2 → σ (place r) < j → rank z σ (σ (place r)) < rank z σ j
+  rank-grows r j u l =
+      count-less (z .N) _ _
+      (λ y h b.
+      let w = both (eqb (σ (used y)) 2) (ltb (σ (place y)) (σ (place r))) b in
+      and-true (w .0) (lt-ltb (σ (place y)) j (omega (arith, ltb-true (σ (place y)) (σ (place r)) (w .1)))))
+      r (linked-most z σ γ good r u) (not-at r) (counted-at r j u l)
+
+  rank-below : (r : ℕ) → σ (used r) ≡ 2 → rank z σ (σ (place r)) < z .N
+  rank-below r u = count-below (z .N) _ r (linked-most z σ γ good r u) (not-at r)
+
+  -- the record after a linked one is one place on
+  next-placed : (r n : ℕ) → σ (used r) ≡ 2 → σ (next r) ≡ suc n → σ (place n) ≡ suc (σ (place r))
+  next-placed r n u e = go (decLt (σ (place r)) (γ .shape .hi))
+    where
+      o : (γ .shape .lo ≤ σ (place r)) × (σ (place r) ≤ γ .shape .hi) × (γ .shape .at (σ (place r)) ≡ r)
+      o = m .chain .only r u
+
+      go : Dec (σ (place r) < γ .shape .hi) → σ (place n) ≡ suc (σ (place r))
+      go (yes l) =
+          let is : n ≡ γ .shape .at (suc (σ (place r))) = omega (arith, ap (λ (x : ℕ). σ (next x)) (o .2), m .chain .nexts (σ (place r)) (o .0) l) in
+          ap (λ (x : ℕ). σ (place x)) is ∙ m .chain .placed (suc (σ (place r))) (omega (arith, o .0)) l
+      go (no l) =
+          let last : σ (place r) ≡ γ .shape .hi = omega (arith, o .1) in
+          absurd (omega (arith, ap (λ (x : ℕ). σ (next x)) (sym (o .2) ∙ ap (γ .shape .at) last), m .chain .last))
+
+  -- a step from phase a to phase b
+  from-to : (a b hp′ lo′ c′ k′ f′ g′ : ℕ) (ws : List Write) → σ consumerPhase ≡ a → after σ ws consumerPhase ≡ b → after σ ws headPosition ≡ hp′
+      → placeOf (placesOf (after σ ws)) (after σ ws headRecord) ≡ lo′ → after σ ws cursorPosition ≡ c′
+      → placeOf (placesOf (after σ ws)) (after σ ws cursorRecord) ≡ k′ → after σ ws foundPosition ≡ f′
+      → placeOf (placesOf (after σ ws)) (after σ ws foundRecord) ≡ g′ → b ≢ 0
+      → dequeueAt z (after σ ws) b hp′ lo′ c′ k′ f′ g′ < dequeueAt z σ a hp lo c k f g → Lowers z σ 0 (goes ws)
+  from-to a b hp′ lo′ c′ k′ f′ g′ ws e e′ h i j l n o some less =
+      goes-lowers z σ 0 ws (λ x. some (sym e′ ∙ x)) (rw (dequeue-is z σ a hp lo c k f g e refl refl refl refl refl refl, dequeue-is z (after σ ws) b hp′ lo′ c′ k′ f′ g′ e′ h i j l n o) less)
+
+  -- 1. The first entry of a head record whose end the head has reached is handled.
+  first-handled : (h : ℕ) → σ headRecord ≡ suc h → hp ≡ z .B * σ (place h) → σ (state h 0) ≡ 2
+  first-handled h q e = go (σ (place h)) refl
+    where
+      u : σ (used h) ≡ 2
+      u = head-record-linked z σ γ good h q
+
+      o : (γ .shape .lo ≤ σ (place h)) × (σ (place h) ≤ γ .shape .hi) × (γ .shape .at (σ (place h)) ≡ h)
+      o = m .chain .only h u
+
+      go : (j : ℕ) → σ (place h) ≡ j → σ (state h 0) ≡ 2
+      go zero x = absurd (omega (arith, o .0, good .model .places .first))
+      go (suc j) x =
+          let is : γ .shape .at (suc j) ≡ h = ap (γ .shape .at) (sym x) ∙ o .2 in
+          let below : z .B * j + 0 < hp = omega (arith, e, ap (λ (y : ℕ). z .B * y) x, two) in
+          ap (λ (y : ℕ). σ (state y 0)) (sym is)
+          ∙ good .agrees .states j 0 (omega (arith, o .0)) (omega (arith, o .1)) (omega (arith, two))
+          ∙ ap codeOf (good .model .entries .gone-below (z .B * j + 0) below)
+
+  -- Its retirement leaves fewer of those.
+  begun-less : (h : ℕ) (ws : List Write) → σ (used h) ≡ 2 → σ (state h 0) ≡ 2
+      → ((r : ℕ) → after σ ws (used r) ≡ cond (eqb h r) 3 (σ (used r))) → ((r : ℕ) → after σ ws (state r 0) ≡ σ (state r 0))
+      → begun z (after σ ws) < begun z σ
+  begun-less h ws u d uses states =
+      count-less (z .N) _ _ (λ r l b. weaker r (ℕ-discrete h r) b) h (linked-most z σ γ good h u) fails
+      (and-true (eq-eqb (σ (used h)) 2 u) (eq-eqb (σ (state h 0)) 2 d))
+    where
+      fails : (eqb (after σ ws (used h)) 2 && eqb (after σ ws (state h 0)) 2) ≡ false
+      fails = rw (uses h, eq-eqb h h refl) refl
+
+      weaker : (r : ℕ) → Dec (h ≡ r) → (eqb (after σ ws (used r)) 2 && eqb (after σ ws (state r 0)) 2) ≡ true → (eqb (σ (used r)) 2 && eqb (σ (state r 0)) 2) ≡ true
+      weaker r (yes e) b =
+          let w = both (eqb (after σ ws (used r)) 2) (eqb (after σ ws (state r 0)) 2) b in
+          let three : after σ ws (used r) ≡ 3 = uses r ∙ rw (eq-eqb h r e) refl in
+          absurd (omega (arith, eqb-true (after σ ws (used r)) 2 (w .0)))
+      weaker r (no n) b =
+          let w = both (eqb (after σ ws (used r)) 2) (eqb (after σ ws (state r 0)) 2) b in
+          let same : after σ ws (used r) ≡ σ (used r) = uses r ∙ rw (ne-eqb h r n) refl in
+          and-true (eq-eqb (σ (used r)) 2 (sym same ∙ eqb-true (after σ ws (used r)) 2 (w .0)))
+          (eq-eqb (σ (state r 0)) 2 (sym (states r) ∙ eqb-true (after σ ws (state r 0)) 2 (w .1)))
+
+  ends-empty : Lowers z σ 0 endsEmpty
+  ends-empty = empty-lowers z σ 0 (clearConsumer ∷ []) refl
+
+  front-lowers : σ consumerPhase ≡ 1 → Lowers z σ 0 (front z σ)
+  unfolding front
+  front-lowers e =
+      each-need (Lowers z σ 0) (refused-lowers z σ 0) (σ headRecord) _
+      (λ h q.
+      let placed : lo ≡ σ (place h) = ap (placeOf (placesOf σ)) q in
+      by-cond (Lowers z σ 0) (atEnd z σ h hp) _ _
+      (λ b.
+      by-cond (Lowers z σ 0) (eqb (σ tailRecord) (suc h)) _ _ (λ d. ends-empty)
+      (λ d.
+      each-cross (Lowers z σ 0) (refused-lowers z σ 0) z σ h (λ n q. goes (headRecord := suc n ∷ headPosition := q ∷ used h := 3 ∷ []))
+      (λ n j w x. moves h n j q (eqb-true hp (z .B * σ (place h)) b) x)))
+      (λ b.
+      each-inside (Lowers z σ 0) (refused-lowers z σ 0) z σ h hp
+      (λ i. byState (σ (state h i)) (goes (consumerPhase := 2 ∷ []))
+      (goes (foundRecord := suc h ∷ foundPosition := hp ∷ consumerPhase := 6 ∷ []))
+      (upTo (z .M) (suc hp) (goes (headPosition := suc hp ∷ []))))
+      (λ l d.
+      each-state (Lowers z σ 0) (σ (state h (index z σ h hp))) _ _ _
+      (from-to 1 2 hp lo c k f g (consumerPhase := 2 ∷ []) e refl refl refl refl refl refl refl (λ x. omega arith) (omega arith))
+      (from-to 1 6 hp lo c k hp (σ (place h)) (foundRecord := suc h ∷ foundPosition := hp ∷ consumerPhase := 6 ∷ []) e refl refl refl refl refl refl refl (λ x. omega arith) (omega (arith, two)))
+      (each-up-to (Lowers z σ 0) (refused-lowers z σ 0) (z .M) (suc hp) _
+      (λ y.
+      from-to 1 1 (suc hp) lo c k f g (headPosition := suc hp ∷ []) e e refl refl refl refl refl refl (λ x. omega arith)
+      (omega (arith, ap (λ (x : ℕ). z .B * x) placed)))))))
+    where
+      moves : (h n j : ℕ) → σ headRecord ≡ suc h → hp ≡ z .B * σ (place h) → σ (place n) ≡ suc j
+          → Lowers z σ 0 (goes (headRecord := suc n ∷ headPosition := z .B * j ∷ used h := 3 ∷ []))
+      moves h n j q d x =
+          from-to 1 1 (z .B * j) (σ (place n)) c k f g ws e e refl refl refl refl refl refl (λ y. omega arith)
+          (omega (
+            arith,
+            fewer,
+            scaled-less (suc (z .B)) (begun z (after σ ws)) (begun z σ) fewer,
+            scaled (suc (2 * z .B)) (z .N + begun z (after σ ws)) (z .N + begun z σ) (omega (arith, fewer)),
+            ap (λ (y : ℕ). z .B * y) x,
+          ))
+        where
+          ws : List Write
+          ws = headRecord := suc n ∷ headPosition := z .B * j ∷ used h := 3 ∷ []
+
+          fewer : begun z (after σ ws) < begun z σ
+          fewer = begun-less h ws (head-record-linked z σ γ good h q) (first-handled h q d) (λ r. refl) (λ r. refl)
+
+  -- 2.
+  read-lowers : σ consumerPhase ≡ 2 → Lowers z σ 0 (readTail z σ)
+  unfolding readTail
+  read-lowers e =
+      by-cond (Lowers z σ 0) (eqb (σ tail) hp) _ _ (λ b. ends-empty)
+      (λ b.
+      each-up-to (Lowers z σ 0) (refused-lowers z σ 0) (z .M) (suc hp) _
+      (λ l.
+      from-to 2 3 hp lo (suc hp) lo f g (cursorRecord := σ headRecord ∷ cursorPosition := suc hp ∷ consumerPhase := 3 ∷ []) e refl refl refl refl refl refl refl (λ x. omega arith)
+      (omega (
+        arith,
+        scaled (suc (2 * z .B)) (z .N - rank z σ lo + begun z σ) (z .N + begun z σ) (omega arith),
+        good .model .places .head-from,
+        ap (λ (x : ℕ). z .B * x) (head-placed z σ γ good),
+        two,
+      ))))
+
+  -- the cursor's record
+  module _ (r : ℕ) (q : σ cursorRecord ≡ suc r) where
+    placed : k ≡ σ (place r)
+    placed = ap (placeOf (placesOf σ)) q
+
+    linked : σ (used r) ≡ 2
+    linked = rw q at (m .cursor)
+
+    -- its rank is below N
+    ranked : rank z σ k < z .N
+    ranked = rw placed (rank-below r linked)
+
+    -- a crossing leads to a greater rank
+    crossed : (n j : ℕ) → σ (next r) ≡ suc n → σ (place n) ≡ suc j → (rank z σ k < rank z σ (suc j)) × (j ≡ k)
+    crossed n j w x =
+        let on : suc j ≡ suc (σ (place r)) = sym x ∙ next-placed r n linked w in
+        (rw placed (rank-grows r (suc j) linked (omega arith)), omega (arith, placed))
+
+  -- 3.
+  scan-lowers : σ consumerPhase ≡ 3 → Lowers z σ 0 (scan z σ)
+  unfolding scan
+  scan-lowers e =
+      each-need (Lowers z σ 0) (refused-lowers z σ 0) (σ cursorRecord) _
+      (λ r q.
+      by-cond (Lowers z σ 0) (atEnd z σ r c) _ _
+      (λ b.
+      by-cond (Lowers z σ 0) (eqb (σ tailRecord) (suc r)) _ _ (λ d. ends-empty)
+      (λ d.
+      each-cross (Lowers z σ 0) (refused-lowers z σ 0) z σ r (λ n x. goes (cursorRecord := suc n ∷ cursorPosition := x ∷ []))
+      (λ n j w x.
+      let on = crossed r q n j w x in
+      from-to 3 3 hp lo (z .B * j) (suc j) f g (cursorRecord := suc n ∷ cursorPosition := z .B * j ∷ []) e e refl refl refl x refl refl (λ y. omega arith)
+      (omega (
+        arith,
+        scaled-less (suc (2 * z .B)) (z .N - rank z σ (suc j) + begun z σ) (z .N - rank z σ k + begun z σ) (omega (arith, on .0, ranked r q)),
+      )))))
+      (λ b.
+      by-cond (Lowers z σ 0) (eqb c (σ tail)) _ _ (λ d. ends-empty)
+      (λ d. from-to 3 4 hp lo c k f g (consumerPhase := 4 ∷ []) e refl refl refl refl refl refl refl (λ x. omega arith) (omega arith))))
+
+  -- An entry is fewer steps along the list than there are in all.
+  along-less : (r p : ℕ) → σ (used r) ≡ 2 → p < z .B * σ (place r) → along z σ p (σ (place r)) < z .N * suc (z .B)
+  along-less r p u l =
+      omega (arith, scaled-less (suc (z .B)) (rank z σ (σ (place r))) (z .N) (rank-below r u), mul-comm (z .N) (suc (z .B)))
+
+  -- 4.
+  entry-lowers : σ consumerPhase ≡ 4 → Lowers z σ 0 (readEntry z σ)
+  unfolding readEntry
+  entry-lowers e =
+      each-need (Lowers z σ 0) (refused-lowers z σ 0) (σ cursorRecord) _
+      (λ r q.
+      each-inside (Lowers z σ 0) (refused-lowers z σ 0) z σ r c
+      (λ i. cond (eqb (σ (state r i)) 1)
+      (goes (foundRecord := suc r ∷ foundPosition := c ∷ cursorRecord := σ headRecord ∷ cursorPosition := hp ∷ consumerPhase := 5 ∷ []))
+      (upTo (z .M) (suc c) (goes (cursorPosition := suc c ∷ consumerPhase := 3 ∷ []))))
+      (λ l d.
+      let inside-k : c < z .B * k = rw (placed r q) l in
+      by-cond (Lowers z σ 0) (eqb (σ (state r (index z σ r c))) 1) _ _
+      (λ b.
+      from-to 4 5 hp lo hp lo c k (foundRecord := suc r ∷ foundPosition := c ∷ cursorRecord := σ headRecord ∷ cursorPosition := hp ∷ consumerPhase := 5 ∷ []) e refl refl refl refl refl refl (sym (placed r q)) (λ x. omega arith)
+      (omega (
+        arith,
+        two,
+        triangle-less (along z σ c k) (z .N * suc (z .B)) (rw (placed r q) (along-less r c (linked r q) l)),
+        scaled (suc (2 * z .B)) 1 (z .N - rank z σ k + begun z σ) (omega (arith, ranked r q)),
+      )))
+      (λ b.
+      each-up-to (Lowers z σ 0) (refused-lowers z σ 0) (z .M) (suc c) _
+      (λ x.
+      from-to 4 3 hp lo (suc c) k f g (cursorPosition := suc c ∷ consumerPhase := 3 ∷ []) e refl refl refl refl refl refl refl (λ y. omega arith) (omega arith)))))
+
+  -- 5. The cursor is before found along the list.
+  module _ (e : σ consumerPhase ≡ 5) where
+    -- where the position machine has the cursor and found
+    clause : (c < f) × (c ≤ z .B * k) × (z .B * k ≤ c + z .B) × (f < z .B * g) × (z .B * g ≤ f + z .B)
+    clause =
+        let o = consumer-clause (z .B) (view σ γ) (good .model) (rescanning c k f g) (consumer-at z σ γ good 5 e) in
+        (o .2, o .3 .2, o .3 .3, o .4 .5 .0, o .4 .5 .1)
+
+    before-found : (r : ℕ) → σ cursorRecord ≡ suc r → along z σ c k < along z σ f g
+    before-found r q = go (decLt k g) (decLt g k)
+      where
+        go : Dec (k < g) → Dec (g < k) → along z σ c k < along z σ f g
+        go (yes l) d =
+            let more : rank z σ k < rank z σ g = rw (placed r q) (rank-grows r g (linked r q) (rw (placed r q) at l)) in
+            omega (arith, clause, scaled-less (suc (z .B)) (rank z σ k) (rank z σ g) more)
+        go (no l) (yes d) = absurd (omega (arith, clause, scaled-less (z .B) g k d))
+        go (no l) (no d) = let same : k ≡ g = omega arith in rw (← same) (omega (arith, clause, ap (λ (x : ℕ). z .B * x) same))
+
+    -- When the cursor's position then equals that of found, to 6; otherwise stay, with fewer steps.
+    settles : (x y : ℕ) (stays moved : List Write) → along z σ c k < along z σ f g
+        → (x ≢ y → Lowers z σ 0 (goes (moved ++ stays)))
+        → after σ (moved ++ (cursorRecord := 0 ∷ cursorPosition := 0 ∷ consumerPhase := 6 ∷ [])) consumerPhase ≡ 6
+        → Lowers z σ 0 (rescanned z σ x y stays moved)
+    settles x y stays moved less on six =
+        by-cond (Lowers z σ 0) (eqb x y) _ _
+        (λ b.
+        from-to 5 6 _ _ _ _ _ _ (moved ++ (cursorRecord := 0 ∷ cursorPosition := 0 ∷ consumerPhase := 6 ∷ [])) e six refl refl refl refl refl refl (λ w. omega arith)
+        (omega arith))
+        (λ b. on (eqb-false x y b))
+
+    rescan-lowers : Lowers z σ 0 (rescan z σ)
+    unfolding rescan
+    rescan-lowers =
+        each-need (Lowers z σ 0) (refused-lowers z σ 0) (σ cursorRecord) _
+        (λ r q.
+        let less = before-found r q in
+        by-cond (Lowers z σ 0) (atEnd z σ r c) _ _
+        (λ b.
+        each-cross (Lowers z σ 0) (refused-lowers z σ 0) z σ r (λ n x. rescanned z σ x f (cursorRecord := suc n ∷ cursorPosition := x ∷ []) [])
+        (λ n j w x.
+        let end : c ≡ z .B * k = eqb-true c (z .B * σ (place r)) b ∙ ap (λ (y : ℕ). z .B * y) (sym (placed r q)) in
+        let on = crossed r q n j w x in
+        settles (z .B * j) f (cursorRecord := suc n ∷ cursorPosition := z .B * j ∷ []) [] less
+        (λ d.
+        from-to 5 5 hp lo (z .B * j) (suc j) f g (cursorRecord := suc n ∷ cursorPosition := z .B * j ∷ []) e e refl refl refl x refl refl (λ y. omega arith)
+        (omega (arith, scaled-less (suc (z .B)) (rank z σ k) (rank z σ (suc j)) (on .0))))
+        refl))
+        (λ b.
+        each-inside (Lowers z σ 0) (refused-lowers z σ 0) z σ r c
+        (λ i. cond (eqb (σ (state r i)) 1)
+        (rescanned z σ hp c (cursorRecord := σ headRecord ∷ cursorPosition := hp ∷ []) (foundRecord := suc r ∷ foundPosition := c ∷ []))
+        (upTo (z .M) (suc c) (rescanned z σ (suc c) f (cursorPosition := suc c ∷ []) [])))
+        (λ l d.
+        by-cond (Lowers z σ 0) (eqb (σ (state r (index z σ r c))) 1) _ _
+        (λ x.
+        settles hp c (cursorRecord := σ headRecord ∷ cursorPosition := hp ∷ []) (foundRecord := suc r ∷ foundPosition := c ∷ []) less
+        (λ y.
+        from-to 5 5 hp lo hp lo c k (foundRecord := suc r ∷ foundPosition := c ∷ cursorRecord := σ headRecord ∷ cursorPosition := hp ∷ []) e e refl refl refl refl refl (sym (placed r q)) (λ w. omega arith)
+        (omega (arith, triangle-less (along z σ c k) (along z σ f g) less)))
+        refl)
+        (λ x.
+        each-up-to (Lowers z σ 0) (refused-lowers z σ 0) (z .M) (suc c) _
+        (λ y.
+        settles (suc c) f (cursorPosition := suc c ∷ []) [] less
+        (λ w.
+        from-to 5 5 hp lo (suc c) k f g (cursorPosition := suc c ∷ []) e e refl refl refl refl refl refl (λ v. omega arith)
+        (omega (arith, clause)))
+        refl)))))
+
+  -- 6.
+  item-read-lowers : σ consumerPhase ≡ 6 → Lowers z σ 0 (readItem z σ)
+  unfolding readItem
+  item-read-lowers e =
+      each-need (Lowers z σ 0) (refused-lowers z σ 0) (σ foundRecord) _
+      (λ r q.
+      each-inside (Lowers z σ 0) (refused-lowers z σ 0) z σ r f
+      (λ i. goes (itemNumber := σ (entryNumber r i) ∷ itemValue := σ (entryValue r i) ∷ consumerPhase := 7 ∷ []))
+      (λ a b.
+      from-to 6 7 _ _ _ _ _ _ (itemNumber := σ (entryNumber r (index z σ r f)) ∷ itemValue := σ (entryValue r (index z σ r f)) ∷ consumerPhase := 7 ∷ []) e refl refl refl refl refl refl refl (λ x. omega arith) (omega arith)))
+
+  -- 7.
+  mark-lowers : σ consumerPhase ≡ 7 → Lowers z σ 0 (markHandled z σ)
+  unfolding markHandled
+  mark-lowers e =
+      each-need (Lowers z σ 0) (refused-lowers z σ 0) (σ foundRecord) _
+      (λ r q.
+      each-inside (Lowers z σ 0) (refused-lowers z σ 0) z σ r f
+      (λ i. cond (eqb f hp) (markFront z σ r i) (reply (item (σ itemNumber) (σ itemValue)) (state r i := 2 ∷ clearConsumer ∷ [])))
+      (λ a b. marks r (index z σ r f)))
+    where
+      marks : (r i : ℕ) → Lowers z σ 0 (cond (eqb f hp) (markFront z σ r i) (reply (item (σ itemNumber) (σ itemValue)) (state r i := 2 ∷ clearConsumer ∷ [])))
+      marks r i =
+          by-cond (Lowers z σ 0) (eqb f hp) _ _
+          (λ b.
+          each-up-to (Lowers z σ 0) (refused-lowers z σ 0) (z .M) (suc hp) _
+          (λ l.
+          each-need (Lowers z σ 0) (refused-lowers z σ 0) (σ headRecord) _
+          (λ h w.
+          by-cond (Lowers z σ 0) (drainedAt z σ h (suc hp)) _ _
+          (λ d.
+          from-to 7 8 _ _ _ _ _ _ (state r i := 2 ∷ headPosition := suc hp ∷ foundRecord := 0 ∷ foundPosition := 0 ∷ consumerPhase := 8 ∷ []) e refl refl refl refl refl refl refl (λ x. omega arith) (omega arith))
+          (λ d. item-lowers z σ 0 _ _ (state r i := 2 ∷ headPosition := suc hp ∷ clearConsumer ∷ []) refl))))
+          (λ b. item-lowers z σ 0 _ _ (state r i := 2 ∷ clearConsumer ∷ []) refl)
+
+  -- 8.
+  retire-lowers : Lowers z σ 0 (retireHead z σ)
+  unfolding retireHead
+  retire-lowers =
+      each-need (Lowers z σ 0) (refused-lowers z σ 0) (σ headRecord) _
+      (λ h q.
+      each-cross (Lowers z σ 0) (refused-lowers z σ 0) z σ h
+      (λ n x. reply (item (σ itemNumber) (σ itemValue)) (headRecord := suc n ∷ headPosition := x ∷ used h := 3 ∷ clearConsumer ∷ []))
+      (λ n j w x. item-lowers z σ 0 _ _ (headRecord := suc n ∷ headPosition := z .B * j ∷ used h := 3 ∷ clearConsumer ∷ []) refl))
+
+  pub dequeue-lowers : Lowers z σ 0 (consumerStep z σ)
+  unfolding consumerStep
+  dequeue-lowers = by-phase (σ consumerPhase) refl
+    where
+      by-phase : (x : ℕ) → σ consumerPhase ≡ x → Lowers z σ 0 (getD consumerRules x (λ z σ. refuse 7) z σ)
+      by-phase zero e = refused-lowers z σ 0 7
+      by-phase (suc zero) e = front-lowers e
+      by-phase (suc (suc zero)) e = read-lowers e
+      by-phase (suc (suc (suc zero))) e = scan-lowers e
+      by-phase (suc (suc (suc (suc zero)))) e = entry-lowers e
+      by-phase (suc (suc (suc (suc (suc zero))))) e = rescan-lowers e
+      by-phase (suc (suc (suc (suc (suc (suc zero)))))) e = item-read-lowers e
+      by-phase (suc (suc (suc (suc (suc (suc (suc zero))))))) e = mark-lowers e
+      by-phase (suc (suc (suc (suc (suc (suc (suc (suc zero)))))))) e = retire-lowers
+      by-phase (suc (suc (suc (suc (suc (suc (suc (suc (suc x))))))))) e = refused-lowers z σ 0 7

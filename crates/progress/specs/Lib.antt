@@ -1,0 +1,10 @@
+pub mod Count
+pub mod Measure
+pub mod Others
+pub mod Leaves
+pub mod Lowers
+pub mod EnqueueSteps
+pub mod DequeueSteps
+pub mod Counted
+pub mod Bounds
+pub mod Paced

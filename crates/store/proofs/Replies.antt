@@ -1,0 +1,36 @@
+-- What a caller knows of a reply once it has looked whether it is Going.
+use mathlib.Core.Path.{_≡_, sym}
+use mathlib.Core.Logic.{inl, inr}
+use mathlib.Core.List.{[], _∷_}
+use Prim.Native.Nat.{ℕ}
+use native.Mathlib.Omega.{arith}
+use denote.Enum.Declared.{tagOf}
+use types.Run.{OneOf}
+use Rattle.rules.specs.Rule.{accepted, going}
+use Rattle.rules.specs.Refusal.{accepted-not-refused}
+use Rattle.store.specs.declared.Reply.{Reply}
+use Rattle.store.specs.declared.Reply.the-variants.{Refused, Ok, Started, Going, Ended, Empty, Item}
+use Rattle.store.specs.Outcome.{response}
+use Rattle.store.proofs.Reply.{the-type}
+
+-- It is one of the others.
+abbrev pub NotGoing : Reply → Type 0
+NotGoing r = OneOf (0 ∷ 1 ∷ 2 ∷ 4 ∷ 5 ∷ 6 ∷ []) (tagOf the-type r)
+
+another : _≡_ {A = ℕ} 0 1 → ⊥
+another e = omega arith
+
+-- Then it does not mean going.
+pub not-going : (r : Reply) → response r ≡ accepted going 0 → NotGoing r → ⊥
+not-going (Refused n) e k = accepted-not-refused (sym e)
+not-going Ok e k = another cc
+not-going (Started n) e k = another cc
+not-going Going e (inl k) = omega arith
+not-going Going e (inr (inl k)) = omega arith
+not-going Going e (inr (inr (inl k))) = omega arith
+not-going Going e (inr (inr (inr (inl k)))) = omega arith
+not-going Going e (inr (inr (inr (inr (inl k))))) = omega arith
+not-going Going e (inr (inr (inr (inr (inr k))))) = omega arith
+not-going Ended e k = another cc
+not-going Empty e k = another cc
+not-going (Item n v) e k = another cc

@@ -1,0 +1,138 @@
+"""How long a call can last: for each call under way a number that bounds the accepted steps it has yet to take.
+
+Each accepted step of its own lowers it, and no call of another thread raises it. So what it is at a start bounds the
+steps of the whole call, whatever others do in between; a step refused with 8 is not accepted. A measure is read off the
+words alone. It is meant for stores that only the engine has written.
+"""
+
+import intake_model as im
+from intake_model import HANDLED, USE_LINKED
+from step_counts import Tally, steps_of, thread_of
+
+
+def triangle(n):
+    return n * (n + 1) // 2
+
+
+def most_enqueue_steps(N, P):
+    """The measure of an enqueue at its start."""
+    return 5 * P + N + 5
+
+
+def most_dequeue_steps(B, N):
+    """The measure of a dequeue at its start, at the most."""
+    return N * (5 * B + 3) + 3 * B + 1 + triangle(N * (B + 1))
+
+
+def most_steps(words, t):
+    return most_enqueue_steps(*words[1:3]) if t else most_dequeue_steps(*words[:2])
+
+
+class Records:
+    """What the measures read of the records."""
+
+    def __init__(self, words):
+        first, size = words[5], im.record_words(words[0])
+        last = first + words[1] * size
+        self.places = words[first + im.PLACE : last : size]
+        uses = words[first + im.USE : last : size]
+        states = words[first + im.RECORD_HEAD + im.STATE : last : size]
+        self.linked = [place for place, use in zip(self.places, uses) if use == USE_LINKED]
+        self.begun = list(zip(uses, states)).count((USE_LINKED, HANDLED))  # linked ones whose first entry is handled
+
+    def place(self, number):
+        """The place of the record that a stored number names."""
+        return self.places[number - 1]
+
+    def rank(self, place):
+        """How many linked records are before a place."""
+        return sum(other < place for other in self.linked)
+
+
+def of_enqueue(words, t, records):
+    """Each round of phases 2 to 6, five steps, leaves the tail record at a later place, until it is no longer before the
+    call's position; then each phase 7 leaves one record less to go back over."""
+    B, N, P = words[:3]
+    own = im.CONTENTS + im.THREAD_WORDS * t
+    phase, position, held = words[own], words[own + im.POSITION], words[own + im.HELD]
+
+    def past(place):
+        """By how much the position is past the record of a place, itself counted; 0 if it is not."""
+        return max(0, position + 1 - B * place)
+
+    if phase <= 1:
+        return phase * most_enqueue_steps(N, P)
+    if phase == 2:
+        return 5 * past(records.place(words[im.TAIL_RECORD])) + N + 4
+    place = records.place(held) if phase <= 7 else 0
+    if phase <= 6:
+        return 7 - phase + 5 * past(place + 1) + N + 4
+    if phase == 7:
+        return 4 + sum(position < B * other and other < place for other in records.places)
+    return 12 - phase
+
+
+def of_dequeue(words, records):
+    """The front passes handled entries and leaves the records that they fill; the scan passes positions up to the last
+    record's end. The rescan passes those before found, and each find is before the one it replaces."""
+    B, N = words[:2]
+    phase, cursor, cursor_position, found, found_position = words[im.CONTENTS : im.CONTENTS + 5]
+    rescans = triangle(N * (B + 1))
+
+    def far(position, place):
+        """The steps of a rescan from the beginning of the head record to a position of the record of a place."""
+        return (B + 1) * records.rank(place) + max(0, position + B - B * place)
+
+    if phase <= 2:
+        scan = (2 * B + 1) * (N + records.begun) + 2 * B + rescans
+        to_end = max(0, B * records.place(words[im.HEAD_RECORD]) - words[im.HEAD_POSITION])
+        return (0, (B + 1) * records.begun + to_end + 1 + scan, scan)[phase]
+    if phase <= 4:
+        place = records.place(cursor)
+        records_left = max(0, N - records.rank(place)) + records.begun
+        return (2 * B + 1) * records_left + 2 * max(0, B * place - cursor_position) + rescans - (phase == 4)
+    if phase == 5:
+        to_found = far(found_position, records.place(found))
+        return triangle(to_found) + max(0, to_found - far(cursor_position, records.place(cursor))) + 3
+    return 9 - phase
+
+
+def measures(words):
+    """The measure of each thread, the consumer's first; 0 for an idle one."""
+    records = Records(words)
+    return (of_dequeue(words, records), *(of_enqueue(words, t, records) for t in range(1, words[2] + 1)))
+
+
+def broken(call, reply, words, before, after):
+    """What an accepted call breaks: `words` are those before it, `before` and `after` the measures around it."""
+    t = thread_of(call)
+    others = [u for u in range(len(before)) if u != t]
+    bad = [f'measure: raised or used up by another, {u}' for u in others if not min(before[u], 1) <= after[u] <= before[u]]
+    if call[0] != 's':
+        return bad + ['measure: at a start'] * (not 1 <= after[t] <= most_steps(words, t))
+    if reply[0] == 'going':
+        bad += ['measure: not lowered'] * (not 1 <= after[t] < before[t])
+    else:
+        bad += ['measure: used up before the end'] * (before[t] < 1)
+    if t and words[im.CONTENTS + im.THREAD_WORDS * t] == 1:
+        bad += ['measure: too many positions past the tail record'] * (past_the_tail_record(words) > words[2])
+    return bad
+
+
+def past_the_tail_record(words):
+    """The positions past the tail record that are taken, and the next one."""
+    return words[im.TAIL] + 1 - words[0] * Records(words).place(words[im.TAIL_RECORD])
+
+
+class Lengths:
+    """The steps and the measures of the calls of one run."""
+
+    def __init__(self, words):
+        self.tally, self.left = Tally(), measures(words)
+
+    def wrong(self, call, reply, before, words):
+        """What is wrong with an accepted call: its number of steps, its measure, or the two together."""
+        was, self.left = self.left, measures(words)
+        together = map(sum, zip(steps_of(words), self.left))
+        bad = self.tally.add(call, reply) + self.tally.wrong(words) + broken(call, reply, before, was, self.left)
+        return bad + [f'steps past the bound, {t}' for t, k in enumerate(together) if k > most_steps(words, t)]
