@@ -19,9 +19,9 @@ import test_judge
 
 CRATES = Path(__file__).resolve().parent.parent / 'crates'
 BIG = (2**16, 2**31, im.U32 - 1, im.U32)
-TYPES = {'schedule': 'Schedule', 'single': 'Single', 'claim': 'List ℕ', 'history': 'Words'}
-ANSWERS = {'schedule': 'Outcome', 'single': 'Result', 'claim': 'ℕ', 'history': 'Verdict'}
-FUNCTIONS = {'schedule': 'follow', 'single': 'call', 'claim': 'next', 'history': 'judge'}
+TYPES = {'schedule': 'Schedule', 'count': 'Schedule', 'single': 'Single', 'claim': 'List ℕ', 'history': 'Words'}
+ANSWERS = {'schedule': 'Outcome', 'count': 'List ℕ', 'single': 'Result', 'claim': 'ℕ', 'history': 'Verdict'}
+FUNCTIONS = {'schedule': 'follow', 'count': 'count', 'single': 'call', 'claim': 'next', 'history': 'judge'}
 
 
 class Schedule(NamedTuple):
@@ -31,6 +31,15 @@ class Schedule(NamedTuple):
     sizes: tuple
     calls: list
     expected: tuple  # the replies, open's first; the words at the end; the items left; the history
+
+
+class Count(NamedTuple):
+    """A schedule of which the accepted steps are counted."""
+
+    lent: list
+    sizes: tuple
+    calls: list
+    expected: list  # of threads 0 and 1, those of the last call that was started
 
 
 class Single(NamedTuple):
@@ -64,6 +73,16 @@ def play(lent, sizes, calls):
     recorder = im.Recorder(*sizes, words=list(lent))
     replies = [recorder.opened] + recorder.run(calls)
     return Schedule(lent, sizes, calls, (replies, recorder.words, im.items_left(recorder.words), recorder.history))
+
+
+def counted(case, calls):
+    """The case of a schedule's first calls, with the accepted steps counted by their replies."""
+    steps = [0, 0]
+    for call, reply in zip(case.calls[:calls], case.expected[0][1:]):
+        t = step_counts.thread_of(call)
+        if t < 2 and reply[0] != 'refused':
+            steps[t] = steps[t] + 1 if call[0] == 's' else 0
+    return Count(case.lent, case.sizes, case.calls[:calls], steps)
 
 
 def snapshots(case):
@@ -511,6 +530,8 @@ def with_one_wrong_value(rng, case):
         else:
             history = changed_at(history, rng.randrange(len(history)), another_event)
         return case._replace(expected=(replies, words, left, history))
+    if isinstance(case, Count):
+        return case._replace(expected=changed_at(case.expected, rng.randrange(2), another))
     if isinstance(case, Single):
         reply, words = case.expected
         if not words or rng.random() < 0.5:
@@ -534,7 +555,7 @@ def twins(seed, cases):
     `wrong-K`."""
     rng = random.Random(seed)
     modules = {}
-    for kind in (Schedule, Single, Claim, History):
+    for kind in (Schedule, Count, Single, Claim, History):
         numbered = [(k, case) for k, case in enumerate(cases) if isinstance(case, kind)]
         pairs = [(f'right-{k}', case) for k, case in numbered]
         pairs += [(f'wrong-{k}', with_one_wrong_value(rng, case)) for k, case in numbered]
@@ -633,6 +654,9 @@ def terms(case):
         given = record_term(lent=numbers(case.lent), sizes=sizes_term(case.sizes), requests=requests)
         replies = listed(map(response_term, replies))
         return given, record_term(replies=replies, words=numbers(words), left=listed(items), history=events)
+    if isinstance(case, Count):
+        requests = listed(map(request_term, case.calls))
+        return record_term(lent=numbers(case.lent), sizes=sizes_term(case.sizes), requests=requests), numbers(case.expected)
     if isinstance(case, Single):
         opens = case.call[0] == 'open'
         made = f'opening ({sizes_term(case.call[1:])})' if opens else f'request ({request_term(case.call)})'
@@ -673,7 +697,7 @@ use Prim.Native.Nat.{ℕ}
 use Rattle.history.specs.Event.{enqueueStarted, enqueueEnded, dequeueStarted, gaveItem, gaveEmpty}
 use Rattle.rules.specs.Rule.{refused, accepted, ok, started, going, ended, empty, item}
 use Rattle.rules.specs.Request.{Result, startEnqueue, startDequeue, step}
-use Rattle.tables.specs.Store.{Schedule, Outcome, follow, Single, opening, request, call, next}
+use Rattle.tables.specs.Store.{Schedule, Outcome, follow, count, Single, opening, request, call, next}
 """
 
 HISTORY_HEAD = """-- Generated: words for the judge, and the model's verdict.
@@ -697,7 +721,7 @@ use Rattle.rules.specs.Rule.{Response}
 use Rattle.rules.specs.Producer.{takePosition, loadTail, lookNext, claimRecord, linkClaimed, shiftTail, goBack, writeEntry, setEntry, claimAhead, linkAhead, producerStep}
 use Rattle.rules.specs.Consumer.{front, readTail, scan, readEntry, rescan, readItem, markHandled, retireHead, consumerStep}
 use Rattle.rules.specs.Request.{Request, Result, applied, opened, open-store, startingEnqueue, startingDequeue, phaseStep, counted, stepping, effect, sizesOf, admitted, result}
-use Rattle.rules.specs.Play.{Played, play, itemsLeft}
+use Rattle.rules.specs.Play.{Played, play, stepsMade, itemsLeft}
 
 -- an open of lent words, and requests after it
 pub record Schedule : Type 0 where
@@ -722,6 +746,13 @@ unfolding UNFOLDED play itemsLeft
 follow s =
     let o = open-store (s .sizes) (s .lent) in
     outcome (play (s .requests) (record { words = o .words; replies = o .reply ∷ []; history = [] }))
+
+-- the accepted steps of threads 0 and 1, counted in the list
+unfoldable pub count : Schedule → List ℕ
+unfolding UNFOLDED stepsMade
+count s =
+    let p : Played = record { words = open-store (s .sizes) (s .lent) .words; replies = []; history = [] } in
+    stepsMade 0 (s .requests) p 0 ∷ stepsMade 1 (s .requests) p 0 ∷ []
 
 -- one call on any words
 pub data Made : Type 0 where

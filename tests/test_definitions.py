@@ -15,8 +15,9 @@ import test_model
 
 
 def setUpModule():
-    global SCHEDULES, SINGLES, CLAIMS, HISTORIES
+    global SCHEDULES, COUNTS, SINGLES, CLAIMS, HISTORIES
     SCHEDULES = dc.schedules(1, 3_200)
+    COUNTS = [dc.counted(case, 30 + k) for k, case in enumerate(SCHEDULES)]
     SINGLES = dc.singles(2, [store for case in SCHEDULES for store in dc.snapshots(case)], 2_100)
     CLAIMS = dc.claims(6, 60)
     HISTORIES = dc.histories(3, 1_600)
@@ -35,16 +36,17 @@ class Tables(unittest.TestCase):
         cls.folder = tempfile.TemporaryDirectory()
         cls.addClassCleanup(cls.folder.cleanup)
         short = [dc.play(case.lent, case.sizes, case.calls[:9]) for case in SCHEDULES[:8]]
-        cls.sample = short + SINGLES[::85] + CLAIMS[::67] + HISTORIES[10::53]
+        cls.sample = short + [dc.counted(case, 9) for case in short[:4]] + SINGLES[::85] + CLAIMS[::67] + HISTORIES[10::53]
         crates = {
             'schedules': dc.split('schedule', SCHEDULES, 10),
+            'counts': dc.split('count', COUNTS, 10),
             'singles': dc.split('single', SINGLES, 100),
             'claims': dc.split('claim', CLAIMS, 200),
             'histories': dc.split('history', HISTORIES, 200),
             'twins': dc.twins(4, cls.sample),
         }
         dc.write_repository(cls.folder.name, crates)
-        cls.ended, cls.output = cls.check('schedules', 'singles', 'claims', 'histories')
+        cls.ended, cls.output = cls.check('schedules', 'counts', 'singles', 'claims', 'histories')
 
     @classmethod
     def check(cls, *names):
@@ -59,6 +61,10 @@ class Tables(unittest.TestCase):
         """A rule, a range, a check or its number, a write, a number of steps, the items left or an event of the history,
         wrong somewhere in a list of calls."""
         self.assert_proved('schedules')
+
+    def test_counts(self):
+        """A number of accepted steps counted in a list of calls otherwise than by its replies."""
+        self.assert_proved('counts')
 
     def test_single_calls(self):
         """A damaged store admitted or turned down wrongly, a link or an index not looked at, a write by a refusal."""

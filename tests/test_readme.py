@@ -49,7 +49,7 @@ class Readme(unittest.TestCase):
                 file.write(re.search(r'```c\n(.*?)```', readme(), re.S).group(1))
             compiling, running = (command for command in commands() if 'example' in command)
             self.run_command(compiling.replace('gcc ', 'gcc -Werror ', 1), folder)
-            self.assertEqual(self.run_command(running, folder), ['call 1', 'call 1, value 700'])
+            self.assertEqual(self.run_command(running, folder), ['call 1', 'call 1, value 700, 3 steps'])
         self.assertIn('prints `call 1` and `call 1, value 700`.', readme())
 
     def test_commands(self):

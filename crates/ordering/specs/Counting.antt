@@ -6,13 +6,12 @@ use mathlib.Core.List.{List, [], _∷_}
 use Prim.Native.Nat.{ℕ, zero, suc, _+_, _*_, _/_, _≤_, _<_}
 use native.Mathlib.Nat.{mul-div-cancel-left}
 use native.Mathlib.Omega.{arith}
-use lib.Dec.{eqb}
 use borrow.Author.Tests.{eq-eqb}
 use Rattle.rules.specs.Sizes.{Sizes}
 use Rattle.rules.specs.Cell.{Cell, Reader, reader, threadPhase, stepCount}
 use Rattle.rules.specs.Update.{after, countOf, count-is}
 use Rattle.rules.specs.Free.{nextFree}
-use Rattle.rules.specs.Rule.{Effect, Reply, going, refuse, reply, Response, refused, accepted, ok}
+use Rattle.rules.specs.Rule.{Effect, Reply, going, refuse, reply, refused, accepted, ok}
 use Rattle.rules.specs.Request.{Request, step, Result, applied, effect, stepping, stepsSoFar, result, open-store}
 use Rattle.rules.specs.Play.{Played, playOne, play, stepsWith, stepsMade}
 use Rattle.rules.specs.Readback.{reader-writes}
@@ -21,9 +20,9 @@ use Rattle.simulation.specs.Good.{Refusable}
 use Rattle.simulation.specs.Every.{effect-is, next-choice}
 use Rattle.simulation.specs.Opened.{openReader}
 use Rattle.progress.specs.Count.{triangle, triangle-is}
-use Rattle.progress.specs.Measure.{phaseOf, stepsLeft}
+use Rattle.progress.specs.Measure.{phaseOf}
 use Rattle.progress.specs.Bounds.{mostLeft, some-left}
-use Rattle.progress.specs.Paced.{Paced, Keeps, call-keeps, accepted-busy}
+use Rattle.progress.specs.Paced.{Keeps, call-keeps, accepted-busy}
 use Rattle.ordering.specs.Theorem.{Maintained, played, result-is, keeps, opened-kept, opened-cells}
 use Rattle.ordering.specs.Steps.{openedPlay, stepsWithThis, StepCounts, mostDequeueSteps, DequeueEnds, RefusedToWait}
 

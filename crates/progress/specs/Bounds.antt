@@ -3,7 +3,7 @@ use mathlib.Core.Path.{_≡_, refl, ap}
 use mathlib.Core.Logic.{_≢_}
 use mathlib.Core.Bool.{true}
 use mathlib.Core.List.{[]}
-use Prim.Native.Nat.{ℕ, zero, suc, _+_, _-_, _*_, _≤_, _<_}
+use Prim.Native.Nat.{ℕ, zero, suc, _+_, _-_, _*_, _≤_}
 use native.Mathlib.Omega.{arith}
 use lib.Dec.{leb}
 use lib.ListN.{getD}
@@ -17,7 +17,7 @@ use Rattle.simulation.specs.Good.{Good}
 use Rattle.simulation.specs.Limits.{limits}
 use Rattle.simulation.specs.ConsumerSteps.{head-placed}
 use Rattle.progress.specs.Count.{count-most, scaled, product, triangle, triangle-is, triangle-less}
-use Rattle.progress.specs.Measure.{phaseOf, begun, enqueueAt, enqueueLeft, dequeueAt, dequeueLeft, stepsLeft}
+use Rattle.progress.specs.Measure.{phaseOf, firstHandled, enqueueAt, enqueueLeft, dequeueAt, dequeueLeft, stepsLeft}
 
 -- By the thread: a dequeue's, and an enqueue's.
 abbrev pub mostLeft : Sizes → (t : ℕ) → ℕ
@@ -42,13 +42,13 @@ module _ (z : Sizes) (σ : Reader) (γ : Ghost) (good : Good z σ γ) where
       rw e
       (omega (
         arith,
-        scaled (suc (z .B)) (begun z σ) (z .N) most,
-        scaled (suc (2 * z .B)) (z .N + begun z σ) (z .N + z .N) (omega (arith, most)),
+        scaled (suc (z .B)) (firstHandled z σ) (z .N) most,
+        scaled (suc (2 * z .B)) (z .N + firstHandled z σ) (z .N + z .N) (omega (arith, most)),
         good .model .places .head-from,
         ap (λ (x : ℕ). z .B * x) (head-placed z σ γ good),
       ))
     where
-      most : begun z σ ≤ z .N
+      most : firstHandled z σ ≤ z .N
       most = count-most (z .N) _
 
   pub enqueue-starts : (p : ℕ) → σ (phase (suc p)) ≡ 1 → enqueueLeft z σ (suc p) ≤ mostLeft z (suc p)

@@ -1,60 +1,46 @@
 -- A step that is counted keeps what its phase kept: the count is a word that nothing else goes by.
-use mathlib.Core.Path.{_≡_, refl, ap, sym, _∙_, subst⁻¹}
+use mathlib.Core.Path.{_≡_, refl, ap, _∙_, subst⁻¹}
 use mathlib.Core.Logic.{_≢_}
 use mathlib.Core.Bool.{true, and-false}
 use mathlib.Core.List.{List, [], _∷_, _++_}
-use Prim.Native.Nat.{ℕ, zero, suc, _≤_, _<_}
-use native.Mathlib.Decide.{ℕ-discrete}
+use Prim.Native.Nat.{ℕ, zero, suc, _≤_}
 use native.Mathlib.Omega.{arith}
 use lib.Dec.{leb, eqb}
-use lib.ListN.{getD}
+use lib.ListN.{getD, drop}
 use borrow.Author.Tests.{eq-eqb, ne-eqb, leb-true}
+use Rattle.history.specs.Lists.{All}
 use Rattle.history.specs.Event.{History}
 use Rattle.criterion.specs.Members.{all-append}
 use Rattle.rules.specs.Sizes.{Sizes, mostSteps}
 use Rattle.rules.specs.Cell.{Cell, Reader, Write, _:=_, consumer, producer, part, entry, consumerPhase, cursorRecord, foundRecord, phase, stepCount, used}
 use Rattle.rules.specs.Update.{areaOf, update, after, after-more, countOf, count-is, both, other-area}
-use Rattle.rules.specs.Range.{any, consumerSorts, producerSorts, lastConsumerPhase, lastProducerPhase, ofSorts, consumerInRange, producerInRange}
-use Rattle.rules.specs.InRange.{InRange, OtherThread, writes-keep-range}
+use Rattle.rules.specs.Range.{Sort, any, steps, consumerSorts, producerSorts, lastConsumerPhase, lastProducerPhase, ofSorts, consumerInRange, producerInRange}
+use Rattle.rules.specs.InRange.{OtherThread, writes-keep-range}
 use Rattle.rules.specs.Readback.{WriteThere}
-use Rattle.rules.specs.Rule.{Reply, going}
+use Rattle.rules.specs.Rule.{going}
 use Rattle.rules.specs.Request.{step}
-use Rattle.memory.specs.Memory.{ChainShape, ThreadOk, rowOf, Linked, Memory}
+use Rattle.memory.specs.Memory.{ThreadOk, rowOf, Linked}
 use Rattle.memory.specs.OtherThreads.{thread-kept, holdable-kept, blank-kept}
 use Rattle.simulation.specs.View.{Ghost}
 use Rattle.simulation.specs.Good.{Good, told, Goes, Moved}
-use Rattle.simulation.specs.Rows.{OfSort, ProducerWords, ConsumerWords, consumer-row-of, producer-row-of}
+use Rattle.simulation.specs.Rows.{OfSort, consumer-row-of, producer-row-of}
 use Rattle.simulation.specs.ConsumerSteps.{consumer-words}
 use Rattle.simulation.specs.ProducerSteps.{own-words}
 use Rattle.progress.specs.Measure.{phaseOf}
 
 -- The count's sort in every phase but 0.
+in-rows : (z : Sizes) (n : ℕ) → n ≤ mostSteps → (rows : List (List Sort)) → All (λ ss. getD ss 6 any ≡ steps) rows → (p : ℕ) → OfSort z (getD (getD rows p []) 6 any) n
+in-rows z n h [] a p = tt
+in-rows z n h (ss ∷ rows) a zero = rw (a .0) h
+in-rows z n h (ss ∷ rows) a (suc p) = in-rows z n h rows (a .1) p
+
 of-consumer : (z : Sizes) (n p : ℕ) → p ≢ 0 → n ≤ mostSteps → OfSort z (getD (getD consumerSorts p []) 6 any) n
 of-consumer z n zero b h = absurd (b refl)
-of-consumer z n (suc zero) b h = h
-of-consumer z n (suc (suc zero)) b h = h
-of-consumer z n (suc (suc (suc zero))) b h = h
-of-consumer z n (suc (suc (suc (suc zero)))) b h = h
-of-consumer z n (suc (suc (suc (suc (suc zero))))) b h = h
-of-consumer z n (suc (suc (suc (suc (suc (suc zero)))))) b h = h
-of-consumer z n (suc (suc (suc (suc (suc (suc (suc zero))))))) b h = h
-of-consumer z n (suc (suc (suc (suc (suc (suc (suc (suc zero)))))))) b h = h
-of-consumer z n (suc (suc (suc (suc (suc (suc (suc (suc (suc p))))))))) b h = tt
+of-consumer z n (suc p) b h = in-rows z n h (drop 1 consumerSorts) (refl, (refl, (refl, (refl, (refl, (refl, (refl, (refl, tt)))))))) p
 
 of-producer : (z : Sizes) (n p : ℕ) → p ≢ 0 → n ≤ mostSteps → OfSort z (getD (getD producerSorts p []) 6 any) n
 of-producer z n zero b h = absurd (b refl)
-of-producer z n (suc zero) b h = h
-of-producer z n (suc (suc zero)) b h = h
-of-producer z n (suc (suc (suc zero))) b h = h
-of-producer z n (suc (suc (suc (suc zero)))) b h = h
-of-producer z n (suc (suc (suc (suc (suc zero))))) b h = h
-of-producer z n (suc (suc (suc (suc (suc (suc zero)))))) b h = h
-of-producer z n (suc (suc (suc (suc (suc (suc (suc zero))))))) b h = h
-of-producer z n (suc (suc (suc (suc (suc (suc (suc (suc zero)))))))) b h = h
-of-producer z n (suc (suc (suc (suc (suc (suc (suc (suc (suc zero))))))))) b h = h
-of-producer z n (suc (suc (suc (suc (suc (suc (suc (suc (suc (suc zero)))))))))) b h = h
-of-producer z n (suc (suc (suc (suc (suc (suc (suc (suc (suc (suc (suc zero))))))))))) b h = h
-of-producer z n (suc (suc (suc (suc (suc (suc (suc (suc (suc (suc (suc (suc p)))))))))))) b h = tt
+of-producer z n (suc p) b h = in-rows z n h (drop 1 producerSorts) (refl, (refl, (refl, (refl, (refl, (refl, (refl, (refl, (refl, (refl, (refl, tt))))))))))) p
 
 -- a store with the count of thread t written
 abbrev pub withCount : Reader → (t n : ℕ) → Reader

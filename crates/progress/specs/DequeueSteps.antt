@@ -1,10 +1,10 @@
 -- A dequeue's own steps lower what it has left.
 use mathlib.Core.Path.{_≡_, refl, ap, sym, _∙_}
 use mathlib.Core.Logic.{_≢_}
-use mathlib.Core.Bool.{Bool, true, false, _&&_, cond, and-false}
+use mathlib.Core.Bool.{true, false, _&&_, cond, and-false}
 use mathlib.Core.List.{List, [], _∷_, _++_}
 use Prim.Native.Nat.{ℕ, zero, suc, _+_, _-_, _*_, _≤_, _<_}
-use native.Mathlib.Nat.{mul-comm, mul-suc}
+use native.Mathlib.Nat.{mul-comm}
 use native.Mathlib.Decide.{decLt, ℕ-discrete}
 use native.Mathlib.Omega.{arith}
 use lib.Dec.{eqb, ltb}
@@ -13,19 +13,18 @@ use borrow.Author.Tests.{eq-eqb, ne-eqb, eqb-true, eqb-false, lt-ltb, le-ltb, lt
 use Rattle.rules.specs.Sizes.{Sizes}
 use Rattle.rules.specs.Cell.{Reader, Write, _:=_, clearConsumer, tail, tailRecord, headRecord, headPosition, consumerPhase, cursorRecord, cursorPosition, foundRecord, foundPosition, itemNumber, itemValue, place, next, used, state, entryNumber, entryValue}
 use Rattle.rules.specs.Update.{after, both, and-true}
-use Rattle.rules.specs.Rule.{Effect, refuse, reply, item, goes, need, upTo, atEnd, index, inside}
-use Rattle.rules.specs.Consumer.{byState, endsEmpty, moveHead, front, readTail, scan, readEntry, rescanned, rescan, readItem, drainedAt, markFront, markHandled, retireHead, consumerRules, consumerStep}
+use Rattle.rules.specs.Rule.{Effect, refuse, reply, item, goes, upTo, atEnd, index}
+use Rattle.rules.specs.Consumer.{byState, endsEmpty, front, readTail, scan, readEntry, rescanned, rescan, readItem, drainedAt, markFront, markHandled, retireHead, consumerRules, consumerStep}
 use Rattle.model.specs.State.{rescanning}
-use Rattle.model.specs.Invariant.{Inside}
 use Rattle.model.specs.Dequeues.{consumer-clause}
-use Rattle.memory.specs.Memory.{Linked, Memory}
+use Rattle.memory.specs.Memory.{Memory}
 use Rattle.simulation.specs.View.{Ghost, placesOf, placeOf, view, codeOf}
 use Rattle.simulation.specs.Good.{Good, by-cond}
 use Rattle.simulation.specs.Limits.{limits}
 use Rattle.simulation.specs.ConsumerCursor.{linked-most}
-use Rattle.simulation.specs.ConsumerSteps.{consumer-at, head-placed, head-record-linked, head-record-placed}
-use Rattle.progress.specs.Count.{count-less, count-below, scaled, scaled-less, triangle, triangle-less}
-use Rattle.progress.specs.Measure.{rank, begun, along, rescans, looking, reading, fronting, dequeueAt, dequeueLeft}
+use Rattle.simulation.specs.ConsumerSteps.{consumer-at, head-placed, head-record-linked}
+use Rattle.progress.specs.Count.{count-less, count-below, scaled, scaled-less, triangle-less}
+use Rattle.progress.specs.Measure.{rank, firstHandled, along, dequeueAt, dequeueLeft}
 use Rattle.progress.specs.Leaves.{each-need, each-up-to, each-inside, each-cross}
 use Rattle.progress.specs.Lowers.{Lowers, refused-lowers, goes-lowers, empty-lowers, item-lowers}
 
@@ -129,10 +128,10 @@ module _ (z : Sizes) (σ : Reader) (γ : Ghost) (good : Good z σ γ) where
           ∙ ap codeOf (good .model .entries .gone-below (z .B * j + 0) below)
 
   -- Its retirement leaves fewer of those.
-  begun-less : (h : ℕ) (ws : List Write) → σ (used h) ≡ 2 → σ (state h 0) ≡ 2
+  fewer-first-handled : (h : ℕ) (ws : List Write) → σ (used h) ≡ 2 → σ (state h 0) ≡ 2
       → ((r : ℕ) → after σ ws (used r) ≡ cond (eqb h r) 3 (σ (used r))) → ((r : ℕ) → after σ ws (state r 0) ≡ σ (state r 0))
-      → begun z (after σ ws) < begun z σ
-  begun-less h ws u d uses states =
+      → firstHandled z (after σ ws) < firstHandled z σ
+  fewer-first-handled h ws u d uses states =
       count-less (z .N) _ _ (λ r l b. weaker r (ℕ-discrete h r) b) h (linked-most z σ γ good h u) fails
       (and-true (eq-eqb (σ (used h)) 2 u) (eq-eqb (σ (state h 0)) 2 d))
     where
@@ -186,16 +185,16 @@ module _ (z : Sizes) (σ : Reader) (γ : Ghost) (good : Good z σ γ) where
           (omega (
             arith,
             fewer,
-            scaled-less (suc (z .B)) (begun z (after σ ws)) (begun z σ) fewer,
-            scaled (suc (2 * z .B)) (z .N + begun z (after σ ws)) (z .N + begun z σ) (omega (arith, fewer)),
+            scaled-less (suc (z .B)) (firstHandled z (after σ ws)) (firstHandled z σ) fewer,
+            scaled (suc (2 * z .B)) (z .N + firstHandled z (after σ ws)) (z .N + firstHandled z σ) (omega (arith, fewer)),
             ap (λ (y : ℕ). z .B * y) x,
           ))
         where
           ws : List Write
           ws = headRecord := suc n ∷ headPosition := z .B * j ∷ used h := 3 ∷ []
 
-          fewer : begun z (after σ ws) < begun z σ
-          fewer = begun-less h ws (head-record-linked z σ γ good h q) (first-handled h q d) (λ r. refl) (λ r. refl)
+          fewer : firstHandled z (after σ ws) < firstHandled z σ
+          fewer = fewer-first-handled h ws (head-record-linked z σ γ good h q) (first-handled h q d) (λ r. refl) (λ r. refl)
 
   -- 2.
   read-lowers : σ consumerPhase ≡ 2 → Lowers z σ 0 (readTail z σ)
@@ -208,7 +207,7 @@ module _ (z : Sizes) (σ : Reader) (γ : Ghost) (good : Good z σ γ) where
       from-to 2 3 hp lo (suc hp) lo f g (cursorRecord := σ headRecord ∷ cursorPosition := suc hp ∷ consumerPhase := 3 ∷ []) e refl refl refl refl refl refl refl (λ x. omega arith)
       (omega (
         arith,
-        scaled (suc (2 * z .B)) (z .N - rank z σ lo + begun z σ) (z .N + begun z σ) (omega arith),
+        scaled (suc (2 * z .B)) (z .N - rank z σ lo + firstHandled z σ) (z .N + firstHandled z σ) (omega arith),
         good .model .places .head-from,
         ap (λ (x : ℕ). z .B * x) (head-placed z σ γ good),
         two,
@@ -248,7 +247,7 @@ module _ (z : Sizes) (σ : Reader) (γ : Ghost) (good : Good z σ γ) where
       from-to 3 3 hp lo (z .B * j) (suc j) f g (cursorRecord := suc n ∷ cursorPosition := z .B * j ∷ []) e e refl refl refl x refl refl (λ y. omega arith)
       (omega (
         arith,
-        scaled-less (suc (2 * z .B)) (z .N - rank z σ (suc j) + begun z σ) (z .N - rank z σ k + begun z σ) (omega (arith, on .0, ranked r q)),
+        scaled-less (suc (2 * z .B)) (z .N - rank z σ (suc j) + firstHandled z σ) (z .N - rank z σ k + firstHandled z σ) (omega (arith, on .0, ranked r q)),
       )))))
       (λ b.
       by-cond (Lowers z σ 0) (eqb c (σ tail)) _ _ (λ d. ends-empty)
@@ -278,7 +277,7 @@ module _ (z : Sizes) (σ : Reader) (γ : Ghost) (good : Good z σ γ) where
         arith,
         two,
         triangle-less (along z σ c k) (z .N * suc (z .B)) (rw (placed r q) (along-less r c (linked r q) l)),
-        scaled (suc (2 * z .B)) 1 (z .N - rank z σ k + begun z σ) (omega (arith, ranked r q)),
+        scaled (suc (2 * z .B)) 1 (z .N - rank z σ k + firstHandled z σ) (omega (arith, ranked r q)),
       )))
       (λ b.
       each-up-to (Lowers z σ 0) (refused-lowers z σ 0) (z .M) (suc c) _

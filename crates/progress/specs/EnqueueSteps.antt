@@ -2,19 +2,19 @@
 use mathlib.Core.Path.{_≡_, refl, ap, sym, _∙_}
 use mathlib.Core.Logic.{inl, inr, ⊎-elim, _≢_}
 use mathlib.Core.Bool.{Bool, true, false, _&&_, cond, and-false}
-use mathlib.Core.List.{List, [], _∷_, _++_}
+use mathlib.Core.List.{List, [], _∷_}
 use Prim.Native.Nat.{ℕ, zero, suc, _+_, _-_, _*_, _≤_, _<_}
 use native.Mathlib.Nat.{mul-suc}
 use native.Mathlib.Decide.{ℕ-discrete}
 use native.Mathlib.Omega.{arith}
 use lib.Dec.{leb, ltb, eqb}
 use lib.ListN.{getD}
-use borrow.Author.Tests.{eq-eqb, ne-eqb, eqb-true, eqb-false, leb-true, leb-false, lt-ltb, le-ltb, ltb-true, ltb-false}
+use borrow.Author.Tests.{eq-eqb, ne-eqb, eqb-true, eqb-false, leb-true, leb-false, lt-ltb, le-ltb, ltb-true}
 use Rattle.rules.specs.Sizes.{Sizes}
 use Rattle.rules.specs.Cell.{Reader, Write, _:=_, clearProducer, tail, tailRecord, phase, position, held, claimed, backed, place, next, prev, used, state, entryNumber, entryValue, call, value}
 use Rattle.rules.specs.Update.{after, both, and-true}
 use Rattle.rules.specs.Range.{record-number}
-use Rattle.rules.specs.Rule.{Effect, Reply, refuse, reply, ok, started, going, ended, empty, item, goes, index}
+use Rattle.rules.specs.Rule.{refuse, reply, ended, goes, index}
 use Rattle.rules.specs.Producer.{choose, takePosition, loadTail, lookNext, claim, claimRecord, linked, linkClaimed, shiftTail, goBack, writeEntry, setEntry, claimAhead, linkAhead, producerRules, producerStep}
 use Rattle.model.specs.State.{behind}
 use Rattle.model.specs.Walking.{producer-clause}
@@ -23,14 +23,14 @@ use Rattle.model.specs.Count.{take-room}
 use Rattle.memory.specs.Memory.{Holdable, Memory, held-is, claimed-is, rowOf}
 use Rattle.memory.specs.Loose.{Loose, LooseChoice}
 use Rattle.memory.specs.Claiming.{claimWrites}
-use Rattle.simulation.specs.View.{Ghost, placesOf, placeOf, producerAt, producersOf, view}
-use Rattle.simulation.specs.Good.{Good, by-need, by-cond}
+use Rattle.simulation.specs.View.{Ghost, placesOf, placeOf, producerAt, view}
+use Rattle.simulation.specs.Good.{Good, by-cond}
 use Rattle.simulation.specs.Limits.{limits}
 use Rattle.simulation.specs.Rows.{has-sort}
 use Rattle.simulation.specs.ProducerSteps.{seen-at}
 use Rattle.simulation.specs.RecordSteps.{place-same}
 use Rattle.progress.specs.Count.{count, count-less, count-below, scaled}
-use Rattle.progress.specs.Measure.{loading, enqueueAt, enqueueLeft}
+use Rattle.progress.specs.Measure.{loadSteps, enqueueAt, enqueueLeft}
 use Rattle.progress.specs.Lowers.{Lowers, refused-lowers, goes-lowers, ended-lowers}
 use Rattle.progress.specs.Leaves.{each-need, each-up-to, each-inside}
 
@@ -210,7 +210,7 @@ module _ (z : Sizes) (σ : Reader) (γ : Ghost) (good : Good z σ γ) (p : ℕ) 
       from-to 6 2 L k tp (phase (suc p) := 2 ∷ []) e (rw self refl) refl refl refl (λ x. omega arith)
       (less tp (passed h q (eqb-false (σ tailRecord) (suc h) b)))))
     where
-      less : (j : ℕ) → suc k ≤ j → loading z σ L j < 1 + loading z σ L (suc k)
+      less : (j : ℕ) → suc k ≤ j → loadSteps z σ L j < 1 + loadSteps z σ L (suc k)
       less j l = omega (arith, scaled (z .B) (suc k) j l)
 
       clause : (k ≤ γ .shape .tp) × (k < γ .shape .hi)

@@ -27,8 +27,8 @@ module _ (z : Sizes) (σ : Reader) where
   recordsBack L k = count (z .N) (λ r. ltb L (z .B * σ (place r)) && ltb (σ (place r)) k)
 
   -- phase 2 with the tail record in place k; phases 3 to 6 with the held record in place k, once phase 6 has been made
-  abbrev pub loading : (L k : ℕ) → ℕ
-  loading L k = 5 * positionsAhead L k + z .N + 4
+  abbrev pub loadSteps : (L k : ℕ) → ℕ
+  loadSteps L k = 5 * positionsAhead L k + z .N + 4
 
   -- by its phase, position, the place of the held and of the tail record
   abbrev pub enqueueAt : (p L k tp : ℕ) → ℕ
@@ -36,11 +36,11 @@ module _ (z : Sizes) (σ : Reader) where
       getD
       (0
       ∷ (5 * z .P + z .N + 5)
-      ∷ loading L tp
-      ∷ (4 + loading L (suc k))
-      ∷ (3 + loading L (suc k))
-      ∷ (2 + loading L (suc k))
-      ∷ (1 + loading L (suc k))
+      ∷ loadSteps L tp
+      ∷ (4 + loadSteps L (suc k))
+      ∷ (3 + loadSteps L (suc k))
+      ∷ (2 + loadSteps L (suc k))
+      ∷ (1 + loadSteps L (suc k))
       ∷ (4 + recordsBack L k)
       ∷ 4
       ∷ 3
@@ -58,8 +58,8 @@ module _ (z : Sizes) (σ : Reader) where
   abbrev pub rank : (k : ℕ) → ℕ
   rank k = count (z .N) (λ r. eqb (σ (used r)) 2 && ltb (σ (place r)) k)
 
-  abbrev pub begun : ℕ
-  begun = count (z .N) (λ r. eqb (σ (used r)) 2 && eqb (σ (state r 0)) 2)
+  abbrev pub firstHandled : ℕ
+  firstHandled = count (z .N) (λ r. eqb (σ (used r)) 2 && eqb (σ (state r 0)) 2)
 
   -- the steps of a rescan from the first linked record's beginning to position p in the record of place k: one for each entry and
   -- each crossing
@@ -72,25 +72,25 @@ module _ (z : Sizes) (σ : Reader) where
 
   -- phase 4, 3 with one more: a scan from position c in the record of place k, two steps for each entry and one for each crossing,
   -- and the rescans
-  abbrev pub looking : (c k : ℕ) → ℕ
-  looking c k = suc (2 * z .B) * (z .N - rank k + begun) + 2 * (z .B * k - c) + rescans
+  abbrev pub lookSteps : (c k : ℕ) → ℕ
+  lookSteps c k = suc (2 * z .B) * (z .N - rank k + firstHandled) + 2 * (z .B * k - c) + rescans
 
   -- phase 2
-  abbrev pub reading : ℕ
-  reading = suc (2 * z .B) * (z .N + begun) + 2 * z .B + rescans
+  abbrev pub readSteps : ℕ
+  readSteps = suc (2 * z .B) * (z .N + firstHandled) + 2 * z .B + rescans
 
   -- phase 1 with the head at position hp in the record of place lo: handled entries are passed, and records of those
-  abbrev pub fronting : (hp lo : ℕ) → ℕ
-  fronting hp lo = suc (z .B) * begun + (z .B * lo - hp) + 1 + reading
+  abbrev pub frontSteps : (hp lo : ℕ) → ℕ
+  frontSteps hp lo = suc (z .B) * firstHandled + (z .B * lo - hp) + 1 + readSteps
 
   -- phase 5 with the cursor at c in the record of place k, found at f in that of place g
-  abbrev pub rescanning : (c k f g : ℕ) → ℕ
-  rescanning c k f g = triangle (along f g) + (along f g - along c k) + 3
+  abbrev pub rescanSteps : (c k f g : ℕ) → ℕ
+  rescanSteps c k f g = triangle (along f g) + (along f g - along c k) + 3
 
   -- by its phase, the head, the cursor and found
   abbrev pub dequeueAt : (p hp lo c k f g : ℕ) → ℕ
   dequeueAt p hp lo c k f g =
-      getD (0 ∷ fronting hp lo ∷ reading ∷ suc (looking c k) ∷ looking c k ∷ rescanning c k f g ∷ 3 ∷ 2 ∷ 1 ∷ []) p 0
+      getD (0 ∷ frontSteps hp lo ∷ readSteps ∷ suc (lookSteps c k) ∷ lookSteps c k ∷ rescanSteps c k f g ∷ 3 ∷ 2 ∷ 1 ∷ []) p 0
 
   unfoldable pub dequeueLeft : ℕ
   dequeueLeft =

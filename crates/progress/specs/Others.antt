@@ -1,6 +1,5 @@
 -- What another thread's call leaves of a call's steps: no more than before.
 use mathlib.Core.Path.{_≡_, refl, ap, sym, _∙_, subst}
-use mathlib.Core.Bool.{true, _&&_}
 use Prim.Native.Nat.{ℕ, zero, suc, _+_, _-_, _*_, _≤_, _<_}
 use native.Mathlib.Decide.{decLe}
 use native.Mathlib.Omega.{arith}
@@ -18,7 +17,7 @@ use Rattle.simulation.specs.Limits.{limits}
 use Rattle.simulation.specs.ProducerSteps.{seen-at}
 use Rattle.simulation.specs.ConsumerSteps.{head-placed}
 use Rattle.progress.specs.Count.{count-grows, count-same, scaled}
-use Rattle.progress.specs.Measure.{positionsAhead, recordsBack, enqueueAt, enqueueLeft, rank, begun, reading, dequeueAt, dequeueLeft}
+use Rattle.progress.specs.Measure.{positionsAhead, recordsBack, enqueueAt, enqueueLeft, rank, firstHandled, readSteps, dequeueAt, dequeueLeft}
 
 -- the entry of a state
 pub is-gone : (e : Entry) → codeOf e ≡ 2 → e ≡ gone
@@ -105,7 +104,7 @@ module _ (z : Sizes) (σ σ′ : Reader) (γ γ′ : Ghost) (good : Good z σ γ
         let w = stays-linked r (eqb-true (σ (used r)) 2 (b .0)) in
         and-true (eq-eqb (σ′ (used r)) 2 (w .0)) (lt-ltb (σ′ (place r)) k (omega (arith, w .1))))
 
-    fewer : begun z σ′ ≤ begun z σ
+    fewer : firstHandled z σ′ ≤ firstHandled z σ
     fewer =
         count-grows (z .N) _ _
         (λ r n p.
@@ -113,15 +112,15 @@ module _ (z : Sizes) (σ σ′ : Reader) (γ γ′ : Ghost) (good : Good z σ γ
         let w = was-handled r (eqb-true (σ′ (used r)) 2 (b .0)) (eqb-true (σ′ (state r 0)) 2 (b .1)) in
         and-true (eq-eqb (σ (used r)) 2 (w .0)) (eq-eqb (σ (state r 0)) 2 (w .1)))
 
-    reads-less : reading z σ′ ≤ reading z σ
-    reads-less = omega (arith, scaled (suc (2 * z .B)) (z .N + begun z σ′) (z .N + begun z σ) (omega (arith, fewer)))
+    reads-less : readSteps z σ′ ≤ readSteps z σ
+    reads-less = omega (arith, scaled (suc (2 * z .B)) (z .N + firstHandled z σ′) (z .N + firstHandled z σ) (omega (arith, fewer)))
 
     at-phase : (p hp lo c k f g : ℕ) → k ≤ γ .shape .hi → g ≤ γ .shape .hi → dequeueAt z σ′ p hp lo c k f g ≤ dequeueAt z σ p hp lo c k f g
     at-phase zero hp lo c k f g a b = omega arith
-    at-phase (suc zero) hp lo c k f g a b = omega (arith, reads-less, scaled (suc (z .B)) (begun z σ′) (begun z σ) fewer)
+    at-phase (suc zero) hp lo c k f g a b = omega (arith, reads-less, scaled (suc (z .B)) (firstHandled z σ′) (firstHandled z σ) fewer)
     at-phase (suc (suc zero)) hp lo c k f g a b = reads-less
-    at-phase (suc (suc (suc zero))) hp lo c k f g a b = rw (ranks k a) (omega (arith, scaled (suc (2 * z .B)) (z .N - rank z σ k + begun z σ′) (z .N - rank z σ k + begun z σ) (omega (arith, fewer))))
-    at-phase (suc (suc (suc (suc zero)))) hp lo c k f g a b = rw (ranks k a) (omega (arith, scaled (suc (2 * z .B)) (z .N - rank z σ k + begun z σ′) (z .N - rank z σ k + begun z σ) (omega (arith, fewer))))
+    at-phase (suc (suc (suc zero))) hp lo c k f g a b = rw (ranks k a) (omega (arith, scaled (suc (2 * z .B)) (z .N - rank z σ k + firstHandled z σ′) (z .N - rank z σ k + firstHandled z σ) (omega (arith, fewer))))
+    at-phase (suc (suc (suc (suc zero)))) hp lo c k f g a b = rw (ranks k a) (omega (arith, scaled (suc (2 * z .B)) (z .N - rank z σ k + firstHandled z σ′) (z .N - rank z σ k + firstHandled z σ) (omega (arith, fewer))))
     at-phase (suc (suc (suc (suc (suc zero))))) hp lo c k f g a b = rw (ranks k a, ranks g b) (omega arith)
     at-phase (suc (suc (suc (suc (suc (suc zero)))))) hp lo c k f g a b = omega arith
     at-phase (suc (suc (suc (suc (suc (suc (suc zero))))))) hp lo c k f g a b = omega arith

@@ -1,8 +1,8 @@
 -- Along every call, the steps that a call has made and those that it has left stay within its number; so no step is refused for its count,
 -- and the count is the number of accepted steps that were made.
-use mathlib.Core.Path.{_≡_, refl, ap, sym, _∙_, subst, subst⁻¹}
+use mathlib.Core.Path.{_≡_, refl, ap, _∙_, subst, subst⁻¹}
 use mathlib.Core.Logic.{_≢_}
-use mathlib.Core.Bool.{Bool, true, false, _||_, not, cond}
+use mathlib.Core.Bool.{_||_, not}
 use mathlib.Core.List.{List, [], _∷_, _++_, append-nil}
 use Prim.Native.Nat.{ℕ, zero, suc, _+_, _≤_, _<_}
 use native.Mathlib.Decide.{ℕ-discrete}
@@ -15,7 +15,7 @@ use Rattle.rules.specs.Update.{after, countOf, count-is, neither}
 use Rattle.rules.specs.Rule.{Effect, Reply, refuse, reply, accepted, ok, started, going, ended, empty, item, upTo}
 use Rattle.rules.specs.Producer.{producerStep}
 use Rattle.rules.specs.Consumer.{consumerStep}
-use Rattle.rules.specs.Request.{Request, startEnqueue, startDequeue, step, startingEnqueue, startingDequeue, phaseStep, countKept, counted, stepping}
+use Rattle.rules.specs.Request.{Request, startEnqueue, startDequeue, step, startingEnqueue, startingDequeue, phaseStep, counted, stepping}
 use Rattle.rules.specs.Play.{threadOf, oneMore, stepsWith}
 use Rattle.memory.specs.Loose.{LooseChoice}
 use Rattle.simulation.specs.View.{Ghost}

@@ -149,9 +149,9 @@ module _ (w : List ℕ) (four : length w ≡ 4) where
       rw (ne-eqb n 100 (λ e. omega arith), ne-eqb n 101 (λ e. omega arith), ne-eqb n 102 (λ e. omega arith), ne-eqb n 103 (λ e. omega arith)) refl
   says-is (step t) (accepted ok k) h = absurd (omega arith)
   says-is (step t) (accepted (started n) k) h = absurd (omega arith)
-  says-is (step t) (accepted going k) h = rw (steps-at k) refl
-  says-is (step t) (accepted ended k) h = rw (steps-at k) refl
-  says-is (step t) (accepted empty k) h = rw (steps-at k) refl
+  says-is (step t) (accepted going k) h = ap (accepted going) (steps-at k)
+  says-is (step t) (accepted ended k) h = ap (accepted ended) (steps-at k)
+  says-is (step t) (accepted empty k) h = ap (accepted empty) (steps-at k)
   says-is (step t) (accepted (item n v) k) h = rw (item-number-at n v k, item-value-at n v k, item-steps-at n v k) refl
 
 -- So an exchange that meets its export's contract is a call that meets the rules.

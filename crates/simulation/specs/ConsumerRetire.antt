@@ -28,7 +28,7 @@ use Rattle.model.specs.Settling.{settle-keeps}
 use Rattle.memory.specs.Memory.{Memory}
 use Rattle.memory.specs.Retiring.{retireWrites, retire-keeps}
 use Rattle.simulation.specs.View.{Ghost, consumerOf, view, codeOf}
-use Rattle.simulation.specs.Good.{Good, Goes, Fine, untold, told, places-stay, by-need}
+use Rattle.simulation.specs.Good.{Good, Goes, Fine, untold, places-stay, by-need}
 use Rattle.simulation.specs.Rows.{of-sort, has-sort}
 use Rattle.simulation.specs.OwnWords.{later, consumer-keeps-good}
 use Rattle.simulation.specs.ConsumerSteps.{consumer-at, head-record-linked, head-record-placed, by-cross, resting-in-range}

@@ -1,9 +1,12 @@
 -- `engine::count_step` meets its contract.
 use mathlib.Core.Path.{refl}
+use Prim.Native.Nat.{_<_}
 use native.Mathlib.Numerals.{add-one}
+use native.Mathlib.Omega.{arith}
 use borrow.Author.Needs.{needs}
 use borrow.Author.Tests.{lt-ltb}
 use denote.Ref.{now}
+use Rattle.rules.specs.Sizes.{mostSteps}
 use Rattle.rules.specs.Cell.{reader, stepCount}
 use Rattle.rules.specs.Free.{nextFree}
 use Rattle.rules.specs.Request.{applied, phaseStep, counted, stepping, effect}
@@ -49,8 +52,8 @@ unfolding effect stepping
 returns-3 c =
     let told = c .before .before .before .before .enum-told in
     let stepped = c .before .before .before .before .before .before .before .before .step-thread in
-    let below = c .before .before .before .before .before .before .before .before .before .before .if2 .left in
     let count = c .before .before .before .before .before .before .before .before .before .before .before .step-count in
+    let below : count .result < mostSteps = omega (arith, c .before .before .before .before .before .before .before .before .before .before .if2 .left) in
     let a = c .before .before .before .before .before .before .before .before .before .before .before .before .before .before .before .before .args in
     let z = sizes (a .z) in
     let σ = reader z (now (a .s)) in
@@ -64,8 +67,8 @@ returns-4 : tie.Need-returns-4
 unfolding effect stepping
 returns-4 c =
     let stepped = c .before .before .before .step-thread in
-    let below = c .before .before .before .before .before .if2 .left in
     let count = c .before .before .before .before .before .before .step-count in
+    let below : count .result < mostSteps = omega (arith, c .before .before .before .before .before .if2 .left) in
     let a = c .before .before .before .before .before .before .before .before .before .before .before .args in
     let z = sizes (a .z) in
     let σ = reader z (now (a .s)) in
