@@ -19,7 +19,7 @@ use Rattle.rules.specs.Refusal.{accepted-not-refused}
 use Rattle.simulation.specs.Good.{Refusable}
 use Rattle.simulation.specs.Every.{effect-is, next-choice}
 use Rattle.simulation.specs.Opened.{openReader}
-use Rattle.progress.specs.Count.{triangle, triangle-is}
+use Rattle.progress.specs.Arithmetic.{triangle, triangle-is}
 use Rattle.progress.specs.Measure.{phaseOf}
 use Rattle.progress.specs.Bounds.{mostLeft, some-left}
 use Rattle.progress.specs.Paced.{Keeps, call-keeps, accepted-busy}
@@ -51,11 +51,11 @@ module _ {z : Sizes} {p : Played} (k : Maintained z p) (q : Request) (t n : ℕ)
       (call-keeps z σ (k .beside) (k .good) (k .paced) (nextFree z σ) (next-choice z σ (k .beside) (k .good)) q)))
 
 -- All of them.
-record Counted (z : Sizes) (p : Played) (t n : ℕ) : Type 0 where
+record Tallied (z : Sizes) (p : Played) (t n : ℕ) : Type 0 where
   maintained : Maintained z p
   tally : Tally z p t n
 
-counts-along : {z : Sizes} (qs : List Request) {p : Played} (t n : ℕ) → Counted z p t n → Counted z (play qs p) t (stepsMade t qs p n)
+counts-along : {z : Sizes} (qs : List Request) {p : Played} (t n : ℕ) → Tallied z p t n → Tallied z (play qs p) t (stepsMade t qs p n)
 unfolding play stepsMade
 counts-along [] t n c = c
 counts-along (q ∷ qs) {p} t n c =
@@ -67,7 +67,7 @@ same-steps : {r s : Reply} {j k : ℕ} → accepted r j ≡ accepted s k → (r 
 same-steps e = (cc, cc)
 
 -- A further step of thread t that was accepted.
-module _ {z : Sizes} {p : Played} {t n : ℕ} (c : Counted z p t n) (r : Reply) (k : ℕ) (e : result (step t) (p .words) .reply ≡ accepted r k) where
+module _ {z : Sizes} {p : Played} {t n : ℕ} (c : Tallied z p t n) (r : Reply) (k : ℕ) (e : result (step t) (p .words) .reply ≡ accepted r k) where
   abbrev τ : Reader
   τ = reader z (p .words)
 
@@ -119,14 +119,14 @@ module _ {z : Sizes} {p : Played} {t n : ℕ} (c : Counted z p t n) (r : Reply) 
 
 -- After an open no call is under way.
 module _ (z : Sizes) (m : List ℕ) (opens : open-store z m .reply ≡ accepted ok 0) (t : ℕ) where
-  at-open : Counted z (openedPlay z m) t 0
+  at-open : Tallied z (openedPlay z m) t 0
   at-open = record { maintained = opened-kept z m opens; tally = subst⁻¹ (λ (σ : Reader). t ≤ z .P → σ (phaseOf t) ≢ 0 → σ (countOf t) ≡ 0) (opened-cells z m opens) (none t) }
     where
       none : (t : ℕ) → t ≤ z .P → openReader z (phaseOf t) ≢ 0 → openReader z (countOf t) ≡ 0
       none zero l busy = refl
       none (suc x) l busy = refl
 
-  after-list : (requests : List Request) → Counted z (play requests (openedPlay z m)) t (stepsMade t requests (openedPlay z m) 0)
+  after-list : (requests : List Request) → Tallied z (play requests (openedPlay z m)) t (stepsMade t requests (openedPlay z m) 0)
   after-list requests = counts-along requests t 0 at-open
 
 -- The count in a reply is the number of accepted steps in the list.

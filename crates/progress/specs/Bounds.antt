@@ -16,7 +16,7 @@ use Rattle.simulation.specs.View.{Ghost, placesOf, placeOf}
 use Rattle.simulation.specs.Good.{Good}
 use Rattle.simulation.specs.Limits.{limits}
 use Rattle.simulation.specs.ConsumerSteps.{head-placed}
-use Rattle.progress.specs.Count.{count-most, scaled, product, triangle, triangle-is, triangle-less}
+use Rattle.progress.specs.Arithmetic.{count-most, scaled, product, triangle, triangle-is, triangle-less}
 use Rattle.progress.specs.Measure.{phaseOf, firstHandled, enqueueAt, enqueueLeft, dequeueAt, dequeueLeft, stepsLeft}
 
 -- By the thread: a dequeue's, and an enqueue's.

@@ -23,7 +23,7 @@ use Rattle.simulation.specs.Good.{Good, by-cond}
 use Rattle.simulation.specs.Limits.{limits}
 use Rattle.simulation.specs.ConsumerCursor.{linked-most}
 use Rattle.simulation.specs.ConsumerSteps.{consumer-at, head-placed, head-record-linked}
-use Rattle.progress.specs.Count.{count-less, count-below, scaled, scaled-less, triangle-less}
+use Rattle.progress.specs.Arithmetic.{count-less, count-below, scaled, scaled-less, triangle-less}
 use Rattle.progress.specs.Measure.{rank, firstHandled, along, dequeueAt, dequeueLeft}
 use Rattle.progress.specs.Leaves.{each-need, each-up-to, each-inside, each-cross}
 use Rattle.progress.specs.Lowers.{Lowers, refused-lowers, goes-lowers, empty-lowers, item-lowers}

@@ -29,7 +29,7 @@ use Rattle.simulation.specs.Limits.{limits}
 use Rattle.simulation.specs.Rows.{has-sort}
 use Rattle.simulation.specs.ProducerSteps.{seen-at}
 use Rattle.simulation.specs.RecordSteps.{place-same}
-use Rattle.progress.specs.Count.{count, count-less, count-below, scaled}
+use Rattle.progress.specs.Arithmetic.{count-less, count-below, count-some, scaled}
 use Rattle.progress.specs.Measure.{loadSteps, enqueueAt, enqueueLeft}
 use Rattle.progress.specs.Lowers.{Lowers, refused-lowers, goes-lowers, ended-lowers}
 use Rattle.progress.specs.Leaves.{each-need, each-up-to, each-inside}
@@ -39,10 +39,6 @@ enqueue-is : (z : Sizes) (σ : Reader) (t p L k tp : ℕ) → σ (phase t) ≡ p
     → placeOf (placesOf σ) (σ tailRecord) ≡ tp → enqueueLeft z σ t ≡ enqueueAt z σ p L k tp
 unfolding enqueueLeft
 enqueue-is z σ t p L k tp a b c d = rw (a, b, c, d) refl
-
--- a record that is counted
-count-some : (n : ℕ) (p : ℕ → Bool) (j : ℕ) → j < n → p j ≡ true → 1 ≤ count n p
-count-some n p j l e = omega (arith, count-less n (λ k. false) p (λ k h x. absurd (let y : _≡_ {A = ℕ} 0 1 = cc in omega arith)) j l refl e)
 
 module _ (z : Sizes) (σ : Reader) (γ : Ghost) (good : Good z σ γ) (p : ℕ) (there : (1 ≤ suc p) × (suc p ≤ z .P)) where
   self : eqb (suc p) (suc p) ≡ true

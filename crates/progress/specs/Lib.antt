@@ -1,4 +1,4 @@
-pub mod Count
+pub mod Arithmetic
 pub mod Measure
 pub mod Others
 pub mod Leaves

@@ -9,7 +9,7 @@ use lib.ListN.{getD}
 use Rattle.rules.specs.Sizes.{Sizes}
 use Rattle.rules.specs.Cell.{Cell, Reader, tailRecord, headRecord, headPosition, consumerPhase, cursorRecord, cursorPosition, foundRecord, foundPosition, phase, position, held, place, used, state}
 use Rattle.simulation.specs.View.{placesOf, placeOf}
-use Rattle.progress.specs.Count.{count, triangle}
+use Rattle.progress.specs.Arithmetic.{count, triangle}
 
 -- A thread's phase, 0 while it is idle.
 abbrev pub phaseOf : (t : ℕ) → Cell

@@ -16,16 +16,16 @@ use Rattle.simulation.specs.Good.{Good, Behind, Moved}
 use Rattle.simulation.specs.Limits.{limits}
 use Rattle.simulation.specs.ProducerSteps.{seen-at}
 use Rattle.simulation.specs.ConsumerSteps.{head-placed}
-use Rattle.progress.specs.Count.{count-grows, count-same, scaled}
+use Rattle.progress.specs.Arithmetic.{count-grows, count-same, scaled}
 use Rattle.progress.specs.Measure.{positionsAhead, recordsBack, enqueueAt, enqueueLeft, rank, firstHandled, readSteps, dequeueAt, dequeueLeft}
 
 -- the entry of a state
-pub is-gone : (e : Entry) → codeOf e ≡ 2 → e ≡ gone
+is-gone : (e : Entry) → codeOf e ≡ 2 → e ≡ gone
 is-gone blank q = absurd (omega arith)
 is-gone put q = absurd (omega arith)
 is-gone gone q = refl
 
-pub gone-not-blank : gone ≡ blank → ⊥
+gone-not-blank : gone ≡ blank → ⊥
 gone-not-blank e = let q : _≡_ {A = ℕ} 2 0 = ap codeOf e in omega arith
 
 module _ (z : Sizes) (σ σ′ : Reader) (γ γ′ : Ghost) (good : Good z σ γ) (good′ : Good z σ′ γ′) (t : ℕ) (moved : Moved t σ σ′ γ γ′) where

@@ -62,7 +62,7 @@ unfoldable pub play : List Request → Played → Played
 play [] p = p
 play (q ∷ qs) p = play qs (playOne q p)
 
--- The accepted steps of the call that thread t has under way, counted by the calls of a list (document 02, U3): an accepted start of t's
+-- The accepted steps of the call that thread t started last, counted by the calls of a list (document 02, U3): an accepted start of t's
 -- begins at 0, an accepted step of t's is one more. The number that a reply carries is not looked at.
 abbrev pub oneMore : Request → ℕ → ℕ
 oneMore (startEnqueue t v) k = 0

@@ -44,6 +44,10 @@ count-less (suc n) p q h j l a b = go (ℕ-discrete j n) (λ g. count-less n p q
     go (yes e) below = rw (rw e at a, rw e at b) (omega (arith, rest))
     go (no d) below = omega (arith, more (p n) (q n) (h n (omega arith)), below (omega arith))
 
+-- one that passes
+pub count-some : (n : ℕ) (p : ℕ → Bool) (j : ℕ) → j < n → p j ≡ true → 1 ≤ count n p
+count-some n p j l e = omega (arith, count-less n (λ k. false) p (λ k h x. absurd (let y : _≡_ {A = ℕ} 0 1 = cc in omega arith)) j l refl e)
+
 -- one that fails
 pub count-below : (n : ℕ) (p : ℕ → Bool) (j : ℕ) → j < n → p j ≡ false → count n p < n
 count-below n p j l a = omega (arith, count-less n p (λ k. true) (λ k g e. refl) j l a refl, count-most n (λ k. true))
