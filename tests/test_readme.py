@@ -50,7 +50,7 @@ class Readme(unittest.TestCase):
             compiling, running = (command for command in commands() if 'example' in command)
             self.run_command(compiling.replace('gcc ', 'gcc -Werror ', 1), folder)
             self.assertEqual(self.run_command(running, folder), ['call 1', 'call 1, value 700, 3 steps'])
-        self.assertIn('prints `call 1` and `call 1, value 700`.', readme())
+        self.assertIn('prints `call 1` and `call 1, value 700, 3 steps`.', readme())
 
     def test_commands(self):
         """A command of the README that fails as it is written, or ends with something else than the README says. `.ci/run` is the gate
