@@ -1,5 +1,6 @@
 """docs/CLAIMS.md against the repository: each name is declared in the file that it is cited with, each file is there, each count is so, each
-must-fail edit is named, and what the cited statements rest on is listed under "What must be believed". The other pages: each file is there.
+must-fail edit is named, and what the cited statements rest on is listed under "What must be believed". The other pages: each file is there, and
+the requests of document 02 that have landed are those of docs/CHANGES.md.
 
 A citation is a name, or several, and its file: `name` (`path`), `name`, `path` or `name` of `path`. A path without its beginning is taken
 to stand in the crate, or the folder, of the path before it. A name without a file must be cited with one elsewhere on the page."""
@@ -154,6 +155,14 @@ class Claims(unittest.TestCase):
             paths = bare_paths(text) + [token for unit in units(text) for token in re.findall(r'`([^`]*\.\w+)`', unit) if is_path(token)]
             for file in (file for path in paths for file in expand(path)):
                 self.assertTrue((ROOT / file).exists() or glob.glob(f'crates/**/{file}', root_dir=ROOT, recursive=True), f'{name}: {file}')
+
+
+    def test_landed_requests(self):
+        """A page whose list of the requests that have landed is not that of the sections of CHANGES."""
+        sections = set(re.findall(r'^## (U\d+):', page('docs/CHANGES.md'), re.M))
+        for name in ('docs/CLAIMS.md', 'docs/DECISIONS.md'):
+            listed = re.search(r'document 02 that have landed:\s([^.]*)\.', page(name))
+            self.assertEqual(set(re.findall(r'U\d+', listed[1])), sections, name)
 
 
 class Amended(unittest.TestCase):
