@@ -1,14 +1,16 @@
--- The counts are those of the list, a dequeue ends within its number, and a step is refused only to wait: proved along every list, beside
+-- The counts are those of the list, a call ends within its number, and a step is refused only to wait: proved along every list, beside
 -- demand 3.
 use mathlib.Core.Path.{_≡_, refl, ap, sym, _∙_, subst, subst⁻¹}
 use mathlib.Core.Logic.{inl, inr, _≢_}
+use mathlib.Core.Bool.{true}
 use mathlib.Core.List.{List, [], _∷_}
 use Prim.Native.Nat.{ℕ, zero, suc, _+_, _*_, _/_, _≤_, _<_}
 use native.Mathlib.Nat.{mul-div-cancel-left}
+use native.Mathlib.Decide.{ℕ-discrete}
 use native.Mathlib.Omega.{arith}
 use borrow.Author.Tests.{eq-eqb}
-use Rattle.rules.specs.Sizes.{Sizes}
-use Rattle.rules.specs.Cell.{Cell, Reader, reader, threadPhase, stepCount}
+use Rattle.rules.specs.Sizes.{Sizes, sizesInRange}
+use Rattle.rules.specs.Cell.{Cell, Reader, reader, threadPhase, phase, stepCount}
 use Rattle.rules.specs.Update.{after, countOf, count-is}
 use Rattle.rules.specs.Free.{nextFree}
 use Rattle.rules.specs.Rule.{Effect, Reply, going, refuse, reply, refused, accepted, ok}
@@ -18,13 +20,17 @@ use Rattle.rules.specs.Readback.{reader-writes}
 use Rattle.rules.specs.Refusal.{accepted-not-refused}
 use Rattle.simulation.specs.Good.{Refusable}
 use Rattle.simulation.specs.Every.{effect-is, next-choice}
+use Rattle.simulation.specs.Limits.{limits}
 use Rattle.simulation.specs.Opened.{openReader}
-use Rattle.progress.specs.Arithmetic.{triangle, triangle-is}
+use Rattle.simulation.specs.ProducerSteps.{own-words}
+use Rattle.progress.specs.Arithmetic.{triangle, triangle-is, rounds-most}
 use Rattle.progress.specs.Measure.{phaseOf}
 use Rattle.progress.specs.Bounds.{mostLeft, some-left}
+use Rattle.progress.specs.Lowers.{OfThread, enqueue-ended}
 use Rattle.progress.specs.Paced.{Keeps, call-keeps, accepted-busy}
 use Rattle.ordering.specs.Theorem.{Maintained, played, result-is, keeps, opened-kept, opened-cells}
 use Rattle.ordering.specs.Steps.{openedPlay, stepsWithThis, StepCounts, mostDequeueSteps, DequeueEnds, RefusedToWait}
+use Rattle.ordering.specs.EnqueueEnds.{mostEnqueueSteps, EnqueueEnds, fewerEnqueueSteps, EnqueueEndsSooner, CountBelow}
 
 -- The count of thread t's call, where one is under way, is n.
 abbrev Tally : Sizes → Played → (t n : ℕ) → Type 0
@@ -79,6 +85,7 @@ module _ {z : Sizes} {p : Played} {t n : ℕ} (c : Tallied z p t n) (r : Reply) 
     there : t ≤ z .P
     busy : τ (phaseOf t) ≢ 0
     number : k ≡ suc (τ (countOf t))
+    of-thread : OfThread t r
     goes-on : r ≡ going → suc (τ (countOf t)) < mostLeft z t
 
   is-accepted : Accepted
@@ -97,6 +104,7 @@ module _ {z : Sizes} {p : Played} {t n : ℕ} (c : Tallied z p t n) (r : Reply) 
           record {
             there = by .0;
             busy = by .1;
+            of-thread = subst (OfThread t) (same-steps d .0) (by .2);
             number = sym (same-steps d .1) ∙ ap (λ (x : Cell). suc (τ x)) (count-is t);
             goes-on =
                 λ i.
@@ -145,6 +153,45 @@ pub dequeue-ends : DequeueEnds
 dequeue-ends z m requests opens r k e =
     let w = within (after-list z m opens 0 requests) r k e in
     (subst (λ (x : ℕ). stepsWithThis z m requests 0 ≤ x) (most-is z) (w .0), λ last. w .1 (last ∙ sym (most-is z)))
+
+-- An enqueue ends within its number, and so within document 02's.
+fewer-is : (z : Sizes) (t : ℕ) → 1 ≤ t → mostLeft z t ≡ fewerEnqueueSteps z
+fewer-is z zero l = absurd (omega arith)
+fewer-is z (suc p) l = omega arith
+
+fewer-within : (z : Sizes) → sizesInRange z ≡ true → fewerEnqueueSteps z < mostEnqueueSteps z
+fewer-within z e = let l = limits z e in omega (arith, l .two-records, rounds-most (z .B) (z .P) (omega (arith, l .two-entries)))
+
+pub enqueue-ends-sooner : EnqueueEndsSooner
+enqueue-ends-sooner z m requests opens t r k l e =
+    let c = after-list z m opens t requests in
+    let w = within c r k e in
+    (omega (arith, w .0, fewer-is z t l), λ last. enqueue-ended t l r (is-accepted c r k e .of-thread) (w .1 (last ∙ sym (fewer-is z t l))))
+
+pub enqueue-ends : EnqueueEnds
+enqueue-ends z m requests opens t r k l e =
+    let sooner : stepsWithThis z m requests t ≤ fewerEnqueueSteps z = enqueue-ends-sooner z m requests opens t r k l e .0 in
+    let less : fewerEnqueueSteps z < mostEnqueueSteps z = fewer-within z (after-list z m opens t requests .maintained .good .sizes) in
+    (omega arith, λ last. absurd (omega arith))
+
+-- Word 7, of a call under way or not.
+module _ {z : Sizes} {p : Played} (k : Maintained z p) where
+  count-less-than : (t : ℕ) → 1 ≤ t → t ≤ z .P → reader z (p .words) (stepCount t) < fewerEnqueueSteps z
+  count-less-than zero l there = absurd (omega arith)
+  count-less-than (suc x) l there = go (ℕ-discrete (σ (phase (suc x))) 0)
+    where
+      σ : Reader
+      σ = reader z (p .words)
+
+      count : σ (stepCount (suc x)) ≡ σ (countOf (suc x))
+      count = ap σ (count-is (suc x))
+
+      go : Dec (σ (phase (suc x)) ≡ 0) → σ (stepCount (suc x)) < fewerEnqueueSteps z
+      go (yes idle) = omega (arith, count, own-words z σ (k .beside) (k .good) (suc x) (omega arith, there) 0 idle .steps)
+      go (no busy) = omega (arith, count, k .paced (suc x) there busy, some-left z σ (k .beside) (k .good) (suc x) there busy, fewer-is z (suc x) l)
+
+pub count-below : CountBelow
+count-below z m requests opens t = count-less-than (after-list z m opens t requests .maintained) t
 
 -- A step of a call under way is refused only with 8.
 module _ {z : Sizes} {p : Played} (k : Maintained z p) (t n : ℕ) (there : t ≤ z .P) (busy : reader z (p .words) (threadPhase t) ≢ 0) where

@@ -4,4 +4,5 @@ pub mod MarkedRuns
 pub mod SameWords
 pub mod AnyClaims
 pub mod Steps
+pub mod EnqueueEnds
 pub mod Counting

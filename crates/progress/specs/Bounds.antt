@@ -1,28 +1,29 @@
 -- The most steps that a call has left at its start, and that they fit a thread's word.
 use mathlib.Core.Path.{_≡_, refl, ap}
 use mathlib.Core.Logic.{_≢_}
-use mathlib.Core.Bool.{true}
+use mathlib.Core.Bool.{Bool, true, false, cond}
 use mathlib.Core.List.{[]}
 use Prim.Native.Nat.{ℕ, zero, suc, _+_, _-_, _*_, _≤_}
+use native.Mathlib.Nat.{div-le-self}
 use native.Mathlib.Omega.{arith}
-use lib.Dec.{leb}
+use lib.Dec.{leb, eqb}
 use lib.ListN.{getD}
 use borrow.Author.Tests.{leb-true}
 use Rattle.rules.specs.Sizes.{Sizes, sizesInRange, mostSteps}
 use Rattle.rules.specs.Update.{both}
 use Rattle.rules.specs.Range.{consumerSorts, producerSorts, lastConsumerPhase, lastProducerPhase, ofSorts}
-use Rattle.rules.specs.Cell.{Reader, consumer, producer, headRecord, headPosition, consumerPhase, cursorRecord, cursorPosition, foundRecord, foundPosition, phase, position, held, tailRecord}
+use Rattle.rules.specs.Cell.{Reader, consumer, producer, headRecord, headPosition, consumerPhase, cursorRecord, cursorPosition, foundRecord, foundPosition, phase, position, held, backed, tailRecord}
 use Rattle.simulation.specs.View.{Ghost, placesOf, placeOf}
 use Rattle.simulation.specs.Good.{Good}
 use Rattle.simulation.specs.Limits.{limits}
 use Rattle.simulation.specs.ConsumerSteps.{head-placed}
 use Rattle.progress.specs.Arithmetic.{count-most, scaled, product, triangle, triangle-is, triangle-less}
-use Rattle.progress.specs.Measure.{phaseOf, firstHandled, enqueueAt, enqueueLeft, dequeueAt, dequeueLeft, stepsLeft}
+use Rattle.progress.specs.Measure.{phaseOf, mostEnqueueLeft, firstHandled, enqueueAt, enqueueLeft, dequeueAt, dequeueLeft, stepsLeft}
 
 -- By the thread: a dequeue's, and an enqueue's.
 abbrev pub mostLeft : Sizes → (t : ℕ) → ℕ
 mostLeft z zero = z .N * (5 * z .B + 3) + 3 * z .B + 1 + triangle (z .N * suc (z .B))
-mostLeft z (suc p) = 5 * z .P + z .N + 5
+mostLeft z (suc p) = mostEnqueueLeft z
 
 -- They fit a thread's word.
 pub most-fits : (z : Sizes) → sizesInRange z ≡ true → (t : ℕ) → mostLeft z t ≤ mostSteps
@@ -32,7 +33,7 @@ most-fits z e zero =
     let square : (z .N * suc (z .B)) * suc (z .N * suc (z .B)) ≤ 4160 * 4161 = product (z .N * suc (z .B)) (suc (z .N * suc (z .B))) 4160 4161 (omega arith) (omega arith) in
     let rows : z .N * (5 * z .B + 3) ≤ 64 * 323 = product (z .N) (5 * z .B + 3) 64 323 (l .most-records) (omega (arith, l .most-entries)) in
     omega (arith, triangle-is (z .N * suc (z .B)), l .most-entries)
-most-fits z e (suc p) = let l = limits z e in omega (arith, l .most-producers, l .most-records)
+most-fits z e (suc p) = let l = limits z e in omega (arith, l .most-producers, l .most-entries, l .most-records, div-le-self (z .P + z .B - 1) (z .B))
 
 module _ (z : Sizes) (σ : Reader) (γ : Ghost) (good : Good z σ γ) where
   -- at the start
@@ -73,20 +74,24 @@ module _ (z : Sizes) (σ : Reader) (γ : Ghost) (good : Good z σ γ) where
   at-dequeue (suc (suc (suc (suc (suc (suc (suc (suc zero)))))))) hp lo c k f g b l = omega arith
   at-dequeue (suc (suc (suc (suc (suc (suc (suc (suc (suc p))))))))) hp lo c k f g b l = absurd (omega arith)
 
-  at-enqueue : (p L k tp : ℕ) → p ≢ 0 → p ≤ lastProducerPhase → 1 ≤ enqueueAt z σ p L k tp
-  at-enqueue zero L k tp b l = absurd (b refl)
-  at-enqueue (suc zero) L k tp b l = omega arith
-  at-enqueue (suc (suc zero)) L k tp b l = omega arith
-  at-enqueue (suc (suc (suc zero))) L k tp b l = omega arith
-  at-enqueue (suc (suc (suc (suc zero)))) L k tp b l = omega arith
-  at-enqueue (suc (suc (suc (suc (suc zero))))) L k tp b l = omega arith
-  at-enqueue (suc (suc (suc (suc (suc (suc zero)))))) L k tp b l = omega arith
-  at-enqueue (suc (suc (suc (suc (suc (suc (suc zero))))))) L k tp b l = omega arith
-  at-enqueue (suc (suc (suc (suc (suc (suc (suc (suc zero)))))))) L k tp b l = omega arith
-  at-enqueue (suc (suc (suc (suc (suc (suc (suc (suc (suc zero))))))))) L k tp b l = omega arith
-  at-enqueue (suc (suc (suc (suc (suc (suc (suc (suc (suc (suc zero)))))))))) L k tp b l = omega arith
-  at-enqueue (suc (suc (suc (suc (suc (suc (suc (suc (suc (suc (suc zero))))))))))) L k tp b l = omega arith
-  at-enqueue (suc (suc (suc (suc (suc (suc (suc (suc (suc (suc (suc (suc p)))))))))))) L k tp b l = absurd (omega arith)
+  either : (c : Bool) {x y : ℕ} → 1 ≤ x → 1 ≤ y → 1 ≤ cond c x y
+  either true a b = a
+  either false a b = b
+
+  at-enqueue : (p L k tp h b : ℕ) → p ≢ 0 → p ≤ lastProducerPhase → 1 ≤ enqueueAt z σ p L k tp h b
+  at-enqueue zero L k tp h b busy l = absurd (busy refl)
+  at-enqueue (suc zero) L k tp h b busy l = omega arith
+  at-enqueue (suc (suc zero)) L k tp h b busy l = omega arith
+  at-enqueue (suc (suc (suc zero))) L k tp h b busy l = omega arith
+  at-enqueue (suc (suc (suc (suc zero)))) L k tp h b busy l = omega arith
+  at-enqueue (suc (suc (suc (suc (suc zero))))) L k tp h b busy l = omega arith
+  at-enqueue (suc (suc (suc (suc (suc (suc zero)))))) L k tp h b busy l = omega arith
+  at-enqueue (suc (suc (suc (suc (suc (suc (suc zero))))))) L k tp h b busy l = omega arith
+  at-enqueue (suc (suc (suc (suc (suc (suc (suc (suc zero)))))))) L k tp h b busy l = either (eqb b 0) (omega arith) (omega arith)
+  at-enqueue (suc (suc (suc (suc (suc (suc (suc (suc (suc zero))))))))) L k tp h b busy l = either (eqb b 0) (omega arith) (omega arith)
+  at-enqueue (suc (suc (suc (suc (suc (suc (suc (suc (suc (suc zero)))))))))) L k tp h b busy l = omega arith
+  at-enqueue (suc (suc (suc (suc (suc (suc (suc (suc (suc (suc (suc zero))))))))))) L k tp h b busy l = omega arith
+  at-enqueue (suc (suc (suc (suc (suc (suc (suc (suc (suc (suc (suc (suc p)))))))))))) L k tp h b busy l = absurd (omega arith)
 
   pub some-left : (t : ℕ) → t ≤ z .P → σ (phaseOf t) ≢ 0 → 1 ≤ stepsLeft z σ t
   unfolding dequeueLeft enqueueLeft
@@ -96,4 +101,4 @@ module _ (z : Sizes) (σ : Reader) (γ : Ghost) (good : Good z σ γ) where
       (placeOf (placesOf σ) (σ foundRecord)) busy (leb-true (σ consumerPhase) lastConsumerPhase (r .0))
   some-left (suc p) l busy =
       let r = both (leb (σ (phase (suc p))) lastProducerPhase) (ofSorts z (λ k. σ (producer (suc p) k)) 1 (getD producerSorts (σ (phase (suc p))) [])) (good .range .producing (suc p) (omega arith) l) in
-      at-enqueue (σ (phase (suc p))) (σ (position (suc p))) (placeOf (placesOf σ) (σ (held (suc p)))) (placeOf (placesOf σ) (σ tailRecord)) busy (leb-true (σ (phase (suc p))) lastProducerPhase (r .0))
+      at-enqueue (σ (phase (suc p))) (σ (position (suc p))) (placeOf (placesOf σ) (σ (held (suc p)))) (placeOf (placesOf σ) (σ tailRecord)) (σ (held (suc p))) (σ (backed (suc p))) busy (leb-true (σ (phase (suc p))) lastProducerPhase (r .0))

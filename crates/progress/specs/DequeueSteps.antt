@@ -150,7 +150,7 @@ module _ (z : Sizes) (σ : Reader) (γ : Ghost) (good : Good z σ γ) where
           (eq-eqb (σ (state r 0)) 2 (sym (states r) ∙ eqb-true (after σ ws (state r 0)) 2 (w .1)))
 
   ends-empty : Lowers z σ 0 endsEmpty
-  ends-empty = empty-lowers z σ 0 (clearConsumer ∷ []) refl
+  ends-empty = empty-lowers z σ (clearConsumer ∷ []) refl
 
   front-lowers : σ consumerPhase ≡ 1 → Lowers z σ 0 (front z σ)
   unfolding front
@@ -385,8 +385,8 @@ module _ (z : Sizes) (σ : Reader) (γ : Ghost) (good : Good z σ γ) where
           by-cond (Lowers z σ 0) (drainedAt z σ h (suc hp)) _ _
           (λ d.
           from-to 7 8 _ _ _ _ _ _ (state r i := 2 ∷ headPosition := suc hp ∷ foundRecord := 0 ∷ foundPosition := 0 ∷ consumerPhase := 8 ∷ []) e refl refl refl refl refl refl refl (λ x. omega arith) (omega arith))
-          (λ d. item-lowers z σ 0 _ _ (state r i := 2 ∷ headPosition := suc hp ∷ clearConsumer ∷ []) refl))))
-          (λ b. item-lowers z σ 0 _ _ (state r i := 2 ∷ clearConsumer ∷ []) refl)
+          (λ d. item-lowers z σ _ _ (state r i := 2 ∷ headPosition := suc hp ∷ clearConsumer ∷ []) refl))))
+          (λ b. item-lowers z σ _ _ (state r i := 2 ∷ clearConsumer ∷ []) refl)
 
   -- 8.
   retire-lowers : Lowers z σ 0 (retireHead z σ)
@@ -396,7 +396,7 @@ module _ (z : Sizes) (σ : Reader) (γ : Ghost) (good : Good z σ γ) where
       (λ h q.
       each-cross (Lowers z σ 0) (refused-lowers z σ 0) z σ h
       (λ n x. reply (item (σ itemNumber) (σ itemValue)) (headRecord := suc n ∷ headPosition := x ∷ used h := 3 ∷ clearConsumer ∷ []))
-      (λ n j w x. item-lowers z σ 0 _ _ (headRecord := suc n ∷ headPosition := z .B * j ∷ used h := 3 ∷ clearConsumer ∷ []) refl))
+      (λ n j w x. item-lowers z σ _ _ (headRecord := suc n ∷ headPosition := z .B * j ∷ used h := 3 ∷ clearConsumer ∷ []) refl))
 
   pub dequeue-lowers : Lowers z σ 0 (consumerStep z σ)
   unfolding consumerStep

@@ -9,7 +9,7 @@ use native.Mathlib.Decide.{ℕ-discrete}
 use native.Mathlib.Omega.{arith}
 use lib.Dec.{leb, ltb, eqb}
 use lib.ListN.{getD}
-use borrow.Author.Tests.{eq-eqb, ne-eqb, eqb-true, eqb-false, leb-true, leb-false, lt-ltb, le-ltb, ltb-true}
+use borrow.Author.Tests.{eq-eqb, ne-eqb, eqb-true, eqb-false, leb-true, leb-false, lt-ltb, le-ltb, ltb-true, le-leb}
 use Rattle.rules.specs.Sizes.{Sizes}
 use Rattle.rules.specs.Cell.{Reader, Write, _:=_, clearProducer, tail, tailRecord, phase, position, held, claimed, backed, place, next, prev, used, state, entryNumber, entryValue, call, value}
 use Rattle.rules.specs.Update.{after, both, and-true}
@@ -27,18 +27,37 @@ use Rattle.simulation.specs.View.{Ghost, placesOf, placeOf, producerAt, view}
 use Rattle.simulation.specs.Good.{Good, by-cond}
 use Rattle.simulation.specs.Limits.{limits}
 use Rattle.simulation.specs.Rows.{has-sort}
-use Rattle.simulation.specs.ProducerSteps.{seen-at}
+use Rattle.simulation.specs.ProducerSteps.{own-words, seen-at}
 use Rattle.simulation.specs.RecordSteps.{place-same}
-use Rattle.progress.specs.Arithmetic.{count-less, count-below, count-some, scaled}
-use Rattle.progress.specs.Measure.{loadSteps, enqueueAt, enqueueLeft}
+use Rattle.progress.specs.Arithmetic.{count-less, count-below, count-below-two, count-some, ahead-less, ahead-next, ahead-within, ahead-some}
+use Rattle.progress.specs.Measure.{isBetween, recordsBack, roundSteps, loadSteps, enqueueAt, enqueueLeft}
 use Rattle.progress.specs.Lowers.{Lowers, refused-lowers, goes-lowers, ended-lowers}
 use Rattle.progress.specs.Leaves.{each-need, each-up-to, each-inside}
 
 -- what an enqueue has left, by the words that say it
 enqueue-is : (z : Sizes) (σ : Reader) (t p L k tp : ℕ) → σ (phase t) ≡ p → σ (position t) ≡ L → placeOf (placesOf σ) (σ (held t)) ≡ k
-    → placeOf (placesOf σ) (σ tailRecord) ≡ tp → enqueueLeft z σ t ≡ enqueueAt z σ p L k tp
+    → placeOf (placesOf σ) (σ tailRecord) ≡ tp → enqueueLeft z σ t ≡ enqueueAt z σ p L k tp (σ (held t)) (σ (backed t))
 unfolding enqueueLeft
 enqueue-is z σ t p L k tp a b c d = rw (a, b, c, d) refl
+
+at-most-one : (b : Bool) → cond b 0 1 ≤ 1
+at-most-one true = omega arith
+at-most-one false = omega arith
+
+-- phases 8 and 9 are left, and 10 and 11 if phase 7 was never taken
+to-write : (b : ℕ) → cond (eqb b 0) 4 2 ≤ 4
+to-write b = go (eqb b 0)
+  where
+    go : (c : Bool) → cond c 4 2 ≤ 4
+    go true = omega arith
+    go false = omega arith
+
+to-set : (b : ℕ) → 1 + cond (eqb b 0) 3 1 ≡ cond (eqb b 0) 4 2
+to-set b = go (eqb b 0)
+  where
+    go : (c : Bool) → 1 + cond c 3 1 ≡ cond c 4 2
+    go true = refl
+    go false = refl
 
 module _ (z : Sizes) (σ : Reader) (γ : Ghost) (good : Good z σ γ) (p : ℕ) (there : (1 ≤ suc p) × (suc p ≤ z .P)) where
   self : eqb (suc p) (suc p) ≡ true
@@ -53,6 +72,13 @@ module _ (z : Sizes) (σ : Reader) (γ : Ghost) (good : Good z σ γ) (p : ℕ) 
   abbrev tp : ℕ
   tp = placeOf (placesOf σ) (σ tailRecord)
 
+  -- the held record, and whether phase 7 was taken
+  abbrev held-word : ℕ
+  held-word = σ (held (suc p))
+
+  abbrev back : ℕ
+  back = σ (backed (suc p))
+
   m : Memory z σ (γ .shape)
   m = good .memory
 
@@ -64,13 +90,18 @@ module _ (z : Sizes) (σ : Reader) (γ : Ghost) (good : Good z σ γ) (p : ℕ) 
       let is : γ .shape .at (γ .shape .tp) ≡ r = omega (arith, m .tail-is) in
       ap (λ (x : ℕ). σ (used x)) (sym is) ∙ m .chain .linked (γ .shape .tp) (m .head-tail) (m .tail-last)
 
-  two : 2 ≤ z .B
-  two = limits z (good .sizes) .two-entries
+  some-entries : 0 < z .B
+  some-entries = omega (arith, limits z (good .sizes) .two-entries)
+
+  -- what is left in phase b after these writes is less than in phase a
+  abbrev Fewer : (ws : List Write) (a b L′ k′ tp′ : ℕ) → Type 0
+  Fewer ws a b L′ k′ tp′ =
+      enqueueAt z (after σ ws) b L′ k′ tp′ (after σ ws (held (suc p))) (after σ ws (backed (suc p))) < enqueueAt z σ a L k tp held-word back
 
   -- a step from phase a to phase b
   from-to : (a b L′ k′ tp′ : ℕ) (ws : List Write) → σ (phase (suc p)) ≡ a → after σ ws (phase (suc p)) ≡ b → after σ ws (position (suc p)) ≡ L′
       → placeOf (placesOf (after σ ws)) (after σ ws (held (suc p))) ≡ k′ → placeOf (placesOf (after σ ws)) (after σ ws tailRecord) ≡ tp′ → b ≢ 0
-      → enqueueAt z (after σ ws) b L′ k′ tp′ < enqueueAt z σ a L k tp → Lowers z σ (suc p) (goes ws)
+      → Fewer ws a b L′ k′ tp′ → Lowers z σ (suc p) (goes ws)
   from-to a b L′ k′ tp′ ws e f g h i some less =
       goes-lowers z σ (suc p) ws (λ x. some (sym f ∙ x)) (rw (enqueue-is z σ (suc p) a L k tp e refl refl refl, enqueue-is z (after σ ws) (suc p) b L′ k′ tp′ f g h i) less)
 
@@ -81,7 +112,13 @@ module _ (z : Sizes) (σ : Reader) (γ : Ghost) (good : Good z σ γ) (p : ℕ) 
       each-up-to (Lowers z σ (suc p)) (refused-lowers z σ (suc p)) (z .M) (suc (σ tail)) _
       (λ l.
       from-to 1 2 (σ tail) k tp (position (suc p) := σ tail ∷ tail := suc (σ tail) ∷ phase (suc p) := 2 ∷ []) e (rw self refl) (rw self refl) refl refl (λ x. omega arith)
-      (omega (arith, room, ap (λ (x : ℕ). z .B * x) tail-placed)))
+      (omega (
+        arith,
+        room,
+        ahead-within (z .B) (σ tail) tp (z .P) some-entries (omega (arith, room, ap (λ (x : ℕ). z .B * x) tail-placed)),
+        ahead-some (z .B) (z .P) some-entries (omega (arith, there)),
+        at-most-one (ltb 0 held-word && leb (z .B * k) (σ tail)),
+      )))
     where
       room : σ tail < z .B * γ .shape .tp + z .P
       room =
@@ -92,9 +129,9 @@ module _ (z : Sizes) (σ : Reader) (γ : Ghost) (good : Good z σ γ) (p : ℕ) 
   -- "choose" with record r, whose place is j, held: by where it leads
   chosen : (a r j : ℕ) (ws : List Write) → σ (phase (suc p)) ≡ a → σ (place r) ≡ j → after σ ws (phase (suc p)) ≡ choose z σ (suc p) r
       → after σ ws (position (suc p)) ≡ L → placeOf (placesOf (after σ ws)) (after σ ws (held (suc p))) ≡ j → placeOf (placesOf (after σ ws)) (after σ ws tailRecord) ≡ tp
-      → (z .B * j ≤ L → enqueueAt z (after σ ws) 3 L j tp < enqueueAt z σ a L k tp)
-      → (L + z .B < z .B * j → enqueueAt z (after σ ws) 7 L j tp < enqueueAt z σ a L k tp)
-      → (L < z .B * j → enqueueAt z (after σ ws) 8 L j tp < enqueueAt z σ a L k tp)
+      → (z .B * j ≤ L → Fewer ws a 3 L j tp)
+      → (L + z .B < z .B * j → Fewer ws a 7 L j tp)
+      → (L < z .B * j → Fewer ws a 8 L j tp)
       → Lowers z σ (suc p) (goes ws)
   chosen a r j ws e q f g h i far near here = outer (leb (z .B * σ (place r)) L) refl
     where
@@ -115,12 +152,32 @@ module _ (z : Sizes) (σ : Reader) (γ : Ghost) (good : Good z σ γ) (p : ℕ) 
       let placed : tp ≡ σ (place r) = ap (placeOf (placesOf σ)) q in
       let fits : r < z .N = omega (arith, has-sort z record-number (σ tailRecord) (good .range .words tailRecord (omega arith)) .1) in
       chosen 2 r tp (held (suc p) := suc r ∷ phase (suc p) := choose z σ (suc p) r ∷ []) e (sym placed) (rw self refl) refl (rw self (sym placed)) refl
-      (λ l. omega (arith, two))
-      (λ l. omega (arith, count-below (z .N) (λ y. ltb L (z .B * σ (place y)) && ltb (σ (place y)) tp) r fits (not-below r placed)))
-      (λ l. omega arith))
+      (λ l. omega (arith, ahead-next (z .B) L tp some-entries l))
+      (λ l. omega (arith, to-go-back r placed fits l held-word refl))
+      (λ l. omega (arith, to-write back)))
     where
-      not-below : (r : ℕ) → tp ≡ σ (place r) → (ltb L (z .B * σ (place r)) && ltb (σ (place r)) tp) ≡ false
-      not-below r e = rw (le-ltb (σ (place r)) tp (omega arith), and-false (ltb L (z .B * σ (place r)))) refl
+      -- of the records that are gone back over none is the tail record, nor one before L's that it holds
+      not-tail : (r : ℕ) → tp ≡ σ (place r) → isBetween z σ L tp r ≡ false
+      not-tail r e = rw (le-ltb (σ (place r)) tp (omega arith), and-false (ltb L (z .B * σ (place r)))) refl
+
+      not-earlier : (r : ℕ) → z .B * σ (place r) ≤ L → isBetween z σ L tp r ≡ false
+      not-earlier r l = rw (le-ltb L (z .B * σ (place r)) l) refl
+
+      to-go-back : (r : ℕ) → tp ≡ σ (place r) → r < z .N → L + z .B < z .B * tp → (h : ℕ) → held-word ≡ h
+          → 1 + recordsBack z σ L tp < z .N + cond (ltb 0 h && leb (z .B * k) L) 0 1
+      to-go-back r placed fits l zero q = omega (arith, count-below (z .N) (isBetween z σ L tp) r fits (not-tail r placed))
+      to-go-back r placed fits l (suc h) q = go (leb (z .B * k) L) refl
+        where
+          own : k ≡ σ (place h)
+          own = ap (placeOf (placesOf σ)) q
+
+          go : (b : Bool) → leb (z .B * k) L ≡ b → 1 + recordsBack z σ L tp < z .N + cond (ltb 0 (suc h) && b) 0 1
+          go true b =
+              let low : z .B * k ≤ L = leb-true (z .B * k) L b in
+              let other : r ≢ h = λ i. omega (arith, ap (λ (x : ℕ). z .B * x) (own ∙ ap (λ (x : ℕ). σ (place x)) (sym i) ∙ sym placed)) in
+              let fits-too : h < z .N = omega (arith, own-words z σ γ good (suc p) there 2 e .held) in
+              omega (arith, count-below-two (z .N) (isBetween z σ L tp) r h fits fits-too other (not-tail r placed) (not-earlier h (rw own at low)))
+          go false b = rw (and-false (ltb 0 (suc h))) (omega (arith, count-below (z .N) (isBetween z σ L tp) r fits (not-tail r placed)))
 
   -- 3.
   look-lowers : σ (phase (suc p)) ≡ 3 → Lowers z σ (suc p) (lookNext z σ (suc p))
@@ -133,7 +190,7 @@ module _ (z : Sizes) (σ : Reader) (γ : Ghost) (good : Good z σ γ) (p : ℕ) 
       go false = from-to 3 6 L k tp (phase (suc p) := 6 ∷ []) e (rw self refl) refl refl refl (λ x. omega arith) (omega arith)
 
   -- Claims of a loose record r, in phase a on the way to b: the place of the held record stays.
-  claim-lowers : (a b r : ℕ) → σ (phase (suc p)) ≡ a → Loose σ r → b ≢ 0 → enqueueAt z (after σ (claimWrites (suc p) r b)) b L k tp < enqueueAt z σ a L k tp
+  claim-lowers : (a b r : ℕ) → σ (phase (suc p)) ≡ a → Loose σ r → b ≢ 0 → Fewer (claimWrites (suc p) r b) a b L k tp
       → Lowers z σ (suc p) (claim z σ (suc p) r b)
   claim-lowers a b r e loose some less =
       from-to a b L k tp (claimWrites (suc p) r b) e (rw self refl) refl
@@ -154,7 +211,7 @@ module _ (z : Sizes) (σ : Reader) (γ : Ghost) (good : Good z σ γ) (p : ℕ) 
   -- 10.
   claim-ahead-lowers : σ (phase (suc p)) ≡ 10 → (c : ℕ) → LooseChoice z σ c → Lowers z σ (suc p) (claimAhead z σ (suc p) c)
   unfolding claimAhead
-  claim-ahead-lowers e zero none = ended-lowers z σ (suc p) _ (rw self refl)
+  claim-ahead-lowers e zero none = ended-lowers z σ p _ (rw self refl)
   claim-ahead-lowers e (suc r) one = claim-lowers 10 11 r e (one .1) (λ x. omega arith) (omega arith)
 
   -- 5.
@@ -201,23 +258,25 @@ module _ (z : Sizes) (σ : Reader) (γ : Ghost) (good : Good z σ γ) (p : ℕ) 
       each-need (Lowers z σ (suc p)) (refused-lowers z σ (suc p)) (σ (next h)) _
       (λ n w.
       from-to 6 2 L k (σ (place n)) (tailRecord := suc n ∷ phase (suc p) := 2 ∷ []) e (rw self refl) refl refl refl (λ x. omega arith)
-      (less (σ (place n)) (onward h n q (eqb-true (σ tailRecord) (suc h) b) w))))
+      (less h q (σ (place n)) (onward h n q (eqb-true (σ tailRecord) (suc h) b) w))))
       (λ b.
       from-to 6 2 L k tp (phase (suc p) := 2 ∷ []) e (rw self refl) refl refl refl (λ x. omega arith)
-      (less tp (passed h q (eqb-false (σ tailRecord) (suc h) b)))))
+      (less h q tp (passed h q (eqb-false (σ tailRecord) (suc h) b)))))
     where
-      less : (j : ℕ) → suc k ≤ j → loadSteps z σ L j < 1 + loadSteps z σ L (suc k)
-      less j l = omega (arith, scaled (z .B) (suc k) j l)
+      clause : (k ≤ γ .shape .tp) × (z .B * k ≤ L) × (k < γ .shape .hi)
+      clause = let c = producer-clause (z .B) (view σ γ) (good .model) (suc p) _ (seen-at z σ γ good (suc p) there 6 e) in (c .1, c .2, c .3)
 
-      clause : (k ≤ γ .shape .tp) × (k < γ .shape .hi)
-      clause = let c = producer-clause (z .B) (view σ γ) (good .model) (suc p) _ (seen-at z σ γ good (suc p) there 6 e) in (c .1, c .3)
+      -- it goes on holding a record before L's
+      less : (h : ℕ) → held-word ≡ suc h → (j : ℕ) → suc k ≤ j → loadSteps z σ L held-word k j < 1 + roundSteps z σ L (suc k)
+      less h q j l =
+          rw (and-true (lt-ltb 0 held-word (omega arith)) (le-leb (z .B * k) L (clause .1))) (omega (arith, ahead-less (z .B) L (suc k) j some-entries l))
 
       -- the record after the tail record
       onward : (h n : ℕ) → σ (held (suc p)) ≡ suc h → σ tailRecord ≡ suc h → σ (next h) ≡ suc n → suc k ≤ σ (place n)
       onward h n q b w =
           let same : k ≡ tp = ap (placeOf (placesOf σ)) (q ∙ sym b) in
           let is : h ≡ γ .shape .at (γ .shape .tp) = omega (arith, m .tail-is) in
-          let more : γ .shape .tp < γ .shape .hi = omega (arith, clause, tail-placed) in
+          let more : γ .shape .tp < γ .shape .hi = omega (arith, clause .0, clause .2, tail-placed) in
           let next-is : n ≡ γ .shape .at (suc (γ .shape .tp)) = omega (arith, ap (λ (x : ℕ). σ (next x)) is, m .chain .nexts (γ .shape .tp) (m .head-tail) more) in
           omega (arith, tail-placed, ap (λ (x : ℕ). σ (place x)) next-is, m .chain .placed (suc (γ .shape .tp)) (omega (arith, m .head-tail)) more)
 
@@ -229,7 +288,7 @@ module _ (z : Sizes) (σ : Reader) (γ : Ghost) (good : Good z σ γ) (p : ℕ) 
           placed = ap (placeOf (placesOf σ)) q
 
           go : Dec (k ≡ tp) → Holdable (γ .shape .lo) σ h → suc k ≤ tp
-          go (no d) held = omega (arith, clause, tail-placed)
+          go (no d) held = omega (arith, clause .0, clause .2, tail-placed)
           go (yes d) (inl u) =
               let is : γ .shape .at (γ .shape .tp) ≡ h = ap (γ .shape .at) (sym tail-placed ∙ sym d ∙ placed) ∙ m .chain .only h u .2 in
               absurd (n (m .tail-is ∙ ap suc is))
@@ -247,24 +306,24 @@ module _ (z : Sizes) (σ : Reader) (γ : Ghost) (good : Good z σ γ) (p : ℕ) 
       let placed : σ (place r) + 1 ≡ k = before .0 in
       let fits : r < z .N = before .1 in
       let low : L < z .B * σ (place r) = before .2 in
-      let passes : (ltb L (z .B * σ (place r)) && ltb (σ (place r)) k) ≡ true =
+      let passes : isBetween z σ L k r ≡ true =
       and-true (lt-ltb L (z .B * σ (place r)) low) (lt-ltb (σ (place r)) k (omega arith)) in
       chosen 7 r (σ (place r)) (held (suc p) := suc r ∷ backed (suc p) := 1 ∷ phase (suc p) := choose z σ (suc p) r ∷ []) e refl (rw self refl) refl (rw self refl) refl
       (λ l. absurd (omega arith))
       (λ l.
       omega (
         arith,
-        count-less (z .N) (λ y. ltb L (z .B * σ (place y)) && ltb (σ (place y)) (σ (place r))) (λ y. ltb L (z .B * σ (place y)) && ltb (σ (place y)) k)
+        count-less (z .N) (isBetween z σ L (σ (place r))) (isBetween z σ L k)
             (λ y g c. weaker (σ (place r)) y (omega arith) c) r fits (fails r) passes,
       ))
-      (λ l. omega (arith, count-some (z .N) (λ y. ltb L (z .B * σ (place y)) && ltb (σ (place y)) k) r fits passes))))
+      (λ l. rw self (omega (arith, count-some (z .N) (isBetween z σ L k) r fits passes)))))
     where
-      weaker : (j y : ℕ) → j ≤ k → (ltb L (z .B * σ (place y)) && ltb (σ (place y)) j) ≡ true → (ltb L (z .B * σ (place y)) && ltb (σ (place y)) k) ≡ true
+      weaker : (j y : ℕ) → j ≤ k → isBetween z σ L j y ≡ true → isBetween z σ L k y ≡ true
       weaker j y l c =
           let b = both (ltb L (z .B * σ (place y))) (ltb (σ (place y)) j) c in
           and-true (b .0) (lt-ltb (σ (place y)) k (omega (arith, ltb-true (σ (place y)) j (b .1))))
 
-      fails : (r : ℕ) → (ltb L (z .B * σ (place r)) && ltb (σ (place r)) (σ (place r))) ≡ false
+      fails : (r : ℕ) → isBetween z σ L (σ (place r)) r ≡ false
       fails r = rw (le-ltb (σ (place r)) (σ (place r)) (omega arith), and-false (ltb L (z .B * σ (place r)))) refl
 
       -- prev of the held record: one place before, with L before it
@@ -308,7 +367,7 @@ module _ (z : Sizes) (σ : Reader) (γ : Ghost) (good : Good z σ γ) (p : ℕ) 
       each-inside (Lowers z σ (suc p)) (refused-lowers z σ (suc p)) z σ h L
       (λ i. goes (entryNumber h i := σ (call (suc p)) ∷ entryValue h i := σ (value (suc p)) ∷ phase (suc p) := 9 ∷ []))
       (λ a b.
-      from-to 8 9 L k tp (entryNumber h (index z σ h L) := σ (call (suc p)) ∷ entryValue h (index z σ h L) := σ (value (suc p)) ∷ phase (suc p) := 9 ∷ []) e (rw self refl) refl refl refl (λ x. omega arith) (omega arith)))
+      from-to 8 9 L k tp (entryNumber h (index z σ h L) := σ (call (suc p)) ∷ entryValue h (index z σ h L) := σ (value (suc p)) ∷ phase (suc p) := 9 ∷ []) e (rw self refl) refl refl refl (λ x. omega arith) (omega (arith, to-set back))))
 
   -- 9.
   set-lowers : σ (phase (suc p)) ≡ 9 → Lowers z σ (suc p) (setEntry z σ (suc p))
@@ -322,8 +381,9 @@ module _ (z : Sizes) (σ : Reader) (γ : Ghost) (good : Good z σ γ) (p : ℕ) 
       (reply ended (state h i := 1 ∷ clearProducer (suc p) ∷ [])))
       (λ a b.
       by-cond (Lowers z σ (suc p)) (eqb (index z σ h L) 1 && eqb (σ (backed (suc p))) 0) _ _
-      (λ c. from-to 9 10 L k tp (state h (index z σ h L) := 1 ∷ phase (suc p) := 10 ∷ []) e (rw self refl) refl refl refl (λ x. omega arith) (omega arith))
-      (λ c. ended-lowers z σ (suc p) _ (rw self refl))))
+      (λ c. from-to 9 10 L k tp (state h (index z σ h L) := 1 ∷ phase (suc p) := 10 ∷ []) e (rw self refl) refl refl refl (λ x. omega arith)
+      (rw (both (eqb (index z σ h L) 1) (eqb back 0) c .1) (omega arith)))
+      (λ c. ended-lowers z σ p _ (rw self refl))))
 
   -- 11.
   link-ahead-lowers : Lowers z σ (suc p) (linkAhead z σ (suc p))
@@ -334,8 +394,8 @@ module _ (z : Sizes) (σ : Reader) (γ : Ghost) (good : Good z σ γ) (p : ℕ) 
       each-need (Lowers z σ (suc p)) (refused-lowers z σ (suc p)) (σ (claimed (suc p))) _
       (λ c w.
       by-cond (Lowers z σ (suc p)) (eqb (σ (next h)) 0) _ _
-      (λ b. each-up-to (Lowers z σ (suc p)) (refused-lowers z σ (suc p)) _ (suc (σ (place h))) _ (λ l. ended-lowers z σ (suc p) _ (rw self refl)))
-      (λ b. ended-lowers z σ (suc p) _ (rw self refl))))
+      (λ b. each-up-to (Lowers z σ (suc p)) (refused-lowers z σ (suc p)) _ (suc (σ (place h))) _ (λ l. ended-lowers z σ p _ (rw self refl)))
+      (λ b. ended-lowers z σ p _ (rw self refl))))
 
   pub enqueue-lowers : (c : ℕ) → LooseChoice z σ c → Lowers z σ (suc p) (producerStep c z σ (suc p))
   unfolding producerStep

@@ -1,13 +1,13 @@
 -- How many steps a call has left at the most, as a function of the store. Each accepted step of its own lowers it, and no call of
 -- another thread raises it. Records are counted, or positions go along the list of linked records: nothing rests on places being
 -- contiguous.
-use mathlib.Core.Bool.{_&&_}
+use mathlib.Core.Bool.{Bool, _&&_, cond}
 use mathlib.Core.List.{[], _∷_}
-use Prim.Native.Nat.{ℕ, zero, suc, _+_, _-_, _*_}
-use lib.Dec.{eqb, ltb}
+use Prim.Native.Nat.{ℕ, zero, suc, _+_, _-_, _*_, _/_}
+use lib.Dec.{eqb, ltb, leb}
 use lib.ListN.{getD}
 use Rattle.rules.specs.Sizes.{Sizes}
-use Rattle.rules.specs.Cell.{Cell, Reader, tailRecord, headRecord, headPosition, consumerPhase, cursorRecord, cursorPosition, foundRecord, foundPosition, phase, position, held, place, used, state}
+use Rattle.rules.specs.Cell.{Cell, Reader, tailRecord, headRecord, headPosition, consumerPhase, cursorRecord, cursorPosition, foundRecord, foundPosition, phase, position, held, backed, place, used, state}
 use Rattle.simulation.specs.View.{placesOf, placeOf}
 use Rattle.progress.specs.Arithmetic.{count, triangle}
 
@@ -16,34 +16,51 @@ abbrev pub phaseOf : (t : ℕ) → Cell
 phaseOf zero = consumerPhase
 phaseOf (suc p) = phase (suc p)
 
+-- An enqueue's last load, one that leads to no further round, by a producer that holds a record before its position's: it is followed by
+-- N - 2 steps back and phases 8 and 9, or by phases 8 to 11. So many steps: N + 1, and at least 5.
+abbrev pub lastSteps : Sizes → ℕ
+lastSteps z = z .N + 1 + (4 - z .N)
+
+-- At its start: at most P positions are past the tail record's, and a round passes a record of B.
+abbrev pub mostEnqueueLeft : Sizes → ℕ
+mostEnqueueLeft z = 1 + 5 * ((z .P + z .B - 1) / z .B) + lastSteps z
+
 module _ (z : Sizes) (σ : Reader) where
-  -- An enqueue at position L. Positions from the end of the record of place k up to L, that one included: each round of phases 2 to 6
-  -- leaves fewer, since the tail record has moved on.
-  abbrev pub positionsAhead : (L k : ℕ) → ℕ
-  positionsAhead L k = suc L - z .B * k
+  -- An enqueue at position L. The records past the one of place k, up to that of L: each round of phases 2 to 6 leaves fewer, since
+  -- the tail record has moved on.
+  abbrev pub recordsAhead : (L k : ℕ) → ℕ
+  recordsAhead L k = (L + z .B - z .B * k) / z .B
 
   -- what a step back leaves fewer of: records of places from that of L's record on and below k
+  abbrev pub isBetween : (L k r : ℕ) → Bool
+  isBetween L k r = ltb L (z .B * σ (place r)) && ltb (σ (place r)) k
+
   abbrev pub recordsBack : (L k : ℕ) → ℕ
-  recordsBack L k = count (z .N) (λ r. ltb L (z .B * σ (place r)) && ltb (σ (place r)) k)
+  recordsBack L k = count (z .N) (isBetween L k)
 
-  -- phase 2 with the tail record in place k; phases 3 to 6 with the held record in place k, once phase 6 has been made
-  abbrev pub loadSteps : (L k : ℕ) → ℕ
-  loadSteps L k = 5 * positionsAhead L k + z .N + 4
+  -- the rounds from a load of the record of place k on, and the last load
+  abbrev pub roundSteps : (L k : ℕ) → ℕ
+  roundSteps L k = 5 * recordsAhead L k + lastSteps z
 
-  -- by its phase, position, the place of the held and of the tail record
-  abbrev pub enqueueAt : (p L k tp : ℕ) → ℕ
-  enqueueAt p L k tp =
+  -- phase 2 with h the held record, 0 for none, in place k, and the tail record in place tp: one that does not hold a record before L's may
+  -- have one more to go back over
+  abbrev pub loadSteps : (L h k tp : ℕ) → ℕ
+  loadSteps L h k tp = roundSteps L tp + (cond (ltb 0 h && leb (z .B * k) L) 0 1 - recordsAhead L tp)
+
+  -- by its phase, its position, the places of the held and of the tail record, the held record, and whether phase 7 was taken
+  abbrev pub enqueueAt : (p L k tp h b : ℕ) → ℕ
+  enqueueAt p L k tp h b =
       getD
       (0
-      ∷ (5 * z .P + z .N + 5)
-      ∷ loadSteps L tp
-      ∷ (4 + loadSteps L (suc k))
-      ∷ (3 + loadSteps L (suc k))
-      ∷ (2 + loadSteps L (suc k))
-      ∷ (1 + loadSteps L (suc k))
-      ∷ (4 + recordsBack L k)
-      ∷ 4
-      ∷ 3
+      ∷ mostEnqueueLeft z
+      ∷ loadSteps L h k tp
+      ∷ (4 + roundSteps L (suc k))
+      ∷ (3 + roundSteps L (suc k))
+      ∷ (2 + roundSteps L (suc k))
+      ∷ (1 + roundSteps L (suc k))
+      ∷ (2 + recordsBack L k)
+      ∷ cond (eqb b 0) 4 2
+      ∷ cond (eqb b 0) 3 1
       ∷ 2
       ∷ 1
       ∷ [])
@@ -52,7 +69,7 @@ module _ (z : Sizes) (σ : Reader) where
 
   unfoldable pub enqueueLeft : (t : ℕ) → ℕ
   enqueueLeft t =
-      enqueueAt (σ (phase t)) (σ (position t)) (placeOf (placesOf σ) (σ (held t))) (placeOf (placesOf σ) (σ tailRecord))
+      enqueueAt (σ (phase t)) (σ (position t)) (placeOf (placesOf σ) (σ (held t))) (placeOf (placesOf σ) (σ tailRecord)) (σ (held t)) (σ (backed t))
 
   -- A dequeue. The linked records of a smaller place than k; those whose first entry is handled.
   abbrev pub rank : (k : ℕ) → ℕ

@@ -6,7 +6,7 @@ use native.Mathlib.Omega.{arith}
 use lib.Dec.{eqb, ltb}
 use borrow.Author.Tests.{eq-eqb, eqb-true, lt-ltb, ltb-true}
 use Rattle.rules.specs.Sizes.{Sizes}
-use Rattle.rules.specs.Cell.{Reader, producer, consumer, tailRecord, headRecord, headPosition, consumerPhase, cursorRecord, cursorPosition, foundRecord, foundPosition, phase, position, held, place, used, state}
+use Rattle.rules.specs.Cell.{Reader, producer, consumer, tailRecord, headRecord, headPosition, consumerPhase, cursorRecord, cursorPosition, foundRecord, foundPosition, phase, position, held, backed, place, used, state}
 use Rattle.rules.specs.Update.{both, and-true}
 use Rattle.model.specs.State.{Entry, blank, put, gone}
 use Rattle.model.specs.Walking.{producer-clause}
@@ -16,8 +16,8 @@ use Rattle.simulation.specs.Good.{Good, Behind, Moved}
 use Rattle.simulation.specs.Limits.{limits}
 use Rattle.simulation.specs.ProducerSteps.{seen-at}
 use Rattle.simulation.specs.ConsumerSteps.{head-placed}
-use Rattle.progress.specs.Arithmetic.{count-grows, count-same, scaled}
-use Rattle.progress.specs.Measure.{positionsAhead, recordsBack, enqueueAt, enqueueLeft, rank, firstHandled, readSteps, dequeueAt, dequeueLeft}
+use Rattle.progress.specs.Arithmetic.{count-grows, count-same, scaled, ahead-less}
+use Rattle.progress.specs.Measure.{recordsBack, loadSteps, enqueueAt, enqueueLeft, rank, firstHandled, readSteps, dequeueAt, dequeueLeft}
 
 -- the entry of a state
 is-gone : (e : Entry) → codeOf e ≡ 2 → e ≡ gone
@@ -145,8 +145,8 @@ module _ (z : Sizes) (σ σ′ : Reader) (γ γ′ : Ghost) (good : Good z σ γ
     tail-placed τ δ g =
         ap (placeOf (placesOf τ)) (g .memory .tail-is) ∙ g .memory .chain .placed (δ .shape .tp) (g .memory .head-tail) (g .memory .tail-last)
 
-    ahead-less : (L k k′ : ℕ) → k ≤ k′ → positionsAhead z σ′ L k′ ≤ positionsAhead z σ L k
-    ahead-less L k k′ l = omega (arith, scaled (z .B) k k′ l)
+    load-less : (L h k tp tp′ : ℕ) → tp ≤ tp′ → loadSteps z σ′ L h k tp′ ≤ loadSteps z σ L h k tp
+    load-less L h k tp tp′ l = omega (arith, ahead-less (z .B) L tp tp′ (omega (arith, limits z (good .sizes) .two-entries)) l)
 
     back-less : (L k : ℕ) → k ≤ γ .shape .hi → recordsBack z σ′ L k ≤ recordsBack z σ L k
     back-less L k l =
@@ -165,25 +165,25 @@ module _ (z : Sizes) (σ σ′ : Reader) (γ γ′ : Ghost) (good : Good z σ γ
             go zero h = absurd (omega arith)
             go (suc x) h = omega arith
 
-    in-phase : (p L k tp tp′ : ℕ) → tp ≤ tp′ → (p ≡ 7 → k ≤ γ .shape .hi) → enqueueAt z σ′ p L k tp′ ≤ enqueueAt z σ p L k tp
-    in-phase zero L k tp tp′ a b = omega arith
-    in-phase (suc zero) L k tp tp′ a b = omega arith
-    in-phase (suc (suc zero)) L k tp tp′ a b = omega (arith, ahead-less L tp tp′ a)
-    in-phase (suc (suc (suc zero))) L k tp tp′ a b = omega arith
-    in-phase (suc (suc (suc (suc zero)))) L k tp tp′ a b = omega arith
-    in-phase (suc (suc (suc (suc (suc zero))))) L k tp tp′ a b = omega arith
-    in-phase (suc (suc (suc (suc (suc (suc zero)))))) L k tp tp′ a b = omega arith
-    in-phase (suc (suc (suc (suc (suc (suc (suc zero))))))) L k tp tp′ a b = omega (arith, back-less L k (b refl))
-    in-phase (suc (suc (suc (suc (suc (suc (suc (suc zero)))))))) L k tp tp′ a b = omega arith
-    in-phase (suc (suc (suc (suc (suc (suc (suc (suc (suc zero))))))))) L k tp tp′ a b = omega arith
-    in-phase (suc (suc (suc (suc (suc (suc (suc (suc (suc (suc zero)))))))))) L k tp tp′ a b = omega arith
-    in-phase (suc (suc (suc (suc (suc (suc (suc (suc (suc (suc (suc zero))))))))))) L k tp tp′ a b = omega arith
-    in-phase (suc (suc (suc (suc (suc (suc (suc (suc (suc (suc (suc (suc p)))))))))))) L k tp tp′ a b = omega arith
+    in-phase : (p L k tp tp′ h b : ℕ) → tp ≤ tp′ → (p ≡ 7 → k ≤ γ .shape .hi) → enqueueAt z σ′ p L k tp′ h b ≤ enqueueAt z σ p L k tp h b
+    in-phase zero L k tp tp′ h b up low = omega arith
+    in-phase (suc zero) L k tp tp′ h b up low = omega arith
+    in-phase (suc (suc zero)) L k tp tp′ h b up low = load-less L h k tp tp′ up
+    in-phase (suc (suc (suc zero))) L k tp tp′ h b up low = omega arith
+    in-phase (suc (suc (suc (suc zero)))) L k tp tp′ h b up low = omega arith
+    in-phase (suc (suc (suc (suc (suc zero))))) L k tp tp′ h b up low = omega arith
+    in-phase (suc (suc (suc (suc (suc (suc zero)))))) L k tp tp′ h b up low = omega arith
+    in-phase (suc (suc (suc (suc (suc (suc (suc zero))))))) L k tp tp′ h b up low = omega (arith, back-less L k (low refl))
+    in-phase (suc (suc (suc (suc (suc (suc (suc (suc zero)))))))) L k tp tp′ h b up low = omega arith
+    in-phase (suc (suc (suc (suc (suc (suc (suc (suc (suc zero))))))))) L k tp tp′ h b up low = omega arith
+    in-phase (suc (suc (suc (suc (suc (suc (suc (suc (suc (suc zero)))))))))) L k tp tp′ h b up low = omega arith
+    in-phase (suc (suc (suc (suc (suc (suc (suc (suc (suc (suc (suc zero))))))))))) L k tp tp′ h b up low = omega arith
+    in-phase (suc (suc (suc (suc (suc (suc (suc (suc (suc (suc (suc (suc p)))))))))))) L k tp tp′ h b up low = omega arith
 
     pub enqueue-not-raised : enqueueLeft z σ′ u ≤ enqueueLeft z σ u
     unfolding enqueueLeft
     enqueue-not-raised =
         let row : (k : ℕ) → σ′ (producer u k) ≡ σ (producer u k) = λ k. moved .others (producer u k) other in
-        rw (row 0, row 3, row 4, moved .held-places u other)
-        (in-phase (σ (phase u)) (σ (position u)) (placeOf (placesOf σ) (σ (held u))) _ _ (omega (arith, tail-placed σ γ good, tail-placed σ′ γ′ good′, moved .shifts-on))
+        rw (row 0, row 3, row 4, row 6, moved .held-places u other)
+        (in-phase (σ (phase u)) (σ (position u)) (placeOf (placesOf σ) (σ (held u))) _ _ (σ (held u)) (σ (backed u)) (omega (arith, tail-placed σ γ good, tail-placed σ′ γ′ good′, moved .shifts-on))
         (λ e. omega (arith, producer-clause (z .B) (view σ γ) (good .model) u _ (seen-at z σ γ good u there 7 e) .1, good .memory .tail-last)))

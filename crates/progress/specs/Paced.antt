@@ -2,12 +2,12 @@
 -- and the count is the number of accepted steps that were made.
 use mathlib.Core.Path.{_≡_, refl, ap, _∙_, subst, subst⁻¹}
 use mathlib.Core.Logic.{_≢_}
-use mathlib.Core.Bool.{_||_, not}
+use mathlib.Core.Bool.{Bool, true, false, _||_, not, cond}
 use mathlib.Core.List.{List, [], _∷_, _++_, append-nil}
 use Prim.Native.Nat.{ℕ, zero, suc, _+_, _≤_, _<_}
 use native.Mathlib.Decide.{ℕ-discrete}
 use native.Mathlib.Omega.{arith}
-use lib.Dec.{eqb, ltb}
+use lib.Dec.{eqb, leb, ltb}
 use borrow.Author.Tests.{eq-eqb, ne-eqb, eqb-true, eqb-false, ltb-false, not-false}
 use Rattle.rules.specs.Sizes.{Sizes, mostSteps}
 use Rattle.rules.specs.Cell.{Cell, Reader, Write, _:=_, consumer, producer, consumerPhase, phase, call, value, starts, stepCount}
@@ -27,13 +27,18 @@ use Rattle.simulation.specs.ConsumerSteps.{consumer-words}
 use Rattle.progress.specs.Measure.{phaseOf, enqueueLeft, dequeueLeft, stepsLeft}
 use Rattle.progress.specs.Bounds.{mostLeft, most-fits, some-left, dequeue-starts, enqueue-starts}
 use Rattle.progress.specs.Others.{dequeue-not-raised, enqueue-not-raised}
-use Rattle.progress.specs.Lowers.{Lowers, refused-lowers}
+use Rattle.progress.specs.Lowers.{OfThread, Lowers, refused-lowers, lowers-of-thread}
 use Rattle.progress.specs.EnqueueSteps.{enqueue-lowers}
 use Rattle.progress.specs.DequeueSteps.{dequeue-lowers}
 use Rattle.progress.specs.Counted.{withCount, count-written, goes-counted}
 
 refuse-not-reply : {n : ℕ} {r : Reply} {ws : List Write} → refuse n ≡ reply r ws → ⊥
 refuse-not-reply e = let z : _≡_ {A = ℕ} 0 1 = cc in omega arith
+
+-- a reply that was let through
+same-reply : (b : Bool) (s : Reply) (vs : List Write) {r : Reply} {ws : List Write} → cond b (reply s vs) (refuse 9) ≡ reply r ws → s ≡ r
+same-reply true s vs e = cc
+same-reply false s vs e = absurd (refuse-not-reply e)
 
 -- a reply that does not say that the call goes on
 abbrev OtherThanGoing : Reply → Type 0
@@ -247,11 +252,11 @@ module _ (z : Sizes) (σ : Reader) (γ : Ghost) (good : Good z σ γ) (paced : P
       go : (a : Effect) → Fine z σ γ (step t) a → Lowers z σ t a → WasBusy t a → Keeps z σ γ (step t) (counted (stepCount t) (suc (σ (stepCount t))) a)
       go (refuse n) f l b = f
       go (reply going ws) g l b = counts-on t (b .0) (b .1) ws g (l .0) (l .1)
-      go (reply ok ws) g l b = ends-here t (b .0) (b .1) ok ws tt g l
-      go (reply (started n) ws) g l b = ends-here t (b .0) (b .1) (started n) ws tt g l
-      go (reply ended ws) g l b = ends-here t (b .0) (b .1) ended ws tt g l
-      go (reply empty ws) g l b = ends-here t (b .0) (b .1) empty ws tt g l
-      go (reply (item n v) ws) g l b = ends-here t (b .0) (b .1) (item n v) ws tt g l
+      go (reply ok ws) g l b = absurd (l .0)
+      go (reply (started n) ws) g l b = absurd (l .0)
+      go (reply ended ws) g l b = ends-here t (b .0) (b .1) ended ws tt g (l .1)
+      go (reply empty ws) g l b = ends-here t (b .0) (b .1) empty ws tt g (l .1)
+      go (reply (item n v) ws) g l b = ends-here t (b .0) (b .1) (item n v) ws tt g (l .1)
 
   -- Every call.
   pub call-keeps : (c : ℕ) → LooseChoice z σ c → (q : Request) → Keeps z σ γ q (effectTaking c q z σ)
@@ -259,11 +264,12 @@ module _ (z : Sizes) (σ : Reader) (γ : Ghost) (good : Good z σ γ) (paced : P
   call-keeps c choice startDequeue = start-dequeue-keeps
   call-keeps c choice (step t) = step-keeps c choice t
 
-  -- An accepted step was made by a thread with a call under way.
-  pub accepted-busy : (c : ℕ) → LooseChoice z σ c → (t : ℕ) (r : Reply) (ws : List Write) → stepping c t z σ ≡ reply r ws → (t ≤ z .P) × (σ (phaseOf t) ≢ 0)
+  -- An accepted step was made by a thread with a call under way, and has a reply of that thread's.
+  pub accepted-busy : (c : ℕ) → LooseChoice z σ c → (t : ℕ) (r : Reply) (ws : List Write) → stepping c t z σ ≡ reply r ws
+      → (t ≤ z .P) × (σ (phaseOf t) ≢ 0) × OfThread t r
   unfolding stepping counted WasBusy Made
-  accepted-busy c choice t r ws = go (phaseStep c t z σ) (step-made c choice t .1)
+  accepted-busy c choice t r ws = go (phaseStep c t z σ) (step-made c choice t)
     where
-      go : (a : Effect) → WasBusy t a → counted (stepCount t) (suc (σ (stepCount t))) a ≡ reply r ws → (t ≤ z .P) × (σ (phaseOf t) ≢ 0)
+      go : (a : Effect) → Made t a → counted (stepCount t) (suc (σ (stepCount t))) a ≡ reply r ws → (t ≤ z .P) × (σ (phaseOf t) ≢ 0) × OfThread t r
       go (refuse n) b e = absurd (refuse-not-reply e)
-      go (reply s vs) b e = b
+      go (reply s vs) b e = (b .1 .0, b .1 .1, subst (OfThread t) (same-reply (leb (suc (σ (stepCount t))) mostSteps) s _ e) (lowers-of-thread z σ t s vs (b .0)))

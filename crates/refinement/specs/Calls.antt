@@ -14,6 +14,7 @@ use Rattle.rules.specs.Request.{Request, startEnqueue, startDequeue, step, Resu
 use Rattle.rules.specs.Play.{Played, events, play, stepsWith}
 use Rattle.ordering.specs.Demand.{Ordered}
 use Rattle.ordering.specs.Steps.{mostDequeueSteps}
+use Rattle.ordering.specs.EnqueueEnds.{mostEnqueueSteps}
 use Rattle.engine.specs.Export.{Returned, returned, Replied, replied}
 
 -- A call, the response to it and the words of the store after it.
@@ -61,8 +62,14 @@ abbrev pub stepsIn : (t : ℕ) → List Made → (k : ℕ) → ℕ
 stepsIn t [] k = k
 stepsIn t (c ∷ cs) k = stepsIn t cs (stepsWith t (c .request) (c .response) k)
 
--- A further step that was accepted carries that number, itself included; and one of a dequeue is within the most that a dequeue makes, and has
--- ended it where it reaches that number (document 02, U3).
+-- A step of thread t, the k-th of its call, is within what a call of that thread makes; where it is the last one allowed, a dequeue's does not say
+-- that it goes on, and an enqueue's says that it has ended (document 02, U3 and U4).
+abbrev pub InTime : Sizes → (t k : ℕ) → (GoesOn HasEnded : Type 0) → Type 0
+InTime z t k GoesOn HasEnded =
+    (t ≡ 0 → (k ≤ mostDequeueSteps z) × (k ≡ mostDequeueSteps z → GoesOn → ⊥))
+    × (1 ≤ t → (k ≤ mostEnqueueSteps z) × (k ≡ mostEnqueueSteps z → HasEnded))
+
+-- A further step that was accepted carries that number, itself included, and is in time.
 abbrev pub Step-Counts-Of-Calls : Type 0
 Step-Counts-Of-Calls =
     (z : Sizes) (before m : List ℕ) (cs : List Made) (c : Made)
@@ -72,7 +79,7 @@ Step-Counts-Of-Calls =
     → (t : ℕ) (r : Reply) (k : ℕ)
     → c .request ≡ step t
     → c .response ≡ accepted r k
-    → (k ≡ suc (stepsIn t cs 0)) × (t ≡ 0 → (k ≤ mostDequeueSteps z) × (k ≡ mostDequeueSteps z → r ≢ going))
+    → (k ≡ suc (stepsIn t cs 0)) × InTime z t k (r ≡ going) (r ≡ ended)
 
 -- Dumps from two sites: the same calls after opens of the same sizes, on any two stores, got the same responses and left the same words.
 abbrev pub Same-Dumps : Type 0
@@ -131,7 +138,8 @@ Demand-3-For-C =
     → ExchangeChain m xs
     → Ordered z (recorded (map madeOf xs) (fresh m)) × All (λ x. (x .number ≢ 3) × (x .number ≢ 9)) xs
 
--- After such calls, a further `intake_step` that was accepted leaves in word 2 of its reply the accepted steps of its call, counted in the list.
+-- After such calls, a further `intake_step` that was accepted leaves in word 2 of its reply the accepted steps of its call, counted in the list,
+-- and is in time.
 abbrev pub Step-Counts-For-C : Type 0
 Step-Counts-For-C =
     (z : Sizes) (before m : List ℕ) (xs : List Exchange)
@@ -141,4 +149,4 @@ Step-Counts-For-C =
     → length lent ≡ 4
     → Exports (step t) (recorded (map madeOf xs) (fresh m) .words) lent n s w
     → 100 ≤ n
-    → getD w 2 0 ≡ suc (stepsIn t (map madeOf xs) 0)
+    → (getD w 2 0 ≡ suc (stepsIn t (map madeOf xs) 0)) × InTime z t (getD w 2 0) (n ≡ 100) (n ≡ 101)

@@ -9,7 +9,7 @@ use native.Mathlib.Omega.{arith}
 use lib.Dec.{eqb}
 use lib.ListN.{length, getD, set, length-set}
 use lib.Seq.{getD-set-same, getD-set-other}
-use borrow.Author.Tests.{ne-eqb}
+use borrow.Author.Tests.{ne-eqb, eqb-true}
 use Rattle.history.specs.Lists.{All}
 use Rattle.rules.specs.Sizes.{Sizes}
 use Rattle.rules.specs.Cell.{reader}
@@ -19,9 +19,10 @@ use Rattle.rules.specs.Play.{Played, playOne, play, stepsWith, stepsMade}
 use Rattle.rules.specs.Refusal.{by-open}
 use Rattle.ordering.specs.Theorem.{demand-3}
 use Rattle.ordering.specs.Steps.{openedPlay, mostDequeueSteps}
-use Rattle.ordering.specs.Counting.{step-counts, dequeue-ends}
+use Rattle.ordering.specs.EnqueueEnds.{mostEnqueueSteps}
+use Rattle.ordering.specs.Counting.{step-counts, dequeue-ends, enqueue-ends}
 use Rattle.ordering.specs.SameWords.{same-words}
-use Rattle.engine.specs.Export.{code, replyWords, Returned, returned, Replied, replied}
+use Rattle.engine.specs.Export.{acceptedCode, code, replyWords, Returned, returned, Replied, replied}
 use Rattle.refinement.specs.Calls.{Made, Meets, Chain, noted, recorded, fresh, Refines, Opens, Demand-3-Of-Calls, stepsIn, Step-Counts-Of-Calls, Same-Dumps, Exchange, Exports, ExchangeChain, says, madeOf, Demand-3-For-C, Step-Counts-For-C}
 use Rattle.refinement.specs.Effects.{kindOf, kindFor, Sound, admitted-sound}
 
@@ -67,14 +68,23 @@ step-counts-of-calls z before m cs c o h e t r k is got =
     ∙ got in
     let same : stepsIn t cs 0 ≡ stepsMade t qs (openedPlay z before) 0 =
     steps-are t (fresh m) cs 0 h ∙ ap (λ (x : Result). stepsMade t qs (fresh (x .words)) 0) o in
-    let counted : k ≡ suc (stepsMade t qs (openedPlay z before) 0) = step-counts z before qs (accepts z before m o) t r k answer in
-    (counted ∙ ap suc (sym same), λ none. within z before m cs o h r k qs (rw none at answer) (rw none at counted))
+    let counted : k ≡ suc (stepsMade t qs (openedPlay z before) 0) = step-counts z before qs (accepts z before m o) t r k answer in (
+      counted ∙ ap suc (sym same),
+      ((λ none. dequeue z before m o r k qs (rw none at answer) (rw none at counted)), enqueue answer counted),
+    )
   where
-    within : (z : Sizes) (before m : List ℕ) (cs : List Made) (o : Opens z before m) → Chain m cs → (r : Reply) (k : ℕ) (qs : List Request)
+    dequeue : (z : Sizes) (before m : List ℕ) (o : Opens z before m) (r : Reply) (k : ℕ) (qs : List Request)
         → result (step 0) (play qs (openedPlay z before) .words) .reply ≡ accepted r k → k ≡ suc (stepsMade 0 qs (openedPlay z before) 0)
         → (k ≤ mostDequeueSteps z) × (k ≡ mostDequeueSteps z → r ≢ going)
-    within z before m cs o h r k qs answer counted =
+    dequeue z before m o r k qs answer counted =
         let w = dequeue-ends z before qs (accepts z before m o) r k answer in
+        (rw counted (w .0), λ last. w .1 (sym counted ∙ last))
+
+    enqueue : result (step t) (play (map (λ c. c .request) cs) (openedPlay z before) .words) .reply ≡ accepted r k
+        → k ≡ suc (stepsMade t (map (λ c. c .request) cs) (openedPlay z before) 0)
+        → 1 ≤ t → (k ≤ mostEnqueueSteps z) × (k ≡ mostEnqueueSteps z → r ≡ ended)
+    enqueue answer counted l =
+        let w = enqueue-ends z before (map (λ c. c .request) cs) (accepts z before m o) t r k l answer in
         (rw counted (w .0), λ last. w .1 (sym counted ∙ last))
 
 pub same-dumps : Same-Dumps
@@ -228,18 +238,28 @@ demand-3-for-c z before m xs o h =
     (d, numbers xs (recorded-replies _ xs (fresh m) (d .answered) .0))
 
 -- What a step that returned 100 or more says.
-says-steps : (t n : ℕ) (w : List ℕ) → 100 ≤ n → May (step t) (says (step t) n w) → (r : Reply) × (says (step t) n w ≡ accepted r (getD w 2 0))
+says-steps : (t n : ℕ) (w : List ℕ) → 100 ≤ n → May (step t) (says (step t) n w)
+    → (r : Reply) × (says (step t) n w ≡ accepted r (getD w 2 0)) × (n ≡ acceptedCode r)
 unfolding says
-says-steps t n w l = first (eqb n 100) (eqb n 101) (eqb n 102) (eqb n 103)
+says-steps t n w l = first (eqb n 100) (eqb n 101) (eqb n 102) (eqb n 103) (eqb-true n 100) (eqb-true n 101) (eqb-true n 102) (eqb-true n 103)
   where
-    first : (a b c d : Bool)
+    first : (a b c d : Bool) → (a ≡ true → n ≡ 100) → (b ≡ true → n ≡ 101) → (c ≡ true → n ≡ 102) → (d ≡ true → n ≡ 103)
         → May (step t) (cond a (accepted going (getD w 2 0)) (cond b (accepted ended (getD w 2 0)) (cond c (accepted empty (getD w 2 0)) (cond d (accepted (item (getD w 0 0) (getD w 1 0)) (getD w 2 0)) (refused n)))))
-        → (r : Reply) × (cond a (accepted going (getD w 2 0)) (cond b (accepted ended (getD w 2 0)) (cond c (accepted empty (getD w 2 0)) (cond d (accepted (item (getD w 0 0) (getD w 1 0)) (getD w 2 0)) (refused n)))) ≡ accepted r (getD w 2 0))
-    first true b c d m = (going, refl)
-    first false true c d m = (ended, refl)
-    first false false true d m = (empty, refl)
-    first false false false true m = (item (getD w 0 0) (getD w 1 0), refl)
-    first false false false false m = absurd (omega arith)
+        → (r : Reply) × (cond a (accepted going (getD w 2 0)) (cond b (accepted ended (getD w 2 0)) (cond c (accepted empty (getD w 2 0)) (cond d (accepted (item (getD w 0 0) (getD w 1 0)) (getD w 2 0)) (refused n)))) ≡ accepted r (getD w 2 0)) × (n ≡ acceptedCode r)
+    first true b c d e f g h m = (going, refl, e refl)
+    first false true c d e f g h m = (ended, refl, f refl)
+    first false false true d e f g h m = (empty, refl, g refl)
+    first false false false true e f g h m = (item (getD w 0 0) (getD w 1 0), refl, h refl)
+    first false false false false e f g h m = absurd (omega arith)
+
+-- 100 is going alone
+is-going : (r : Reply) → acceptedCode r ≡ 100 → r ≡ going
+is-going ok e = absurd (omega arith)
+is-going (started n) e = absurd (omega arith)
+is-going going e = refl
+is-going ended e = absurd (omega arith)
+is-going empty e = absurd (omega arith)
+is-going (item n v) e = absurd (omega arith)
 
 pub step-counts-for-c : Step-Counts-For-C
 step-counts-for-c z before m xs o h t n lent s w four e l =
@@ -247,5 +267,12 @@ step-counts-for-c z before m xs o h t n lent s w four e l =
     let met : Meets words (record { request = step t; response = says (step t) n w; words = s }) = exports-meet (step t) words lent four n s w e in
     let may : May (step t) (says (step t) n w) = subst⁻¹ (May (step t)) (ap (λ (x : Result). x .reply) met) (result-may (step t) words) in
     let said = says-steps t n w l may in
-    step-counts-of-calls z before m (map madeOf xs) (record { request = step t; response = says (step t) n w; words = s }) (opened-ok z before m o) (chain-of m xs h) met t
-    (said .0) (getD w 2 0) refl (said .1) .0
+    let counts = step-counts-of-calls z before m (map madeOf xs) (record { request = step t; response = says (step t) n w; words = s }) (opened-ok z before m o) (chain-of m xs h) met t
+    (said .0) (getD w 2 0) refl (said .1) in
+    let as-said : n ≡ acceptedCode (said .0) = said .2 in (
+      counts .0,
+      (
+        (λ d. let dequeue = counts .1 .0 d in (dequeue .0, λ last e. dequeue .1 last (is-going (said .0) (sym as-said ∙ e)))),
+        (λ d. let enqueue = counts .1 .1 d in (enqueue .0, λ last. as-said ∙ ap acceptedCode (enqueue .1 last))),
+      ),
+    )

@@ -9,6 +9,7 @@ pub mod Request
 pub mod Play
 pub mod Runs
 pub mod Witnesses
+pub mod Lengths
 pub mod Update
 pub mod Address
 pub mod Readback
