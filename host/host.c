@@ -6,7 +6,8 @@
  * Each producer enqueues ITEMS values, its number times 65,536 plus 0, 1, 2, ..; the host picks at random whose step is next, and now and
  * then stops a producer for a while. It prints what the consumer received and checks that each producer's values arrive whole and in the
  * order in which it enqueued them. Calls of two producers that overlap have no order between them: call 4 may come out before call 1.
- * It prints how many steps the longest call of each kind took, and checks that the replies count a call's steps as the host does.
+ * It prints how many steps the longest call of each kind took, and checks that the replies count a call's steps as the host does, and that
+ * no call takes more than INTAKE_MOST_ENQUEUE_STEPS or INTAKE_MOST_DEQUEUE_STEPS.
  *
  * It starts no enqueue where intake_has_room says no, so that no step meets refusal 8 (docs/STEPS.md, "Room").
  */
@@ -70,12 +71,13 @@ int main(int argc, char **argv) {
         }
         answer = intake_step(store, words, thread, reply);
         steps++;
-        if (answer >= INTAKE_GOING && reply[2] != ++taken[thread]) fail("steps of a call counted otherwise", reply[2]);
-        if (answer > INTAKE_GOING) { /* the call has ended */
+        if (answer >= INTAKE_GOING) { /* accepted */
             uint32_t *longest = thread > 0 ? &longest_enqueue : &longest_dequeue;
+            if (reply[2] != ++taken[thread]) fail("steps of a call counted otherwise", reply[2]);
             if (reply[2] > *longest) *longest = reply[2];
-            busy[thread] = taken[thread] = 0;
         }
+        if (answer > INTAKE_GOING) busy[thread] = taken[thread] = 0; /* the call has ended */
+        if (longest_enqueue > INTAKE_MOST_ENQUEUE_STEPS(RECORDS, PRODUCERS)) fail("an enqueue of too many steps", longest_enqueue);
         if (longest_dequeue > INTAKE_MOST_DEQUEUE_STEPS(ENTRIES, RECORDS)) fail("a dequeue of too many steps", longest_dequeue);
         switch (answer) {
         case INTAKE_GOING:

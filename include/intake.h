@@ -67,6 +67,10 @@ enum { INTAKE_ENTRIES = 0, INTAKE_RECORDS = 1, INTAKE_PRODUCERS = 2, INTAKE_TAIL
 #define INTAKE_MOST_DEQUEUE_STEPS(entries, records) \
     ((records) * (5u * (entries) + 3u) + 3u * (entries) + 1u + (records) * ((entries) + 1u) * ((records) * ((entries) + 1u) + 1u) / 2u)
 
+/* The most accepted steps that an enqueue takes on a store of these sizes that only the engine has written, whatever steps others make in
+ * between: at most 150, for 64 and 16. A step refused with 8 is not accepted and not counted. */
+#define INTAKE_MOST_ENQUEUE_STEPS(records, producers) (5u * (producers) + (records) + 6u)
+
 /* The fewest records with which intake_has_room says yes of an empty store: 2 * producers + 4, and more if producers are above entries. */
 #define INTAKE_LEAST_RECORDS(entries, producers) (2u * (producers) + 3u + ((producers) + (entries) - 1u) / (entries))
 

@@ -16,6 +16,7 @@ uint32_t judge_history(const uint32_t *history, size_t words, struct call *table
 int has_room(const uint32_t *store) { return intake_has_room(store); }
 uint32_t words_of(uint32_t entries, uint32_t records, uint32_t producers) { return INTAKE_WORDS(entries, records, producers); }
 uint32_t least_records(uint32_t entries, uint32_t producers) { return INTAKE_LEAST_RECORDS(entries, producers); }
+uint32_t most_enqueue_steps(uint32_t records, uint32_t producers) { return INTAKE_MOST_ENQUEUE_STEPS(records, producers); }
 uint32_t most_dequeue_steps(uint32_t entries, uint32_t records) { return INTAKE_MOST_DEQUEUE_STEPS(entries, records); }
 
 /* a run of every phase on the largest store, threads in uneven turns, then a refusal */

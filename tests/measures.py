@@ -14,9 +14,20 @@ def triangle(n):
     return n * (n + 1) // 2
 
 
-def most_enqueue_steps(N, P):
+def records_for(B, positions):
+    """How many records hold so many positions in a row that begin with a record."""
+    return (positions + B - 1) // B
+
+
+def last_load_steps(N):
+    """From a load that leads to no further round, by a producer that has made one: N - 2 steps back and phases 8 and 9, or
+    phases 8 to 11."""
+    return max(N + 1, 5)
+
+
+def most_enqueue_steps(B, N, P):
     """The measure of an enqueue at its start."""
-    return 5 * P + N + 5
+    return 1 + 5 * records_for(B, P) + last_load_steps(N)
 
 
 def most_dequeue_steps(B, N):
@@ -25,7 +36,7 @@ def most_dequeue_steps(B, N):
 
 
 def most_steps(words, t):
-    return most_enqueue_steps(*words[1:3]) if t else most_dequeue_steps(*words[:2])
+    return most_enqueue_steps(*words[:3]) if t else most_dequeue_steps(*words[:2])
 
 
 class Records:
@@ -51,25 +62,27 @@ class Records:
 
 def of_enqueue(words, t, records):
     """Each round of phases 2 to 6, five steps, leaves the tail record at a later place, until it is no longer before the
-    call's position; then each phase 7 leaves one record less to go back over."""
+    call's position; then each phase 7 leaves one record less to go back over. The tail record that was loaded is none of
+    these, nor is a record before the position's that the producer still holds when it loads."""
     B, N, P = words[:3]
     own = im.CONTENTS + im.THREAD_WORDS * t
-    phase, position, held = words[own], words[own + im.POSITION], words[own + im.HELD]
+    phase, position, held, back = (words[own + k] for k in (im.PHASE, im.POSITION, im.HELD, im.BACK))
 
-    def past(place):
-        """By how much the position is past the record of a place, itself counted; 0 if it is not."""
-        return max(0, position + 1 - B * place)
+    def ahead(place):
+        """How many records past that of a place the position is; 0 if it is not past it."""
+        return records_for(B, max(0, position + 1 - B * place))
 
     if phase <= 1:
-        return phase * most_enqueue_steps(N, P)
+        return phase * most_enqueue_steps(B, N, P)
+    place = records.place(held) if held else 0
     if phase == 2:
-        return 5 * past(records.place(words[im.TAIL_RECORD])) + N + 4
-    place = records.place(held) if phase <= 7 else 0
+        rounds, holds_earlier = ahead(records.place(words[im.TAIL_RECORD])), held and B * place <= position
+        return 5 * rounds + last_load_steps(N) + (rounds == 0 and not holds_earlier)
     if phase <= 6:
-        return 7 - phase + 5 * past(place + 1) + N + 4
+        return 7 - phase + 5 * ahead(place + 1) + last_load_steps(N)
     if phase == 7:
-        return 4 + sum(position < B * other and other < place for other in records.places)
-    return 12 - phase
+        return 2 + sum(position < B * other and other < place for other in records.places)
+    return 12 - phase - (2 if phase <= 9 and back else 0)
 
 
 def of_dequeue(words, records):

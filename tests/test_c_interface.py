@@ -85,6 +85,15 @@ class Header(unittest.TestCase):
             self.assertEqual(library.words_of(*sizes), im.needed_words(*sizes))
         self.assertEqual(library.words_of(64, 64, 16), 12696)
 
+    def test_most_enqueue_steps(self):
+        """A bound that is not document 02's, or that the explorations pass: they hold enqueues to less."""
+        library = compiled()
+        for N, P in itertools.product(range(2, 65), range(1, 17)):
+            self.assertEqual(library.most_enqueue_steps(N, P), 5 * P + N + 6)
+            for B in range(2, 65):
+                self.assertLess(measures.most_enqueue_steps(B, N, P), library.most_enqueue_steps(N, P))
+        self.assertEqual(library.most_enqueue_steps(64, 16), 150)
+
     def test_most_dequeue_steps(self):
         """A bound that is not the one that the explorations hold dequeues to, or that wraps at some sizes."""
         library = compiled()

@@ -3,7 +3,7 @@
 use mathlib.Core.Path.{_≡_, refl, ap, sym, _∙_, subst, subst⁻¹}
 use mathlib.Core.Logic.{inl, inr, _≢_}
 use mathlib.Core.Bool.{true}
-use mathlib.Core.List.{List, [], _∷_}
+use mathlib.Core.List.{List, [], _∷_, map}
 use Prim.Native.Nat.{ℕ, zero, suc, _+_, _*_, _/_, _≤_, _<_}
 use native.Mathlib.Nat.{mul-div-cancel-left}
 use native.Mathlib.Decide.{ℕ-discrete}
@@ -15,6 +15,7 @@ use Rattle.rules.specs.Update.{after, countOf, count-is}
 use Rattle.rules.specs.Free.{nextFree}
 use Rattle.rules.specs.Rule.{Effect, Reply, going, refuse, reply, refused, accepted, ok}
 use Rattle.rules.specs.Request.{Request, step, Result, applied, effect, stepping, stepsSoFar, result, open-store}
+use Rattle.rules.specs.Runs.{sized}
 use Rattle.rules.specs.Play.{Played, playOne, play, stepsWith, stepsMade}
 use Rattle.rules.specs.Readback.{reader-writes}
 use Rattle.rules.specs.Refusal.{accepted-not-refused}
@@ -216,3 +217,12 @@ module _ {z : Sizes} {p : Played} (k : Maintained z p) (t n : ℕ) (there : t �
 
 pub refused-to-wait : RefusedToWait
 refused-to-wait z m requests opens t n there busy = waits (after-list z m opens t requests .maintained) t n there busy
+
+-- The numbers at some sizes: the smallest, the host's, the largest.
+abbrev some-sizes : List Sizes
+some-sizes = sized 2 2 1 9 ∷ sized 8 64 16 8000 ∷ sized 64 64 16 1000000 ∷ []
+
+pub numbers-as-written : (map mostDequeueSteps some-sizes ≡ 54 ∷ 168953 ∷ 8675745 ∷ [])
+    × (map mostEnqueueSteps some-sizes ≡ 13 ∷ 150 ∷ 150 ∷ [])
+    × (map fewerEnqueueSteps some-sizes ≡ 11 ∷ 76 ∷ 71 ∷ [])
+numbers-as-written = (refl, refl, refl)
