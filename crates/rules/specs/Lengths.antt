@@ -28,6 +28,15 @@ acceptedSteps l =
     (record { words = opened z (replicate (storeWords z) 0); replies = []; history = [] })
     0
 
+-- Producer 1 fills two records of two entries.
+abbrev filled : List Request
+filled =
+    startEnqueue 1 10
+    ∷ times 4 (step 1)
+    ++ (startEnqueue 1 11 ∷ times 6 (step 1))
+    ++ (startEnqueue 1 12 ∷ times 7 (step 1))
+    ++ (startEnqueue 1 13 ∷ times 5 (step 1))
+
 abbrev pub lengths : List Length
 lengths =
     -- A producer stopped between phases 5 and 6 stalls nobody: producer 1 has linked a record and not moved the tail record; producer 3 moves
@@ -62,11 +71,7 @@ lengths =
     ∷ record {
       sizes = sized 2 2 2 6;
       requests =
-          startEnqueue 1 10
-          ∷ times 4 (step 1)
-          ++ (startEnqueue 1 11 ∷ times 6 (step 1))
-          ++ (startEnqueue 1 12 ∷ times 7 (step 1))
-          ++ (startEnqueue 1 13 ∷ times 5 (step 1))
+          filled
           ++ (startEnqueue 2 20 ∷ step 2 ∷ startEnqueue 1 14 ∷ step 1 ∷ [])
           ++ (startDequeue ∷ times 3 (step 0))
           ++ (startDequeue ∷ times 4 (step 0))
@@ -79,13 +84,7 @@ lengths =
     -- A step refused with 8 isn't accepted: nothing is dequeued, and the fifth enqueue waits in phase 4.
     ∷ record {
       sizes = sized 2 2 1 9;
-      requests =
-          startEnqueue 1 10
-          ∷ times 4 (step 1)
-          ++ (startEnqueue 1 11 ∷ times 6 (step 1))
-          ++ (startEnqueue 1 12 ∷ times 7 (step 1))
-          ++ (startEnqueue 1 13 ∷ times 5 (step 1))
-          ++ (startEnqueue 1 14 ∷ []);
+      requests = filled ++ (startEnqueue 1 14 ∷ []);
       thread = 1;
       made = 3;
     }
