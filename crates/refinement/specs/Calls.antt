@@ -14,7 +14,7 @@ use Rattle.rules.specs.Request.{Request, startEnqueue, startDequeue, step, Resu
 use Rattle.rules.specs.Play.{Played, events, play, stepsWith}
 use Rattle.ordering.specs.Demand.{Ordered}
 use Rattle.ordering.specs.Steps.{mostDequeueSteps}
-use Rattle.ordering.specs.EnqueueEnds.{mostEnqueueSteps}
+use Rattle.ordering.specs.EnqueueEnds.{mostEnqueueSteps, fewerEnqueueSteps}
 use Rattle.engine.specs.Export.{Returned, returned, Replied, replied}
 
 -- A call, the response to it and the words of the store after it.
@@ -62,12 +62,12 @@ abbrev pub stepsIn : (t : ℕ) → List Made → (k : ℕ) → ℕ
 stepsIn t [] k = k
 stepsIn t (c ∷ cs) k = stepsIn t cs (stepsWith t (c .request) (c .response) k)
 
--- A step of thread t, the k-th of its call, is within what a call of that thread makes; where it is the last one allowed, a dequeue's does not say
--- that it goes on, and an enqueue's says that it has ended (document 02, U3 and U4).
+-- A step of thread t, the k-th of its call, is within what a call of that thread makes: a dequeue's that is the last one allowed does not say that
+-- it goes on, and an enqueue's that is the last one of the smaller number says that it has ended (document 02, U3 and U4).
 abbrev pub InTime : Sizes → (t k : ℕ) → (GoesOn HasEnded : Type 0) → Type 0
 InTime z t k GoesOn HasEnded =
     (t ≡ 0 → (k ≤ mostDequeueSteps z) × (k ≡ mostDequeueSteps z → GoesOn → ⊥))
-    × (1 ≤ t → (k ≤ mostEnqueueSteps z) × (k ≡ mostEnqueueSteps z → HasEnded))
+    × (1 ≤ t → (k ≤ mostEnqueueSteps z) × (k ≤ fewerEnqueueSteps z) × (k ≡ fewerEnqueueSteps z → HasEnded))
 
 -- A further step that was accepted carries that number, itself included, and is in time.
 abbrev pub Step-Counts-Of-Calls : Type 0

@@ -19,8 +19,8 @@ use Rattle.rules.specs.Play.{Played, playOne, play, stepsWith, stepsMade}
 use Rattle.rules.specs.Refusal.{by-open}
 use Rattle.ordering.specs.Theorem.{demand-3}
 use Rattle.ordering.specs.Steps.{openedPlay, mostDequeueSteps}
-use Rattle.ordering.specs.EnqueueEnds.{mostEnqueueSteps}
-use Rattle.ordering.specs.Counting.{step-counts, dequeue-ends, enqueue-ends}
+use Rattle.ordering.specs.EnqueueEnds.{mostEnqueueSteps, fewerEnqueueSteps}
+use Rattle.ordering.specs.Counting.{step-counts, dequeue-ends, enqueue-ends, enqueue-ends-sooner}
 use Rattle.ordering.specs.SameWords.{same-words}
 use Rattle.engine.specs.Export.{acceptedCode, code, replyWords, Returned, returned, Replied, replied}
 use Rattle.refinement.specs.Calls.{Made, Meets, Chain, noted, recorded, fresh, Refines, Opens, Demand-3-Of-Calls, stepsIn, Step-Counts-Of-Calls, Same-Dumps, Exchange, Exports, ExchangeChain, says, madeOf, Demand-3-For-C, Step-Counts-For-C}
@@ -82,10 +82,14 @@ step-counts-of-calls z before m cs c o h e t r k is got =
 
     enqueue : result (step t) (play (map (λ c. c .request) cs) (openedPlay z before) .words) .reply ≡ accepted r k
         → k ≡ suc (stepsMade t (map (λ c. c .request) cs) (openedPlay z before) 0)
-        → 1 ≤ t → (k ≤ mostEnqueueSteps z) × (k ≡ mostEnqueueSteps z → r ≡ ended)
+        → 1 ≤ t → (k ≤ mostEnqueueSteps z) × (k ≤ fewerEnqueueSteps z) × (k ≡ fewerEnqueueSteps z → r ≡ ended)
     enqueue answer counted l =
-        let w = enqueue-ends z before (map (λ c. c .request) cs) (accepts z before m o) t r k l answer in
-        (rw counted (w .0), λ last. w .1 (sym counted ∙ last))
+        let qs : List Request = map (λ c. c .request) cs in
+        let sooner = enqueue-ends-sooner z before qs (accepts z before m o) t r k l answer in (
+          rw counted (enqueue-ends z before qs (accepts z before m o) t r k l answer .0),
+          rw counted (sooner .0),
+          λ last. sooner .1 (sym counted ∙ last),
+        )
 
 pub same-dumps : Same-Dumps
 same-dumps z before before′ m m′ cs cs′ o o′ h h′ e =
@@ -273,6 +277,6 @@ step-counts-for-c z before m xs o h t n lent s w four e l =
       counts .0,
       (
         (λ d. let dequeue = counts .1 .0 d in (dequeue .0, λ last e. dequeue .1 last (is-going (said .0) (sym as-said ∙ e)))),
-        (λ d. let enqueue = counts .1 .1 d in (enqueue .0, λ last. as-said ∙ ap acceptedCode (enqueue .1 last))),
+        (λ d. let enqueue = counts .1 .1 d in (enqueue .0, enqueue .1, λ last. as-said ∙ ap acceptedCode (enqueue .2 last))),
       ),
     )
