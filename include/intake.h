@@ -6,14 +6,14 @@
  * own guards the store by one mutex. The producers and the consumer are numbers, not threads of the machine.
  *
  * Sizes: entries in a record 2 to 64, records 2 to 64, producers 1 to 16, enqueue starts allowed 1 to 1,000,000. The store takes
- *     16 + 8 * (producers + 1) + records * (3 * entries + 4)
- * words, at most 12,696. Words past that are never read or written.
+ *     16 + 8 * (producers + 1) + records * (3 * entries + 4) + 130
+ * words, at most 12,826. Words past that are never read or written.
  *
  * The same calls after an open of the same sizes leave the same words in any store, and are answered alike.
  *
- * Every call returns. A refused call returns its number, 1 to 9 below, and changes no word of store or reply. `store` points to `words`
- * words and `reply` to four, apart from the store; both are aligned and not NULL, also where `words` is 0. A call takes less than 4 KB of
- * stack.
+ * Every call returns. A refused call returns its number, 1 to 9, 14 or 15 below, and changes no word of store, buffer or reply. `store`
+ * points to `words` words, `buffer` to `buffer_words` and `reply` to four, no two of them sharing a word; all are aligned and not NULL, also
+ * where they have no words. A call takes less than 4 KB of stack.
  *
  * Every start and step first looks whether each word of the store is in its range, and refuses with 3 if one is not. Damage that stays in
  * range is not seen then: such a store may be followed, or refused with 9, or send a call round in a circle, which ends with 9 only when
@@ -31,7 +31,7 @@ extern "C" {
 #endif
 
 /* Grows when a call, a number or a word of the store changes its meaning. */
-#define INTAKE_VERSION 4
+#define INTAKE_VERSION 5
 
 /* What the calls return. */
 enum {
@@ -46,18 +46,28 @@ enum {
     INTAKE_REFUSED_NONE_FREE = 8, /* step of an enqueue: no record is free; it may be made again (intake_has_room says how to avoid it) */
     INTAKE_REFUSED_LINK = 9,      /* step: a link is missing, an index leaves its record or a number its range; never on a store that only
                                      the engine has written */
+    INTAKE_REFUSED_LIMIT = 14,    /* start of a drain: a limit outside 1 to INTAKE_MOST_DRAINED */
+    INTAKE_REFUSED_BUFFER = 15,   /* step that would end a drain: the buffer is too short from the named word, or ends before it; the drain
+                                     stays under way, and the step may be made again */
     INTAKE_GOING = 100,           /* step: the call is still under way */
     INTAKE_END = 101,             /* step: the enqueue has ended */
     INTAKE_EMPTY = 102,           /* step: the dequeue has ended, nothing was there */
-    INTAKE_ITEM = 103             /* step: the dequeue has ended with an item */
+    INTAKE_ITEM = 103,            /* step: the dequeue has ended with an item */
+    INTAKE_DRAINED = 104          /* step: the drain has ended; its items, none or more, are in the buffer */
 };
 
 /* Words of the store that a host may read between calls: the sizes, the positions taken so far, the position of the head. */
 enum { INTAKE_ENTRIES = 0, INTAKE_RECORDS = 1, INTAKE_PRODUCERS = 2, INTAKE_TAIL = 6, INTAKE_HEAD = 9 };
 
+/* The most items of one drain, the words of the buffer that they take, and the words of the store that a drain keeps them in. */
+#define INTAKE_MOST_DRAINED 64u
+#define INTAKE_MOST_BUFFER (2u * INTAKE_MOST_DRAINED)
+#define INTAKE_DRAIN_WORDS (2u + 2u * INTAKE_MOST_DRAINED)
+
 /* The words that a store of these sizes takes. */
-#define INTAKE_WORDS(entries, records, producers) (16u + 8u * ((producers) + 1u) + (records) * (3u * (entries) + 4u))
-#define INTAKE_MOST_WORDS 12696u
+#define INTAKE_WORDS(entries, records, producers) \
+    (16u + 8u * ((producers) + 1u) + (records) * (3u * (entries) + 4u) + INTAKE_DRAIN_WORDS)
+#define INTAKE_MOST_WORDS 12826u
 
 /* The most steps of one call that are counted: the step after them is refused with 9. */
 #define INTAKE_MOST_STEPS 100000000u
@@ -66,6 +76,10 @@ enum { INTAKE_ENTRIES = 0, INTAKE_RECORDS = 1, INTAKE_PRODUCERS = 2, INTAKE_TAIL
  * at most 8,675,745, for 64 and 64. */
 #define INTAKE_MOST_DEQUEUE_STEPS(entries, records) \
     ((records) * (5u * (entries) + 3u) + 3u * (entries) + 1u + (records) * ((entries) + 1u) * ((records) * ((entries) + 1u) + 1u) / 2u)
+
+/* The same of a drain of this limit, 1 to INTAKE_MOST_DRAINED: at most 8,942,109, for 64, 64 and 64. */
+#define INTAKE_MOST_DRAIN_STEPS(entries, records, limit) \
+    (INTAKE_MOST_DEQUEUE_STEPS(entries, records) + ((limit)-1u) * ((records) * ((entries) + 1u) + (entries) + 4u))
 
 /* The most accepted steps that an enqueue takes on a store of these sizes that only the engine has written, whatever steps others make in
  * between: at most 150, for 64 and 16. A step refused with 8 is not accepted and not counted. */
@@ -92,11 +106,19 @@ uint32_t intake_start_enqueue(uint32_t *store, size_t words, uint32_t producer, 
 /* The consumer begins to dequeue. Returns INTAKE_OK; or refusal 2, 3 or 5. */
 uint32_t intake_start_dequeue(uint32_t *store, size_t words);
 
-/* One step of a thread: 0 the consumer, 1 to producers the producers. Returns INTAKE_GOING, _END, _EMPTY or _ITEM; or refusal 2 to 4, 7 to 9.
- * On INTAKE_ITEM reply[0] is the call number of the item's enqueue and reply[1] its value; otherwise they stay as they are. On every accepted
- * step reply[2] is the number of accepted steps of that call so far, this one included; on a store that something else has written it is the
- * stored number plus one. reply[3] stays as it is. */
-uint32_t intake_step(uint32_t *store, size_t words, uint32_t thread, uint32_t reply[4]);
+/* The consumer begins to take what waits, up to limit items (1 to INTAKE_MOST_DRAINED). Returns INTAKE_OK; or refusal 2, 3, 5 or 14. */
+uint32_t intake_start_drain(uint32_t *store, size_t words, uint32_t limit);
+
+/* One step of a thread: 0 the consumer, 1 to producers the producers. Returns INTAKE_GOING, _END, _EMPTY, _ITEM or _DRAINED; or refusal 2 to
+ * 4, 7 to 9 or 15.
+ * On INTAKE_ITEM reply[0] is the call number of the item's enqueue and reply[1] its value. On INTAKE_DRAINED reply[0] says how many items the
+ * drain gave and reply[1] is 0; the items, call number and value of each in the order in which they were taken, are in the buffer from
+ * buffer[from] on, and its other words stay. Otherwise reply[0] and reply[1] stay as they are. On every accepted step reply[2] is the number of
+ * accepted steps of that call so far, this one included; on a store that something else has written it is the stored number plus one. reply[3]
+ * stays as it is.
+ * Only the step that ends a drain looks at buffer and from: two words are needed for each item, and none where a drain gives none (from may then
+ * be buffer_words, but not more). A host that never drains lends a buffer of no words. */
+uint32_t intake_step(uint32_t *store, size_t words, uint32_t thread, uint32_t *buffer, size_t buffer_words, uint32_t from, uint32_t reply[4]);
 
 #ifdef __cplusplus
 }

@@ -18,22 +18,25 @@ uint32_t words_of(uint32_t entries, uint32_t records, uint32_t producers) { retu
 uint32_t least_records(uint32_t entries, uint32_t producers) { return INTAKE_LEAST_RECORDS(entries, producers); }
 uint32_t most_enqueue_steps(uint32_t records, uint32_t producers) { return INTAKE_MOST_ENQUEUE_STEPS(records, producers); }
 uint32_t most_dequeue_steps(uint32_t entries, uint32_t records) { return INTAKE_MOST_DEQUEUE_STEPS(entries, records); }
+uint32_t most_drain_steps(uint32_t entries, uint32_t records, uint32_t limit) { return INTAKE_MOST_DRAIN_STEPS(entries, records, limit); }
 
-/* a run of every phase on the largest store, threads in uneven turns, then a refusal */
+/* a run of every phase on the largest store, threads in uneven turns, dequeues and drains, then a refusal */
 static void engine(void) {
-    static uint32_t store[WORDS], reply[4];
+    static uint32_t store[WORDS], buffer[INTAKE_MOST_BUFFER], reply[4];
     intake_open(store, WORDS, 64, 64, 16, 1000000);
     for (uint32_t k = 0; k < 30000; k++) {
         uint32_t thread = (k * k + k / 17) % 17;
-        if (intake_step(store, WORDS, thread, reply) != INTAKE_REFUSED_IDLE) continue;
-        if (thread == 0) {
+        if (intake_step(store, WORDS, thread, buffer, INTAKE_MOST_BUFFER, 0, reply) != INTAKE_REFUSED_IDLE) continue;
+        if (thread > 0) {
+            intake_start_enqueue(store, WORDS, thread, k, reply);
+        } else if (k % 2) {
             intake_start_dequeue(store, WORDS);
         } else {
-            intake_start_enqueue(store, WORDS, thread, k, reply);
+            intake_start_drain(store, WORDS, INTAKE_MOST_DRAINED);
         }
     }
     store[WORDS - 2] = UINT32_MAX;
-    intake_step(store, WORDS, 0, reply);
+    intake_step(store, WORDS, 0, buffer, INTAKE_MOST_BUFFER, 0, reply);
 }
 
 /* 4,096 events: an enqueue and the dequeue of its item, again and again */

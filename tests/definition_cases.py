@@ -11,6 +11,7 @@ from pathlib import Path
 from typing import NamedTuple
 
 import claim_stores
+import drain_stores
 import intake_model as im
 import judge_model as jm
 import leaving_stores
@@ -22,6 +23,8 @@ BIG = (2**16, 2**31, im.U32 - 1, im.U32)
 TYPES = {'schedule': 'Schedule', 'count': 'Schedule', 'single': 'Single', 'claim': 'List ℕ', 'history': 'Words'}
 ANSWERS = {'schedule': 'Outcome', 'count': 'List ℕ', 'single': 'Result', 'claim': 'ℕ', 'history': 'Verdict'}
 FUNCTIONS = {'schedule': 'follow', 'count': 'count', 'single': 'call', 'claim': 'next', 'history': 'judge'}
+# what is computed in place of the function, and proved to be the same
+QUICKER = {'schedule': 'quickFollow', 'count': 'quickCount', 'single': 'quickCall'}
 
 
 class Schedule(NamedTuple):
@@ -47,7 +50,7 @@ class Single(NamedTuple):
 
     words: list
     call: tuple
-    expected: tuple  # the reply and the words after
+    expected: tuple  # the reply, the words after, and those of the buffer
 
 
 class Claim(NamedTuple):
@@ -68,10 +71,20 @@ class History(NamedTuple):
 # Schedules.
 
 
+def with_items(reply, call):
+    """The reply to a call that has been made. That of a drain has its items, in the place of their number."""
+    if reply[0] != 'drained':
+        return reply
+    items = call[2][call[3] :][: 2 * reply[1]] if len(call) > 2 else []
+    return ('drained', tuple(zip(items[::2], items[1::2])), reply[2])
+
+
 def play(lent, sizes, calls):
     """The case of a schedule, with the model's answers."""
     recorder = im.Recorder(*sizes, words=list(lent))
-    replies = [recorder.opened] + recorder.run(calls)
+    replies = [recorder.opened]
+    for call in map(drain_stores.fresh, calls):
+        replies.append(with_items(recorder.call(call), call))
     return Schedule(lent, sizes, calls, (replies, recorder.words, im.items_left(recorder.words), recorder.history))
 
 
@@ -79,7 +92,7 @@ def counted(case, calls):
     """The case of a schedule's first calls, with the accepted steps counted by their replies."""
     steps = [0, 0]
     for call, reply in zip(case.calls[:calls], case.expected[0][1:]):
-        t = step_counts.thread_of(call)
+        t = im.thread_of(call)
         if t < 2 and reply[0] != 'refused':
             steps[t] = steps[t] + 1 if call[0] == 's' else 0
     return Count(case.lent, case.sizes, case.calls[:calls], steps)
@@ -90,7 +103,7 @@ def snapshots(case):
     recorder = im.Recorder(*case.sizes, words=list(case.lent))
     stores = [list(recorder.words)]
     for call in case.calls:
-        recorder.call(call)
+        recorder.call(drain_stores.fresh(call))
         stores.append(list(recorder.words))
     return stores
 
@@ -102,7 +115,8 @@ def random_sizes(rng):
 def random_call(rng, P):
     """Any call, often one that is refused."""
     thread = rng.choice((0, rng.randint(0, P), rng.randint(0, P), P + 1, rng.choice(BIG)))
-    return rng.choice([('e', thread, random_value(rng)), ('d',), ('s', thread), ('s', thread)])
+    starts = [('e', thread, random_value(rng)), ('d',), ('drain', rng.choice(drain_stores.LIMITS))]
+    return rng.choice(starts + [('s', thread), ('s', thread, (), rng.choice((0, 1, im.U32)))])
 
 
 def random_value(rng):
@@ -125,12 +139,13 @@ def random_schedule(rng):
         thread = rng.choices(range(P + 1), shares)[0]
         if recorder.words[im.CONTENTS + im.THREAD_WORDS * thread] == stops[thread] and rng.random() < 0.9:
             thread = rng.randint(0, P)
-        start = ('e', thread, random_value(rng)) if thread else ('d',)
-        call = ('s', thread) if thread in recorder.starts or rng.random() < 0.05 else start
+        start = ('e', thread, random_value(rng)) if thread else rng.choice((('d',), ('drain', rng.choice((1, 2, 3, 64)))))
+        steps = thread in recorder.busy or rng.random() < 0.05
+        call = drain_stores.lent_step(rng, recorder.words, thread) if steps else start
         if rng.random() < 0.1:
             call = random_call(rng, P)
         calls.append(call)
-        recorder.call(call)
+        recorder.call(drain_stores.fresh(call))
     return play(lent, sizes, calls)
 
 
@@ -144,6 +159,11 @@ def rescans(case):
 
 def lets_go(case):
     return ('consumer', 8, 'accepted') in reached([case])
+
+
+def drains(case):
+    """A drain gives two items or more."""
+    return any(reply[0] == 'drained' and len(reply[1]) > 1 for reply in case.expected[0])
 
 
 def leaves_in_another_order(case):
@@ -160,9 +180,9 @@ def leaves_in_another_order(case):
 
 
 def schedules(seed, calls):
-    """Schedules with at least so many calls in all. Four of five are the next that does something rare."""
+    """Schedules with at least so many calls in all. Five of six are the next that does something rare."""
     rng = random.Random(seed)
-    wanted = itertools.cycle((lambda case: True, goes_back, rescans, lets_go, leaves_in_another_order))
+    wanted = itertools.cycle((lambda case: True, goes_back, rescans, lets_go, drains, leaves_in_another_order))
     cases = []
     while sum(len(case.calls) for case in cases) < calls:
         wants = next(wanted)
@@ -174,13 +194,10 @@ def schedules(seed, calls):
 
 
 def answer(words, call):
-    """The case of one call, with the model's answer."""
-    after = list(words)
-    if call[0] == 'open':
-        reply = im.open_store(after, *call[1:])
-    else:
-        reply = im.do(after, call)
-    return Single(list(words), call, (reply, after))
+    """The case of one call, with the model's answer. A start and an open are lent no buffer."""
+    after, made = list(words), drain_stores.fresh(call)
+    reply = im.open_store(after, *call[1:]) if call[0] == 'open' else with_items(im.do(after, made), made)
+    return Single(list(words), call, (reply, after, made[2] if call[0] == 's' and len(call) > 2 else []))
 
 
 def busy(words):
@@ -192,7 +209,7 @@ def likely_call(rng, words):
     """Mostly a step of a busy thread."""
     threads = busy(words)
     if threads and rng.random() < 0.85:
-        return ('s', rng.choice(threads))
+        return drain_stores.lent_step(rng, words, rng.choice(threads))
     return random_call(rng, words[2])
 
 
@@ -234,15 +251,16 @@ def wild(rng, kind, phase):
         words += [place, up_to(N), up_to(N), rng.randint(0, 3)]
         for _ in range(B):
             words += [rng.randint(0, 2), up_to(M), random_value(rng)]
+    words += drain_stores.area(rng, M, words[im.CONTENTS])
     own = im.CONTENTS + im.THREAD_WORDS * thread
     pairs = ((im.HELD, im.POSITION),) if thread else ((im.CURSOR, im.CURSOR_POSITION), (im.FOUND, im.FOUND_POSITION))
     for record, position in ((im.HEAD_RECORD, im.HEAD_POSITION), *((own + r, own + p) for r, p in pairs)):
-        if words[record] and rng.random() < 0.6:
+        if words[record] and rng.random() < 0.6 and not (position == own + im.SCANNED and words[own] >= 6):
             place_of = words[record_at(words, words[record]) + im.PLACE]
             words[position] = min(max(B * (place_of - 1) + rng.randint(0, B), 0), M)
     if rng.random() < 0.5:
         sharpen(rng, words, thread)
-    return answer(words, ('s', thread))
+    return answer(words, drain_stores.lent_step(rng, words, thread))
 
 
 def record_at(words, number):
@@ -281,13 +299,14 @@ def sharpen(rng, words, thread):
 
 
 def edges():
-    """Every word of a small store, in every phase of its threads, at the edge of its range and one past it."""
+    """Every word of a small store, in every phase of its threads, at the edge of its range and one past it; of the drain area
+    some, beside an idle consumer, and beside one that drains."""
     B, N, P, M = sizes = (2, 2, 1, 9)
     store = [0] * im.needed_words(*sizes[:3])
     im.open_store(store, *sizes)
     by_thread = im.thread_limits(N, M)
     tops = [64, 64, 16, 1_000_000, 16, store[5], M, N, N, M, M, N, 0, 0, 0, 0]
-    tops += [0] * im.THREAD_WORDS * (P + 1) + list(im.record_limits(B, N, M))
+    tops += [0] * im.THREAD_WORDS * (P + 1) + list(im.record_limits(B, N, M)) + [0] * 4
     threads = range(im.CONTENTS, store[5])
     cases = [case for k, top in enumerate(tops) if k not in threads for case in at_edge(store, k, top, ('d',))]
     for thread, limits in enumerate(by_thread):
@@ -298,6 +317,11 @@ def edges():
             for k in range(1, im.THREAD_WORDS):
                 cases += at_edge(words, first + k, row[k], ('s', thread))
         cases += at_edge(store, first, len(limits) - 1, ('s', thread))
+    area, draining = im.drain_at(*sizes[:3]), list(store)
+    cases += at_edge(store, len(store) - 1, 0, ('d',))
+    draining[im.CONTENTS], draining[area : area + 6] = 1, [64, 2, 1, 7, 2, 8]
+    for k, top in ((0, 64), (1, 64), (2, M), (3, im.U32), (4, M), (5, im.U32), (6, 0), (7, 0), (im.DRAIN_WORDS - 1, 0)):
+        cases += at_edge(draining, area + k, top, ('s', 0, (0,) * 4, 0))
     return list({(tuple(case.words), case.call): case for case in cases}.values())
 
 
@@ -333,7 +357,40 @@ def with_another_count(rng, store):
     then."""
     words = list(store)
     t = rng.choice(busy(words)) if busy(words) and rng.random() < 0.9 else rng.randint(0, words[2])
-    return answer(step_counts.with_steps(words, t, rng.choice(step_counts.EDGES)), ('s', t))
+    call = drain_stores.lent_step(rng, words, t)
+    return answer(step_counts.with_steps(words, t, rng.choice(step_counts.EDGES)), call)
+
+
+def starting_drain(rng, stores):
+    """A start drain on a store of the model, of any limit; the consumer has a call under way or not."""
+    wants = rng.random() < 0.7
+    idle = [words for words in stores if (words[im.CONTENTS] == 0) == wants]
+    return answer(rng.choice(idle), ('drain', rng.choice(drain_stores.LIMITS)))
+
+
+def with_another_area(rng, store):
+    """A store of the model with another drain area, in range, or damaged in a word, and a step of the consumer."""
+    words = drain_stores.draining(rng, store)
+    if rng.random() < 0.4:
+        at = rng.choice((0, 1, 1, 2, 3, 4, rng.randrange(im.DRAIN_WORDS)))
+        words[im.drain_at(*words[:3]) + at] = random_word(rng, words[:4])
+    return answer(words, drain_stores.lent_step(rng, words, 0))
+
+
+def ends(rng, stores):
+    """For each phase in which a drain may end, a store on which one ends, with no item and with some; each with a buffer that
+    fits, from its first word and from a later one, with one that lacks a word, and with one that ends before the named one."""
+    cases, wanted = [], set(itertools.product((1, 2, 3), (False, True))) | {(7, True), (8, True)}
+    while wanted:
+        words = drain_stores.draining(rng, rng.choice(stores))
+        reply = im.step(list(words), 0, [0] * 2 * im.MOST_ITEMS, 0)
+        items = reply[1] if reply[0] == 'drained' else 0
+        if reply[0] != 'drained' or items > 9 or (words[im.CONTENTS], items > 0) not in wanted:
+            continue
+        wanted.remove((words[im.CONTENTS], items > 0))
+        for length, named in ((2 * items, 0), (2 * items + 3, 3), (2 * items + 2, 3), (2 * items, 2 * items + 1), (2, im.U32)):
+            cases.append(answer(words, ('s', 0, tuple(rng.randrange(99) for _ in range(length)), named)))
+    return cases
 
 
 def last_counts(stores):
@@ -342,10 +399,11 @@ def last_counts(stores):
     found = {}
     for store in stores:
         for t in busy(store):
-            reply = im.step(list(store), t)
-            found.setdefault((t > 0, store[im.CONTENTS + im.THREAD_WORDS * t], reply[0]), (store, t))
+            call = ('s', t, (0,) * 2 * (im.drain_word(store, im.COUNT) + 1), 0)
+            reply = im.do(list(store), drain_stores.fresh(call))
+            found.setdefault((t > 0, store[im.CONTENTS + im.THREAD_WORDS * t], reply[0]), (store, t, call))
     last = (im.MOST_STEPS - 1, im.MOST_STEPS, im.MOST_STEPS + 1)
-    return [answer(step_counts.with_steps(store, t, k), ('s', t)) for store, t in found.values() for k in last]
+    return [answer(step_counts.with_steps(store, t, k), call) for store, t, call in found.values() for k in last]
 
 
 def of_another_length(rng, store):
@@ -388,20 +446,30 @@ def opening(rng):
 
 
 def letting_go(rng, count):
-    """So many stores on which the consumer marks an item, and as many on which it leaves the head record."""
+    """So many stores on which the consumer marks an item, and as many on which it leaves the head record; of a dequeue, and of
+    a drain."""
     stores = rng.sample(leaving_stores.marking(rng), count) + rng.sample(leaving_stores.leaving(rng), count)
-    return [answer(words, ('s', 0)) for words in stores]
+    stores += [drain_stores.draining(rng, words) for words in stores]
+    return [answer(words, drain_stores.lent_step(rng, words, 0)) for words in stores]
+
+
+def claiming(rng):
+    """A claim from each record claimed last, with up to four records, some of them free."""
+    lasts = [(N, last) for N in range(2, 5) for last in range(1, N + 1)]
+    uses = [[0, *(rng.choice((0, 2, 3)) for _ in range(N - 1))] for N, _ in lasts]
+    return [answer(claim_stores.claiming(rng, each, last), ('s', 1)) for each, (_, last) in zip(uses, lasts)]
 
 
 def singles(seed, stores, count):
     """So many single calls; the damaged stores are made from `stores`."""
     rng = random.Random(seed)
     phases = [('producer', p) for p in range(1, 12)] + [('consumer', p) for p in range(1, 9)]
-    late = [store for store in stores if store[im.CONTENTS] in (7, 8)]
-    cases = edges() + letting_go(rng, 70) + last_counts(stores)
+    dequeues = [store for store in stores if store[im.CONTENTS]]
+    late = [store for store in dequeues if store[im.CONTENTS] in (7, 8)]
+    cases = edges() + letting_go(rng, 60) + last_counts(stores) + ends(rng, dequeues) + claiming(rng)
     while len(cases) < count:
         store = rng.choice(stores)
-        kind = len(cases) % 25
+        kind = len(cases) % 28
         if kind < 4:
             cases.append(damaged(rng, store))
         elif kind < 14:
@@ -417,9 +485,14 @@ def singles(seed, stores, count):
         elif kind < 21:
             cases.append(with_another_last(rng, store))
         elif kind < 23:
-            cases.append(damaged(rng, rng.choice(late), ('s', 0)))
+            store = rng.choice(late)
+            cases.append(damaged(rng, store, drain_stores.lent_step(rng, store, 0)))
         elif kind < 24:
             cases.append(with_another_count(rng, store))
+        elif kind < 26:
+            cases.append(starting_drain(rng, stores))
+        elif kind < 27:
+            cases.append(with_another_area(rng, rng.choice(dequeues)))
         else:
             cases.append(opening(rng))
     return cases
@@ -501,10 +574,15 @@ def changed_at(items, k, change):
 
 
 def another_reply(rng, reply):
-    """A reply with another number, be it the number of steps or not; if it has none, another reply."""
+    """A reply with another number, be it the number of steps or not; if it has none, another reply. Of a drain, with another
+    item, or one more."""
     if len(reply) == 1:
         return ('going', 0)
-    k = rng.randrange(1, len(reply))
+    if reply[0] == 'drained' and rng.random() < 0.8:
+        items = list(reply[1]) or [(0, 0)]
+        items[-1] = (items[-1][0], another(items[-1][1]))
+        return ('drained', tuple(items), reply[2])
+    k = len(reply) - 1 if reply[0] == 'drained' else rng.randrange(1, len(reply))
     return reply[:k] + (another(reply[k]),) + reply[k + 1 :]
 
 
@@ -533,10 +611,12 @@ def with_one_wrong_value(rng, case):
     if isinstance(case, Count):
         return case._replace(expected=changed_at(case.expected, rng.randrange(2), another))
     if isinstance(case, Single):
-        reply, words = case.expected
+        reply, words, buffer = case.expected
+        if buffer and rng.random() < 0.3:
+            return case._replace(expected=(reply, words, changed_at(buffer, rng.randrange(len(buffer)), another)))
         if not words or rng.random() < 0.5:
-            return case._replace(expected=(another_reply(rng, reply), words))
-        return case._replace(expected=(reply, changed_at(words, rng.randrange(len(words)), another)))
+            return case._replace(expected=(another_reply(rng, reply), words, buffer))
+        return case._replace(expected=(reply, changed_at(words, rng.randrange(len(words)), another), buffer))
     if isinstance(case, Claim):
         return case._replace(expected=another(case.expected))
     verdict = case.expected
@@ -603,13 +683,28 @@ def listed(terms):
 
 
 def numbers(words):
-    return listed(map(str, words))
+    """A list of words; a long row of zeros in it, such as a drain area's, is `zeros`."""
+    return ' '.join(part for row, same in itertools.groupby(words, bool) for part in row_term(row, list(same))) + ' []'
+
+
+def row_term(row, words):
+    if not row and len(words) >= 16:
+        return [f'zeros {len(words)} ++']
+    return [f'{word} ∷' for word in words]
 
 
 def request_term(call):
     if call[0] == 'd':
         return 'startDequeue'
+    if call[0] == 'drain':
+        return f'startDrain {call[1]}'
     return f'startEnqueue {call[1]} {call[2]}' if call[0] == 'e' else f'step {call[1]}'
+
+
+def invocation_term(call):
+    """A request with its buffer and named word. A start is lent none."""
+    buffer, named = call[2:] if call[0] == 's' and len(call) > 2 else ((), 0)
+    return record_term(request=request_term(call), buffer=numbers(buffer), **{'from': named})
 
 
 def response_term(reply):
@@ -621,7 +716,13 @@ def response_term(reply):
         return f'accepted (started {numbers[0]}) 0' if numbers else 'accepted ok 0'
     if kind == 'item':
         return 'accepted (item {} {}) {}'.format(*numbers)
+    if kind == 'drained':
+        return f'accepted (drained ({listed(map(item_term, numbers[0]))})) {numbers[1]}'
     return f'accepted {"ended" if kind == "end" else kind} {numbers[0]}'
+
+
+def item_term(item):
+    return record_term(number=item[0], value=item[1])
 
 
 def event_term(event):
@@ -644,24 +745,26 @@ def record_term(**fields):
     return 'record { ' + '; '.join(f'{name} = {term}' for name, term in fields.items()) + ' }'
 
 
+def schedule_term(case):
+    calls = listed(map(invocation_term, case.calls))
+    return record_term(lent=numbers(case.lent), sizes=sizes_term(case.sizes), calls=calls)
+
+
 def terms(case):
     """What is given and what is expected, as terms."""
     if isinstance(case, Schedule):
         replies, words, left, history = case.expected
-        items = [record_term(number=number, value=value) for number, value in left]
         events = listed(map(event_term, reversed(history)))
-        requests = listed(map(request_term, case.calls))
-        given = record_term(lent=numbers(case.lent), sizes=sizes_term(case.sizes), requests=requests)
         replies = listed(map(response_term, replies))
-        return given, record_term(replies=replies, words=numbers(words), left=listed(items), history=events)
+        left = listed(map(item_term, left))
+        return schedule_term(case), record_term(replies=replies, words=numbers(words), left=left, history=events)
     if isinstance(case, Count):
-        requests = listed(map(request_term, case.calls))
-        return record_term(lent=numbers(case.lent), sizes=sizes_term(case.sizes), requests=requests), numbers(case.expected)
+        return schedule_term(case), numbers(case.expected)
     if isinstance(case, Single):
         opens = case.call[0] == 'open'
-        made = f'opening ({sizes_term(case.call[1:])})' if opens else f'request ({request_term(case.call)})'
-        reply, words = case.expected
-        expected = record_term(reply=response_term(reply), words=numbers(words))
+        made = f'opening ({sizes_term(case.call[1:])})' if opens else f'calling ({invocation_term(case.call)})'
+        reply, words, buffer = case.expected
+        expected = record_term(reply=response_term(reply), words=numbers(words), buffer=numbers(buffer))
         return record_term(words=numbers(case.words), made=made), expected
     if isinstance(case, Claim):
         return numbers(case.words), case.expected
@@ -685,49 +788,56 @@ abbrev {name}-expected : {ANSWERS[kind]}
 {name}-expected = {expected}
 
 pub {name} : {FUNCTIONS[kind]} {name}-given ≡ {name}-expected
-unfolding {FUNCTIONS[kind]}
-{name} = refl {{a = {name}-expected}}
+unfolding {QUICKER.get(kind, FUNCTIONS[kind])}
+{name} = {f"{FUNCTIONS[kind]}-is {name}-given" if kind in QUICKER else f"refl {{a = {name}-expected}}"}
 """
 
 
 STORE_HEAD = """-- Generated: calls on a store, and what the model answers.
 use mathlib.Core.Path.{_≡_, refl}
-use mathlib.Core.List.{List, [], _∷_}
+use mathlib.Core.List.{List, [], _∷_, _++_}
 use Prim.Native.Nat.{ℕ}
 use Rattle.history.specs.Event.{enqueueStarted, enqueueEnded, dequeueStarted, gaveItem, gaveEmpty}
-use Rattle.rules.specs.Rule.{refused, accepted, ok, started, going, ended, empty, item}
-use Rattle.rules.specs.Request.{Result, startEnqueue, startDequeue, step}
-use Rattle.tables.specs.Store.{Schedule, Outcome, follow, count, Single, opening, request, call, next}
+use Rattle.rules.specs.Rule.{refused, accepted, ok, started, going, ended, empty, item, drained}
+use Rattle.rules.specs.Request.{Result, startEnqueue, startDequeue, startDrain, step}
+use Rattle.tables.specs.Store.{Schedule, Outcome, follow, quickFollow, follow-is, count, quickCount, count-is, Single, opening, calling, call, quickCall, call-is, next, zeros}
 """
 
 HISTORY_HEAD = """-- Generated: words for the judge, and the model's verdict.
 use mathlib.Core.Path.{_≡_, refl}
 use mathlib.Core.Bool.{true, false}
-use mathlib.Core.List.{[], _∷_}
+use mathlib.Core.List.{[], _∷_, _++_}
+use Rattle.tables.specs.Store.{zeros}
 use Rattle.tables.specs.Judge.{Words, Verdict, refused, judged, judge}
 """
 
 # The definitions, put together as the tables need them.
 STORE = """-- Calls on a store as the definitions answer them.
+use mathlib.Core.Path.{_≡_, refl, ap, ap₂}
 use mathlib.Core.List.{List, [], _∷_, reverse}
 use Prim.Native.Nat.{ℕ}
+use lib.ListN.{replicate}
 use Rattle.history.specs.Event.{History}
 use Rattle.history.specs.Linearization.{Queue}
 use Rattle.rules.specs.Sizes.{Sizes}
 use Rattle.rules.specs.Cell.{reader, writes}
-use Rattle.rules.specs.Range.{inRange}
 use Rattle.rules.specs.Free.{free, nextFree}
 use Rattle.rules.specs.Rule.{Response}
 use Rattle.rules.specs.Producer.{takePosition, loadTail, lookNext, claimRecord, linkClaimed, shiftTail, goBack, writeEntry, setEntry, claimAhead, linkAhead, producerStep}
 use Rattle.rules.specs.Consumer.{front, readTail, scan, readEntry, rescan, readItem, markHandled, retireHead, consumerStep}
-use Rattle.rules.specs.Request.{Request, Result, applied, opened, open-store, startingEnqueue, startingDequeue, phaseStep, counted, stepping, effect, sizesOf, admitted, result}
+use Rattle.rules.specs.Request.{Invocation, Result, applied, opened, open-store, startingEnqueue, startingDequeue, startingDrain, phaseStep, counted, stepping, effect, sizesOf, result}
 use Rattle.rules.specs.Play.{Played, play, stepsMade, itemsLeft}
+use Rattle.rules.specs.Quick.{quickResult, result-is, quickPlay, play-is, quickSteps, steps-are}
 
--- an open of lent words, and requests after it
+-- so many words that are zero
+abbrev pub zeros : ℕ → List ℕ
+zeros n = replicate n 0
+
+-- an open of lent words, and calls after it
 pub record Schedule : Type 0 where
   pub lent : List ℕ
   pub sizes : Sizes
-  pub requests : List Request
+  pub calls : List Invocation
 
 -- the replies, the words at the end, the items left in them, and the history, the newest event first
 pub record Outcome : Type 0 where
@@ -741,23 +851,38 @@ outcome p =
     let z = sizesOf (p .words) in
     record { replies = reverse (p .replies); words = p .words; left = itemsLeft z (reader z (p .words)); history = p .history }
 
+-- what stands after the open
+abbrev opened-by : Schedule → Played
+opened-by s = let o = open-store (s .sizes) (s .lent) in record { words = o .words; replies = o .reply ∷ []; history = [] }
+
 unfoldable pub follow : Schedule → Outcome
-unfolding UNFOLDED play itemsLeft
-follow s =
-    let o = open-store (s .sizes) (s .lent) in
-    outcome (play (s .requests) (record { words = o .words; replies = o .reply ∷ []; history = [] }))
+follow s = outcome (play (s .calls) (opened-by s))
+
+-- the same, quicker to compute
+unfoldable pub quickFollow : Schedule → Outcome
+unfolding UNFOLDED itemsLeft
+quickFollow s = outcome (quickPlay (s .calls) (opened-by s))
+
+pub follow-is : (s : Schedule) → follow s ≡ quickFollow s
+unfolding follow quickFollow
+follow-is s = ap outcome (play-is (s .calls) (opened-by s))
 
 -- the accepted steps of threads 0 and 1, counted in the list
 unfoldable pub count : Schedule → List ℕ
-unfolding UNFOLDED stepsMade
-count s =
-    let p : Played = record { words = open-store (s .sizes) (s .lent) .words; replies = []; history = [] } in
-    stepsMade 0 (s .requests) p 0 ∷ stepsMade 1 (s .requests) p 0 ∷ []
+count s = stepsMade 0 (s .calls) (opened-by s) 0 ∷ stepsMade 1 (s .calls) (opened-by s) 0 ∷ []
+
+unfoldable pub quickCount : Schedule → List ℕ
+unfolding UNFOLDED
+quickCount s = quickSteps 0 (s .calls) (opened-by s) 0 ∷ quickSteps 1 (s .calls) (opened-by s) 0 ∷ []
+
+pub count-is : (s : Schedule) → count s ≡ quickCount s
+unfolding count quickCount
+count-is s = ap₂ (λ (a b : ℕ). a ∷ b ∷ []) (steps-are 0 (s .calls) (opened-by s) 0) (steps-are 1 (s .calls) (opened-by s) 0)
 
 -- one call on any words
 pub data Made : Type 0 where
   opening : Sizes → Made
-  request : Request → Made
+  calling : Invocation → Made
 
 pub record Single : Type 0 where
   pub words : List ℕ
@@ -765,11 +890,26 @@ pub record Single : Type 0 where
 
 abbrev pub made-on : List ℕ → Made → Result
 made-on m (opening z) = open-store z m
-made-on m (request q) = result q m
+made-on m (calling v) = result v m
 
 unfoldable pub call : Single → Result
-unfolding UNFOLDED
 call s = made-on (s .words) (s .made)
+
+abbrev pub quick-on : List ℕ → Made → Result
+quick-on m (opening z) = open-store z m
+quick-on m (calling v) = quickResult v m
+
+unfoldable pub quickCall : Single → Result
+unfolding UNFOLDED
+quickCall s = quick-on (s .words) (s .made)
+
+made-is : (m : List ℕ) (k : Made) → made-on m k ≡ quick-on m k
+made-is m (opening z) = refl
+made-is m (calling v) = result-is v m
+
+pub call-is : (s : Single) → call s ≡ quickCall s
+unfolding call quickCall
+call-is s = made-is (s .words) (s .made)
 
 -- the record that a claim takes on these words, plus one; 0 for none
 unfoldable pub next : List ℕ → ℕ
@@ -778,8 +918,8 @@ next m = let z = sizesOf m in nextFree z (reader z m)
 """
 STORE = STORE.replace(
     'UNFOLDED',
-    'result admitted applied effect startingEnqueue startingDequeue stepping counted phaseStep open-store opened reader '
-    'writes inRange free nextFree takePosition loadTail lookNext claimRecord linkClaimed shiftTail goBack writeEntry '
+    'applied effect startingEnqueue startingDequeue startingDrain stepping counted phaseStep open-store opened reader '
+    'writes free nextFree takePosition loadTail lookNext claimRecord linkClaimed shiftTail goBack writeEntry '
     'setEntry claimAhead linkAhead producerStep front readTail scan readEntry rescan readItem markHandled retireHead '
     'consumerStep',
 )

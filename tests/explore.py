@@ -1,6 +1,6 @@
 """Every reachable state of small intakes, and random runs of larger ones, with the invariants checked on each.
 
-Run as a program it prints what it explored: `python3 explore.py [B N P M]`.
+Run as a program it prints what it explored: `python3 explore.py [B N P M [LIMIT ..]]`, with drains of these limits.
 """
 
 import random
@@ -35,30 +35,41 @@ def dequeue(count):
     return [('d',)] + steps(0) * count
 
 
-# B, N, P, M of the cases that the default run explores whole.
-SMALL_CASES = ((2, 2, 1, 4), (2, 3, 1, 10), (2, 4, 1, 8), (2, 2, 2, 2), (2, 2, 2, 3), (2, 3, 2, 3))
+# The cases that the default run explores whole: B, N, P, M, the limits of their drains.
+SMALL_CASES = (
+    (2, 2, 1, 4),
+    (2, 2, 1, 6, (1, 2, 3)),
+    (2, 3, 1, 10),
+    (2, 4, 1, 8),
+    (2, 2, 2, 2, (1, 2, 3)),
+    (2, 2, 2, 3),
+    (2, 3, 2, 3),
+)
 
-# Cases that are explored whole from a later state on: B, N, P, M, the calls that lead there.
+# Cases that are explored whole from a later state on: B, N, P, M, the limits, the calls that lead there.
 HEAD_LATE = enqueue(1, 1, 1) + enqueue(2, 2, 6) + enqueue(2, 3, 7)
 TWO_GONE = enqueue(1, 1, 4) + enqueue(1, 2, 6) + dequeue(3) * 2
 THREE_IN = enqueue(1, 1, 4) + enqueue(1, 2, 6) + enqueue(1, 3, 7)
 THREE_GONE = THREE_IN + enqueue(1, 4, 6) + dequeue(3) + dequeue(4) + dequeue(3)
 GIVEN_BACK = enqueue(1, 1, 4) + enqueue(2, 2, 3) + enqueue(1, 3, 3) + steps(2, 1, 2, 1, 2, 1, 1, 1, 1)
 LATER_CASES = (
-    (2, 2, 2, 5, HEAD_LATE),
-    (2, 2, 2, 5, TWO_GONE),
-    (2, 3, 2, 6, THREE_GONE),  # the last record was claimed last, and record 0 is free
-    (2, 3, 2, 5, GIVEN_BACK),  # the record claimed last is free
+    (2, 2, 2, 5, (), HEAD_LATE),
+    (2, 2, 2, 4, (2,), HEAD_LATE),
+    (2, 2, 2, 5, (), TWO_GONE),
+    (2, 3, 2, 6, (2,), THREE_GONE),  # the last record was claimed last, and record 0 is free
+    (2, 3, 2, 5, (), GIVEN_BACK),  # the record claimed last is free
 )
 
-# Cases whose lists of calls are all tried: B, N, P, M, the number of calls, and the calls before them.
+# Cases whose lists of calls are all tried: B, N, P, M, the number of calls, the limits, and the calls before them.
 HISTORY_CASES = (
     (2, 2, 2, 2, 18),
     (2, 3, 2, 3, 17),
-    (2, 3, 2, 5, 20, THREE_IN + dequeue(3)),  # the next dequeue drains the head record
-    (2, 4, 3, 7, 10, THREE_IN + dequeue(3) * 2),  # it stands in phase 8
+    (2, 2, 2, 2, 13, (1, 2)),
+    (2, 3, 2, 5, 20, (), THREE_IN + dequeue(3)),  # the next dequeue drains the head record
+    (2, 3, 2, 5, 14, (2, 3), THREE_IN + dequeue(3)),  # the next drain gives two items in two records
+    (2, 4, 3, 7, 10, (), THREE_IN + dequeue(3) * 2),  # it stands in phase 8
 )
-EXPECTED_REFUSALS = (4, 5, 6, 7, 8)  # on a store that only the engine has written
+EXPECTED_REFUSALS = (4, 5, 6, 7, 8, 14, 15)  # on a store that only the engine has written
 ALL_ORDERS_CALLS = 9  # histories of at most so many calls are tried in all orders
 RANDOM_RUNS = 500
 STALLED_RUNS = 200
@@ -78,13 +89,19 @@ def open_words(B, N, P, M):
     return words
 
 
-def moves(words):
-    """Every call that may be accepted: a start of each idle thread, and a step of each busy one."""
+def lent(t, words=2 * im.MOST_ITEMS, named=0):
+    """A step that is lent a buffer of so many words."""
+    return ('s', t, [0] * words, named)
+
+
+def moves(words, limits=()):
+    """Every call that may be accepted: a start of each idle thread, with drains of these limits, and a step of each busy
+    one, with a buffer long enough."""
     for t in range(words[2] + 1):
         if words[im.CONTENTS + im.THREAD_WORDS * t]:
-            yield ('s', t)
+            yield lent(t)
         elif t == 0:
-            yield ('d',)
+            yield from [('d',)] + [('drain', limit) for limit in limits]
         elif words[im.STARTS] < words[3]:
             yield ('e', t, value_of(words[im.STARTS] + 1))
 
@@ -106,6 +123,27 @@ def alike(words):
     return words
 
 
+def packed(words):
+    """The words, `alike`, as bytes without the zeros at their end."""
+    return bytes(alike(words)).rstrip(b'\0')
+
+
+def unpacked(state):
+    words = list(state)
+    return words + [0] * (im.needed_words(*words[:3]) - len(words))
+
+
+def short_buffers(words, call, reply, words_after, engine):
+    """What is wrong with the same step lent too short a buffer: by one word, or ending before the named one. It is refused
+    with 15, and nothing has changed, exactly where a drain would end. Otherwise it is the same step."""
+    if call[0] != 's' or not im.drain_word(words, im.LIMIT):
+        return []
+    ends = reply[0] == 'drained'
+    short = [lent(call[1], 0, 1)] + [lent(call[1], 2 * reply[1] - 1)] * (ends and reply[1] > 0)
+    expected = (words, ('refused', 15)) if ends else (words_after, reply)
+    return ['a buffer too short'] * any(after(words, each, engine) != expected for each in short)
+
+
 def wrong_reply(reply):
     return reply[0] == 'refused' and reply[1] not in EXPECTED_REFUSALS
 
@@ -123,37 +161,37 @@ def state_after(words, calls, engine, ghost):
     """The state, words and ghost, that some calls lead to."""
     for call in calls:
         before, (words, reply) = words, after(words, call, engine)
-        ghost = ghost.after(call, before, reply)
-    return bytes(alike(words)), ghost
+        ghost = ghost.after(call, before, reply, words)
+    return packed(words), ghost
 
 
-def explore(B, N, P, M, first=(), engine=im.Intake, limit=None, clauses=None):
-    """Breadth first over words and ghost, all interleavings, from the state after the calls `first` on, until a clause
-    fails, or a call is wrong in its number of steps or its measure. The words of a small case are below 256, so a state
-    keeps them as bytes."""
+def explore(B, N, P, M, limits=(), first=(), engine=im.Intake, limit=None, clauses=None):
+    """Breadth first over words and ghost, all interleavings, with drains of these limits, from the state after the calls
+    `first` on, until a clause fails, or a call is wrong in its number of steps, its measure or its buffer. The words of
+    a small case are below 256, so a state keeps them as bytes."""
     start = state_after(open_words(B, N, P, M), first, engine, invariants.Ghost())
-    came_from, queue, transitions, measured_from = {start: None}, deque([start]), 0, set()
-    measured = lru_cache(maxsize=None)(lambda packed: measures.measures(list(packed)))
+    came_from, queue, transitions, met = {start: None}, deque([start]), 0, set()
+    measured = lru_cache(maxsize=None)(lambda state: measures.measures(unpacked(state)))
     while queue:
         state = queue.popleft()
-        packed, ghost = state
-        words = list(packed)
+        words, ghost = unpacked(state[0]), state[1]
         bad = invariants.broken(words, ghost, clauses)
         if bad:
             return Result(len(came_from), transitions, False, (trace(came_from, state), bad))
-        again = packed in measured_from  # with another ghost
-        measured_from.add(packed)
-        for call in moves(words):
+        again = state[0] in met  # with another ghost
+        met.add(state[0])
+        for call in moves(words, limits):
             words_after, reply = after(words, call, engine)
             transitions += 1
-            packed_after = bytes(alike(words_after))
+            packed_after = packed(words_after)
             bad = [f'reply {reply}'] if wrong_reply(reply) else []
             if reply[0] != 'refused' and not again:
                 bad = step_counts.miscounted(call, reply, words, words_after)
-                bad += measures.broken(call, reply, words, measured(packed), measured(packed_after))
+                bad += measures.broken(call, reply, words, words_after, measured(state[0]), measured(packed_after))
+                bad += short_buffers(words, call, reply, words_after, engine)
             if bad:
                 return Result(len(came_from), transitions, False, (trace(came_from, state) + [call], bad))
-            following = (packed_after, ghost.after(call, words, reply))
+            following = (packed_after, ghost.after(call, words, reply, words_after))
             if following not in came_from:
                 if limit is not None and len(came_from) >= limit:
                     return Result(len(came_from), transitions, False, None)
@@ -165,51 +203,56 @@ def explore(B, N, P, M, first=(), engine=im.Intake, limit=None, clauses=None):
 # Demand 3 itself.
 
 
-def demand_3_small(words, history):
+def demand_3_small(items_left, history):
     """Demand 3 by all orders: the history is linearizable, and with no call under way the items left are a queue that
     some linearization leaves."""
     left = jm.linearizations_leaving(history)
     idle = all(call.end for call in jm.calls_of(history))
-    return bool(left) and (not idle or tuple(im.items_left(words)) in left)
+    return bool(left) and (not idle or items_left in left)
 
 
-def demand_3_long(words, history):
+def demand_3_long(items_left, history):
     """The same by the polynomial checks."""
     if any(call.end == 0 for call in jm.calls_of(history)):
         return jm.explained_in_time(history) and jm.explained_by_mark(history)
-    return jm.explained_by_mark(history) and jm.leaves(history, im.items_left(words))
+    return jm.explained_by_mark(history) and jm.leaves(history, items_left)
 
 
-def kept_or_told_wrong(words, ghost, explained):
-    """What is wrong with the two histories of a ghost, as lists. In phase 8, and there alone, the last item is kept and
-    was not told, and what is kept is explained too."""
-    if words[im.CONTENTS] != 8:
-        return [] if ghost.kept == ghost.told else ['kept and told']
-    if ghost.late is None or not ghost.kept.withdrawn_is(ghost.told, ghost.late[0]):
-        return ['kept and told in 8']
-    return [] if explained(ghost.kept) else ['what is kept in 8']
+def wrongly_told(words, ghost, explained):
+    """What is wrong with the two histories of a ghost, as lists: the clauses of the told one, and what is kept is explained
+    too."""
+    view = invariants.View(words, ghost)
+    bad = [name for name, holds in invariants.TOLD.items() if not holds(view)]
+    return bad if bad or ghost.kept == ghost.told or explained(ghost.kept) else ['what is kept in 8']
 
 
-def explore_histories(B, N, P, M, depth, first=(), engine=im.Intake):
-    """Every list of at most `depth` accepted calls after the calls `first`, with demand 3 checked by all orders after
-    each call. States that agree in histories and words, numbers of steps aside, are followed once."""
+def consumers(words):
+    """The words of the consumer and of its drain, but for its number of steps."""
+    return bytes(words[im.CONTENTS : im.CONTENTS + im.STEPS] + words[im.drain_at(*words[:3]) :])
+
+
+def explore_histories(B, N, P, M, depth, limits=(), first=(), engine=im.Intake):
+    """Every list of at most `depth` accepted calls after the calls `first`, with drains of these limits, and demand 3
+    checked by all orders after each call. States that agree in histories and words, numbers of steps aside, are followed
+    once."""
     states = {state_after(open_words(B, N, P, M), first, engine, invariants.listed())}
     met, transitions, verdicts = len(states), 0, {}
     for _ in range(depth):
         following = set()
-        for packed, ghost in states:
-            words = list(packed)
-            for call in moves(words):
+        for state, ghost in states:
+            words = unpacked(state)
+            for call in moves(words, limits):
                 words_after, reply = after(words, call, engine)
                 transitions += 1
-                longer = ghost.after(call, words, reply)
-                key = (longer.kept, longer.told, words_after[im.CONTENTS], tuple(im.items_left(words_after)))
+                longer = ghost.after(call, words, reply, words_after)
+                left = tuple(im.items_left(words_after))
+                key = (longer.kept, longer.told, left, consumers(words_after))
                 if key not in verdicts:
-                    bad = kept_or_told_wrong(words_after, longer, jm.explained_by_all_orders)
-                    verdicts[key] = bad if demand_3_small(words_after, longer.told) else ['demand 3']
+                    bad = wrongly_told(words_after, longer, jm.explained_by_all_orders)
+                    verdicts[key] = bad if demand_3_small(left, longer.told) else ['demand 3']
                 if verdicts[key] or wrong_reply(reply):
                     return Result(met, transitions, False, ([longer.told], verdicts[key] or [f'reply {reply}']))
-                following.add((bytes(alike(words_after)), longer))
+                following.add((packed(words_after), longer))
         met += len(following)
         states = following
     return Result(met, transitions, False, None)
@@ -228,11 +271,21 @@ def random_call(rng, words, threads):
     t = rng.choice(threads)
     if rng.random() < 0.02:
         t = rng.choice((0, words[2] + 1, im.U32, *threads))
-    if t <= words[2] and words[im.CONTENTS + im.THREAD_WORDS * t]:
-        return ('s', t)
-    if rng.random() < 0.05:
-        return ('s', t)
-    return ('d',) if t == 0 else ('e', t, rng.choice((0, 7, 7, im.U32, rng.randrange(2**32))))
+    busy = t <= words[2] and words[im.CONTENTS + im.THREAD_WORDS * t]
+    if busy or rng.random() < 0.05:
+        return random_step(rng, t)
+    return random_start(rng) if t == 0 else ('e', t, rng.choice((0, 7, 7, im.U32, rng.randrange(2**32))))
+
+
+def random_start(rng):
+    """A dequeue, or a drain, most often of a limit within its range."""
+    return ('d',) if rng.random() < 0.4 else ('drain', rng.choice((1, 2, 3, 3, 5, 8, 64, rng.choice((0, 65, im.U32)))))
+
+
+def random_step(rng, t):
+    """A step that is lent a buffer most often long enough for the few items that wait."""
+    length = rng.choice((0, 1, 3, 128, 128, 128, 130))
+    return lent(t, length, rng.choice((0, 0, 0, 1, 2, length, length + 1, im.U32)))
 
 
 def random_run(seed, calls=250, engine=im.Intake):
@@ -257,10 +310,10 @@ def random_run(seed, calls=250, engine=im.Intake):
                 return accepted, (seed, k, call, 'a refusal changed the words')
             continue
         accepted += 1
-        ghost, lists = ghost.after(call, before, reply), lists.after(call, before, reply)
+        ghost, lists = (past.after(call, before, reply, recorder.words) for past in (ghost, lists))
         bad = invariants.broken(recorder.words, ghost) + lengths.wrong(call, reply, before, recorder.words)
-        bad = bad or kept_or_told_wrong(recorder.words, lists, jm.explained_in_time)
-        if not bad and (reply[0] in ('item', 'empty') or k == calls - 1 or not recorder.starts):
+        bad = bad or wrongly_told(recorder.words, lists, jm.explained_in_time)
+        if not bad and (reply[0] in ('item', 'empty', 'drained') or k == calls - 1 or not recorder.busy):
             bad = demand_3_broken(recorder)
         if bad:
             return accepted, (seed, k, call, bad)
@@ -268,10 +321,11 @@ def random_run(seed, calls=250, engine=im.Intake):
 
 
 def demand_3_broken(recorder):
-    if not demand_3_long(recorder.words, recorder.history):
+    left = tuple(im.items_left(recorder.words))
+    if not demand_3_long(left, recorder.history):
         return ['demand 3']
     few = sum(event[0] in (1, 3) for event in recorder.history) <= ALL_ORDERS_CALLS
-    if few and not demand_3_small(recorder.words, recorder.history):
+    if few and not demand_3_small(left, recorder.history):
         return ['demand 3 by all orders']
     return []
 
@@ -301,7 +355,7 @@ def stalled_run(seed, calls=600, engine=im.Intake):
             threads = [t for t in rng.sample(range(P + 1), rng.randint(1, P + 1)) if t not in gone] or [0]
         t = rng.choice(threads)
         busy = words[im.CONTENTS + im.THREAD_WORDS * t]
-        call = ('s', t) if busy else ('e', t, k) if t else ('d',)
+        call = random_step(rng, t) if busy else ('e', t, k) if t else random_start(rng)
         before, (words, reply) = words, after(words, call, engine)
         if reply[0] == 'refused':
             met += reply[1] == 8
@@ -326,12 +380,13 @@ def stalled_runs(seeds, engine=im.Intake):
 
 
 def main(arguments):
-    cases = [tuple(map(int, arguments))] if arguments else SMALL_CASES + LATER_CASES
+    numbers = tuple(map(int, arguments))
+    cases = [numbers[:4] + (numbers[4:],)] if arguments else SMALL_CASES + LATER_CASES
     for case in cases:
-        report('states', case[:4], explore, *case)
+        report('states', case[:5], explore, *case)
     if not arguments:
         for case in HISTORY_CASES:
-            report('histories', case[:5], explore_histories, *case)
+            report('histories', case[:6], explore_histories, *case)
         report('random runs', RANDOM_RUNS, random_runs, range(RANDOM_RUNS))
         report('stalled runs', STALLED_RUNS, stalled_runs, range(STALLED_RUNS))
 

@@ -1,13 +1,14 @@
-"""An independent model of the Jiffy intake, written by hand from document 01 and from U1 to U3 of document 02.
+"""An independent model of the Jiffy intake, written by hand from document 01 and from U1 to U3 and U5 of document 02.
 
-The store is a list of 32-bit words. `open_store`, `start_enqueue`, `start_dequeue` and `step` change the list only
-when they accept, and answer one of
+The store is a list of 32-bit words. `open_store`, `start_enqueue`, `start_dequeue`, `start_drain` and `step` change the
+list, and the buffer that a step is lent, only when they accept. They answer one of
 
     ('ok',)  ('ok', call)  ('refused', number)
-    ('going', steps)  ('end', steps)  ('empty', steps)  ('item', call, value, steps)
+    ('going', steps)  ('end', steps)  ('empty', steps)  ('item', call, value, steps)  ('drained', items, steps)
 
-where steps is the number of accepted steps of that call so far. Each phase is one method of `Intake`, under the
-sentence of the papers that it renders. A wrong engine for a test is a subclass that overrides one method.
+where steps is the number of accepted steps of that call so far, and items how many a drain gave. Each phase is one
+method of `Intake`, under the sentence of the papers that it renders. A wrong engine for a test is a subclass that
+overrides one method.
 """
 
 from functools import lru_cache
@@ -27,13 +28,14 @@ THREAD_WORDS = 8
 PHASE, STEPS = 0, 7
 CALL, VALUE, POSITION, HELD, CLAIMED, BACK = range(1, 7)
 CURSOR, CURSOR_POSITION, FOUND, FOUND_POSITION, ITEM_CALL, ITEM_VALUE = range(1, 7)
+SCANNED = CURSOR_POSITION  # in phases 6 to 8: 1 where a drain came there through the scan
 LAST_PRODUCER_PHASE, LAST_CONSUMER_PHASE = 11, 8
 
 # The words in use in each phase; the others are zero then.
 PRODUCER_USES = [(), (0, 1, 2, 7)] + [(0, 1, 2, 3, 4, 6, 7)] * 3 + [(0, 1, 2, 3, 4, 5, 6, 7)]
 PRODUCER_USES += [(0, 1, 2, 3, 4, 6, 7)] * 4 + [(0, 1, 2, 3, 4, 7), (0, 1, 2, 3, 4, 5, 7)]
 CONSUMER_USES = [(), (0, 7), (0, 7), (0, 1, 2, 7), (0, 1, 2, 7), (0, 1, 2, 3, 4, 7)]
-CONSUMER_USES += [(0, 3, 4, 7), (0, 3, 4, 5, 6, 7), (0, 5, 6, 7)]
+CONSUMER_USES += [(0, 2, 3, 4, 7), (0, 2, 3, 4, 5, 6, 7), (0, 2, 5, 6, 7)]
 
 # Record words, uses of a record and states of an entry.
 RECORD_HEAD, ENTRY_WORDS = 4, 3
@@ -41,6 +43,11 @@ PLACE, NEXT, PREV, USE = range(4)
 USE_FREE, USE_CLAIMED, USE_LINKED, USE_RETIRED = range(4)
 STATE, ENTRY_CALL, ENTRY_VALUE = range(3)
 EMPTY, SET, HANDLED = range(3)
+
+# Drain area, behind the records: limit and count, then pairs of call number and value.
+LIMIT, COUNT, PAIRS = range(3)
+MOST_ITEMS = 64
+DRAIN_WORDS = PAIRS + 2 * MOST_ITEMS
 
 GOING, END, NOTHING = ('going',), ('end',), ('empty',)  # of a phase; the number of steps comes after
 
@@ -55,6 +62,11 @@ class Refused(Exception):
 
 def needed_words(B, N, P):
     """The words a store of these sizes takes."""
+    return drain_at(B, N, P) + DRAIN_WORDS
+
+
+def drain_at(B, N, P):
+    """The first word of the drain area."""
     return CONTENTS + THREAD_WORDS * (P + 1) + N * record_words(B)
 
 
@@ -78,7 +90,8 @@ def thread_limits(N, M):
     def by_phase(tops, uses):
         return [tuple(top if k in used else 0 for k, top in enumerate(tops)) for used in uses]
 
-    return by_phase(consumer, CONSUMER_USES), by_phase(producer, PRODUCER_USES)
+    by_cursor, by_flag = (by_phase(tops, CONSUMER_USES) for tops in (consumer, consumer[:2] + (1,) + consumer[3:]))
+    return by_cursor[:6] + by_flag[6:], by_phase(producer, PRODUCER_USES)
 
 
 @lru_cache(maxsize=256)
@@ -119,6 +132,20 @@ def records_in_range(words):
     return all(map(le, words[first : first + N * record_words(B)], record_limits(B, N, M)))
 
 
+def drain_in_range(words):
+    """Limit, 0 to 64, and count, 0 to the limit, then 64 pairs, ranged as an entry's; what isn't in use is zero."""
+    B, N, P, M = words[:4]
+    first = drain_at(B, N, P)
+    limit, count = words[first + LIMIT], words[first + COUNT]
+    behind = first + PAIRS + 2 * count
+    return (
+        limit <= (MOST_ITEMS if words[CONTENTS + PHASE] else 0)
+        and count <= limit
+        and all(call <= M for call in words[first + PAIRS : behind : 2])
+        and not any(words[behind : first + DRAIN_WORDS])
+    )
+
+
 def admission(words):
     """Refusals 2 and 3 in their order; 0 when the store is admitted."""
     if len(words) < CONTENTS:
@@ -127,9 +154,8 @@ def admission(words):
         return 3
     if len(words) < needed_words(*words[:3]):
         return 2
-    if not (contents_in_range(words) and threads_in_range(words) and records_in_range(words)):
-        return 3
-    return 0
+    rest = threads_in_range(words) and records_in_range(words) and drain_in_range(words)
+    return 0 if contents_in_range(words) and rest else 3
 
 
 def in_range(words):
@@ -191,6 +217,20 @@ def items_left(words):
     return [(call, value) for _, call, value in sorted(found)]
 
 
+# Drains.
+
+
+def drain_word(words, k):
+    """A word of the drain area."""
+    return words[drain_at(*words[:3]) + k]
+
+
+def pair(words, k):
+    """The call number and value of an item that is kept in the drain area."""
+    at = drain_at(*words[:3]) + PAIRS + 2 * k
+    return tuple(words[at : at + 2])
+
+
 # Steps.
 
 
@@ -217,13 +257,23 @@ class Intake:
         self.B, self.N, self.P, self.M = words[:4]
         self.w = words[: needed_words(self.B, self.N, self.P)]
         self.own = CONTENTS
+        self.area = drain_at(self.B, self.N, self.P)
+        self.room, self.handed = 0, []  # words of the buffer from the named one on; those that a drain hands over
 
-    def run(self, t):
-        """One phase of thread t."""
-        self.own = CONTENTS + THREAD_WORDS * t
+    def run(self, t, room=0):
+        """One phase of thread t. `room` is the number of words of the buffer from the named one on, below 0 if it ends
+        before that."""
+        self.own, self.room = CONTENTS + THREAD_WORDS * t, room
         names = self.PRODUCER if t else self.CONSUMER
         so_far = self.mine(STEPS)
-        return self.counted(getattr(self, names[self.mine(PHASE)])(), so_far)
+        reply = self.counted(getattr(self, names[self.mine(PHASE)])(), so_far)
+        self.fit(reply)
+        return reply
+
+    def fit(self, reply):
+        """A buffer too short from the named word, or ending before it, gives 15, after 9, at the step that would end it."""
+        if reply[0] == 'drained' and self.room < len(self.handed):
+            raise Refused(15)
 
     def counted(self, reply, so_far):
         """Every accepted step's reply carries the number of accepted steps of that call so far, this one included. It
@@ -288,6 +338,14 @@ class Intake:
         """End the call: the thread's eight words are zero and it holds nothing."""
         self.w[self.own : self.own + THREAD_WORDS] = [0] * THREAD_WORDS
         return reply
+
+    def end_drain(self):
+        """The items go into the caller's word buffer at the step where the drain ends, and the reply, drained, says how
+        many, 0 for none. The area is zero then."""
+        items = self.drain(COUNT)
+        self.handed = self.w[self.area + PAIRS : self.area + PAIRS + 2 * items]
+        self.w[self.area : self.area + DRAIN_WORDS] = [0] * DRAIN_WORDS
+        return self.idle(('drained', items))
 
     # Producer.
 
@@ -398,6 +456,17 @@ class Intake:
 
     # Consumer.
 
+    def drain(self, k):
+        return self.w[self.area + k]
+
+    def draining(self):
+        """Whether the call under way is a drain."""
+        return self.drain(LIMIT) != 0
+
+    def answer_empty(self):
+        """Where a dequeue answers empty a drain ends with the items it has, and with none like that dequeue."""
+        return self.end_drain() if self.draining() else self.idle(NOTHING)
+
     def found_at(self, r, position):
         self.put(FOUND, r + 1)
         self.put(FOUND_POSITION, position)
@@ -424,11 +493,12 @@ class Intake:
     def front(self):
         """1. Front. At the end of the head record: empty if it is also the tail record; otherwise next becomes head
         record, head position its first, the old one is retired; stay. Else read the entry: handled advances the
-        head; set goes to 6 with found the head; empty goes to 2."""
+        head; set goes to 6 with found the head; empty goes to 2. A drain goes on from there without reading tail while the
+        front entry is set, and ends when it isn't (the tail record's end counts so)."""
         head, position = self.w[HEAD_RECORD] - 1, self.w[HEAD_POSITION]
         if self.at_end(head, position):
             if self.head_is_tail():
-                return self.idle(NOTHING)
+                return self.answer_empty()
             self.leave_head()
             return self.to(1)
         state = self.w[self.entry(head, position) + STATE]
@@ -438,12 +508,16 @@ class Intake:
         if state == SET:
             self.found_at(head, position)
             return self.to(6)
-        return self.to(2)
+        return self.not_set()
+
+    def not_set(self):
+        """An empty entry at the front. A drain that has an item ends."""
+        return self.end_drain() if self.drain(COUNT) else self.to(2)
 
     def read_tail(self):
         """2. Read tail: equal to the head position is empty; otherwise the cursor is the next position; to 3."""
         if self.w[TAIL] == self.w[HEAD_POSITION]:
-            return self.idle(NOTHING)
+            return self.answer_empty()
         self.cursor_at(self.w[HEAD_RECORD] - 1, self.successor(self.w[HEAD_POSITION]))
         return self.to(3)
 
@@ -458,11 +532,11 @@ class Intake:
         cursor, position = link(self.mine(CURSOR)), self.mine(CURSOR_POSITION)
         if self.at_end(cursor, position):
             if self.w[TAIL_RECORD] == cursor + 1:
-                return self.idle(NOTHING)
+                return self.answer_empty()
             self.cross(cursor)
             return self.to(3)
         if position == self.w[TAIL]:
-            return self.idle(NOTHING)
+            return self.answer_empty()
         return self.to(4)
 
     def scan_entry(self):
@@ -487,7 +561,10 @@ class Intake:
             self.cursor_to_head()
         else:
             self.put(CURSOR_POSITION, self.successor(position))
-        return self.to(6 if self.rescanned() else 5)
+        if not self.rescanned():
+            return self.to(5)
+        self.put(SCANNED, int(self.draining()))
+        return self.to(6)
 
     def rescanned(self):
         return self.mine(CURSOR_POSITION) == self.mine(FOUND_POSITION)
@@ -499,15 +576,30 @@ class Intake:
         self.put(ITEM_VALUE, self.w[entry + ENTRY_VALUE])
         return self.to(7)
 
+    def keep_item(self):
+        """A drain keeps its item, from its mark, in the first pair not in use."""
+        count = self.drain(COUNT)
+        need(count < self.drain(LIMIT))
+        at = self.area + PAIRS + 2 * count
+        self.w[at : at + 2] = [self.mine(ITEM_CALL), self.mine(ITEM_VALUE)]
+        self.w[self.area + COUNT] = count + 1
+
     def reply_item(self):
-        """Reply item."""
-        return self.idle(('item', self.mine(ITEM_CALL), self.mine(ITEM_VALUE)))
+        """Reply item. A drain goes back to phase 1, or ends if the limit is reached. If its first front wasn't set it
+        acted as one dequeue and ends with it."""
+        if not self.draining():
+            return self.idle(('item', self.mine(ITEM_CALL), self.mine(ITEM_VALUE)))
+        if self.drain(COUNT) == self.drain(LIMIT) or self.mine(SCANNED):
+            return self.end_drain()
+        return self.to(1)
 
     def mark(self):
         """7. Mark handled; if found is the head position, it advances. When that brings the head to the record's end
         and the head record isn't the tail record, to 8. Otherwise reply item."""
         position = self.mine(FOUND_POSITION)
         self.w[self.entry(link(self.mine(FOUND)), position) + STATE] = HANDLED
+        if self.draining():
+            self.keep_item()
         if position == self.w[HEAD_POSITION]:
             self.w[HEAD_POSITION] = self.successor(position)
             if self.at_end(self.w[HEAD_RECORD] - 1, position + 1) and not self.head_is_tail():
@@ -574,8 +666,22 @@ def start_dequeue(words):
     return ('ok',)
 
 
-def step(words, t, engine=Intake):
-    """One phase of thread t."""
+def start_drain(words, limit):
+    """Put the consumer in phase 1, with a limit from 1 to 64."""
+    number = admission(words)
+    if number:
+        return refused(number)
+    if words[CONTENTS + PHASE]:
+        return refused(5)
+    if not 1 <= limit <= MOST_ITEMS:
+        return refused(14)
+    words[CONTENTS + PHASE] = 1
+    words[drain_at(*words[:3]) + LIMIT] = limit
+    return ('ok',)
+
+
+def step(words, t, buffer=(), first=0, engine=Intake):
+    """One phase of thread t, lent a buffer of words and the number of one of them. Only a drain's end uses them."""
     number = admission(words)
     if number:
         return refused(number)
@@ -585,14 +691,17 @@ def step(words, t, engine=Intake):
         return refused(7)
     intake = engine(words)
     try:
-        reply = intake.run(t)
+        reply = intake.run(t, len(buffer) - first)
     except Refused as refusal:
         return refused(refusal.number)
     words[: len(intake.w)] = intake.w
+    if intake.handed:
+        buffer[first : first + len(intake.handed)] = intake.handed
     return reply
 
 
-# Lists of calls: ('e', thread, value), ('d',), ('s', thread).
+# Lists of calls: ('e', thread, value), ('d',), ('drain', limit), ('s', thread), ('s', thread, buffer, named word). A step
+# without a buffer is lent one of no words.
 
 
 def do(words, call, engine=Intake):
@@ -601,22 +710,70 @@ def do(words, call, engine=Intake):
         return start_enqueue(words, call[1], call[2])
     if call[0] == 'd':
         return start_dequeue(words)
-    return step(words, call[1], engine)
+    if call[0] == 'drain':
+        return start_drain(words, call[1])
+    return step(words, *call[1:], engine=engine)
 
 
-def event(call, reply, start):
-    """The event that a call with this reply adds to the history, or None. `start` is its thread's start event."""
-    if reply[0] in ('refused', 'going'):
-        return None
+def thread_of(call):
+    return call[1] if call[0] in ('e', 's') else 0
+
+
+# Histories.
+
+STARTED, ANSWERED_EMPTY = (3, 0, 0, 0), (5, 0, 0, 0)
+
+
+class History(tuple):
+    """A history as its events, the oldest first."""
+
+    def start_of(self, thread):
+        return next((event for event in reversed(self) if event[0] in (1, 3) and event[1] == thread), None)
+
+    def with_event(self, event):
+        return History(self + (event,))
+
+    def last_item(self):
+        """The index of its last item."""
+        return max(k for k, event in enumerate(self) if event[0] == 4)
+
+    def withdrawn(self):
+        """Without its last item and the consumer's events since."""
+        at = self.last_item()
+        return History(self[:at] + tuple(event for event in self[at + 1 :] if event[0] in (1, 2)))
+
+
+def gave(item):
+    return (4, 0) + item
+
+
+def told(history, call, reply, before, after):
+    """A history after one more call with this reply; `before` and `after` are the words around it.
+
+    A drain is as many dequeues as items, each begun at the mark of the one before, the last ending with it, and with no
+    item one that answered empty. While it is under way, each item marked so far is a dequeue ended at its mark, and one
+    more has been open since the last mark."""
+    if reply[0] == 'refused':
+        return history
     if call[0] == 'e':
-        return (1, call[1], reply[1], call[2])
-    if call[0] == 'd':
-        return (3, 0, 0, 0)
+        return history.with_event((1, call[1], reply[1], call[2]))
+    if call[0] in ('d', 'drain'):
+        return history.with_event(STARTED)
     if reply[0] == 'end':
-        return (2,) + start[1:]
+        return history.with_event((2,) + history.start_of(call[1])[1:])
     if reply[0] == 'empty':
-        return (5, 0, 0, 0)
-    return (4, 0) + reply[1:3]
+        return history.with_event(ANSWERED_EMPTY)
+    if reply[0] == 'item':
+        return history.with_event(gave(reply[1:3]))
+    count = drain_word(before, COUNT)
+    if reply[0] == 'going':
+        marked = drain_word(after, COUNT) > count
+        return history.with_event(gave(pair(after, count))).with_event(STARTED) if marked else history
+    if reply[1] == 0:
+        return history.with_event(ANSWERED_EMPTY)
+    if reply[1] > count:
+        return history.with_event(gave(tuple(before[CONTENTS + k] for k in (ITEM_CALL, ITEM_VALUE))))
+    return history.withdrawn().with_event(gave(pair(before, count - 1)))
 
 
 class Recorder:
@@ -625,21 +782,19 @@ class Recorder:
     def __init__(self, B, N, P, M, engine=Intake, words=None):
         self.words = [0] * needed_words(B, N, P) if words is None else words
         self.engine = engine
-        self.replies, self.history, self.starts = [], [], {}
+        self.replies, self.history, self.busy = [], History(), set()
         self.opened = open_store(self.words, B, N, P, M)
 
     def call(self, call):
         """Run one call and give its reply."""
+        before = list(self.words)
         reply = do(self.words, call, self.engine)
         self.replies.append(reply)
-        thread = call[1] if len(call) > 1 else 0
-        made = event(call, reply, self.starts.get(thread))
-        if made:
-            self.history.append(made)
-            if made[0] in (1, 3):
-                self.starts[thread] = made
-            else:
-                del self.starts[thread]
+        self.history = told(self.history, call, reply, before, self.words)
+        if reply[0] == 'ok':
+            self.busy.add(thread_of(call))
+        elif reply[0] not in ('refused', 'going'):
+            self.busy.discard(thread_of(call))
         return reply
 
     def run(self, calls):
@@ -648,4 +803,4 @@ class Recorder:
 
     def under_way(self):
         """The threads that have a call under way."""
-        return sorted(self.starts)
+        return sorted(self.busy)

@@ -8,10 +8,11 @@ Words of the clauses: lo, tp and hi are the places of the head record, the tail 
 head position; state_at(p) is EMPTY, SET or HANDLED, where a position of a retired record counts as handled and one
 past the last record as empty; own[p] is the call that took position p.
 
-There are two histories. What was *told* is document 01's: going adds nothing. In what is *kept* an item is given at
-its mark, also where the dequeue then goes to phase 8, and another dequeue is opened right there. So the two differ in
-phase 8, and there alone: what was told is what is kept without its last item and the dequeue opened after it. When
-phase 8 replies the item, what was told is kept from then on.
+There are two histories. What was *told* is the papers': going adds nothing, but for the marks of a drain. In what is
+*kept* every item is given at its mark, also where a dequeue then goes to phase 8, and another dequeue is opened right
+there unless the mark ends the call. So the two differ in phase 8 of a dequeue, and there alone: what was told is what is
+kept without its last item and the dequeue opened after it (*withdrawn*). When the call ends, what was told is kept from
+then on.
 """
 
 from typing import NamedTuple
@@ -21,8 +22,6 @@ from intake_model import EMPTY, HANDLED, SET, USE_CLAIMED, USE_FREE, USE_LINKED,
 
 
 # Histories.
-
-STARTED = (3, 0, 0, 0)
 
 
 class Past(NamedTuple):
@@ -35,6 +34,7 @@ class Past(NamedTuple):
     before_dequeue: int = 0  # calls that had ended when the dequeue under way started
     running: tuple = ()  # (thread, start event) of each call under way, by thread
     good: bool = True  # every dequeue's end so far was in order
+    last: tuple | None = None  # of the consumer's call under way: its last item's event, what had ended when that dequeue started
 
     def precedes(self, a, b):
         """Whether call a ended before call b started."""
@@ -55,7 +55,9 @@ class Past(NamedTuple):
         if kind == 3:
             return past._replace(before_dequeue=self.ended)
         past = past._replace(before_dequeue=0, good=self.good and self.in_order(event))
-        return past._replace(taken=self.taken | 1 << number) if kind == 4 else past
+        if kind == 5:
+            return past
+        return past._replace(taken=self.taken | 1 << number, last=(event, self.before_dequeue))
 
     def in_order(self, event):
         """The criterion at a dequeue's end."""
@@ -65,28 +67,38 @@ class Past(NamedTuple):
         begun = 1 <= number <= len(self.values) and self.values[number - 1] == value
         return begun and not self.taken >> number & 1 and not self.ended_before[number - 1] & ~self.taken
 
-    def withdrawn_is(self, told, number):
-        """Whether `told` is this without its last item, that of call `number`, and the dequeue opened after it. The
-        dequeue of `told` began before, so no more calls had ended then."""
-        rest = self._replace(taken=self.taken & ~(1 << number), before_dequeue=told.before_dequeue)
-        return rest == told != self and not told.before_dequeue & ~self.before_dequeue
+    def withdrawn(self):
+        """Without its last item and the consumer's events since."""
+        (_, _, number, _), before = self.last
+        began = self._replace(taken=self.taken & ~(1 << number), before_dequeue=before, last=None)
+        others = tuple(pair for pair in self.running if pair[0] != 0)
+        return began._replace(running=((0, im.STARTED),) + others)
+
+    def open_since(self, item):
+        """Whether this item is the last, and a dequeue has been opened after it, whose end is to come."""
+        return self.last is not None and self.last[0] == im.gave(item) and self.start_of(0) == im.STARTED
+
+    def at_rest(self):
+        """The consumer's call has ended: its last item is like any before."""
+        return self._replace(last=None)
 
 
-class Events(tuple):
-    """A history as its events, the oldest first."""
-
-    def start_of(self, thread):
-        return next((event for event in reversed(self) if event[0] in (1, 3) and event[1] == thread), None)
+class Events(im.History):
+    """A history as its events."""
 
     def with_event(self, event):
-        return Events(self + (event,))
+        return Events(super().with_event(event))
 
-    def withdrawn_is(self, told, number):
+    def withdrawn(self):
+        return Events(super().withdrawn())
+
+    def open_since(self, item):
         """The same. After the dequeue's start there are events of enqueues alone."""
-        at = max(k for k, event in enumerate(self) if event[0] == 4)
-        last, started, since = self[at], self[at + 1], self[at + 2 :]
-        of_enqueues = all(event[0] in (1, 2) for event in since)
-        return last[2] == number and started == STARTED and of_enqueues and self[:at] + since == told
+        last, *since = self[self.last_item() :]
+        return last == im.gave(item) and [event for event in since if event[0] not in (1, 2)] == [im.STARTED]
+
+    def at_rest(self):
+        return self
 
 
 # Ghost.
@@ -98,26 +110,25 @@ class Ghost(NamedTuple):
     own: tuple = ()  # position -> call, written at the take
     kept: Past = Past()
     told: Past = Past()
-    late: tuple | None = None  # call number and value of the item that is kept and not told
 
-    def after(self, call, words, reply):
-        """The ghost after a call with this reply; `words` are those before the call."""
+    def after(self, call, before, reply, words):
+        """The ghost after a call with this reply; `before` are the words before the call, `words` those after it."""
         if reply[0] == 'refused':
             return self
-        thread = call[1] if len(call) > 1 else 0
-        phase = words[im.CONTENTS + im.THREAD_WORDS * thread] if call[0] == 's' else None
-        own, told = self.own, self.told
+        thread, own = im.thread_of(call), self.own
+        phase = before[im.CONTENTS + im.THREAD_WORDS * thread] if call[0] == 's' else None
         if thread and phase == 1:
-            own += (told.start_of(thread)[2],)
-        event = im.event(call, reply, told.start_of(thread))
-        if event:
-            told = told.with_event(event)
-        if not thread and phase == 7 and reply[0] == 'going':
-            item = tuple(words[im.CONTENTS + k] for k in (im.ITEM_CALL, im.ITEM_VALUE))
-            return Ghost(own, self.kept.with_event((4, 0) + item).with_event(STARTED), told, item)
-        if not thread and phase == 8 and reply[0] == 'item' or self.kept == self.told:
+            own += (self.told.start_of(thread)[2],)
+        told = im.told(self.told, call, reply, before, words)
+        if not thread and reply[0] in ('item', 'empty', 'drained'):
+            told = told.at_rest()
             return Ghost(own, told, told)
-        return Ghost(own, self.kept.with_event(event) if event else self.kept, told, self.late)
+        if not thread and phase == 7:
+            item = tuple(before[im.CONTENTS + k] for k in (im.ITEM_CALL, im.ITEM_VALUE))
+            return Ghost(own, self.kept.with_event(im.gave(item)).with_event(im.STARTED), told)
+        if self.kept == self.told:
+            return Ghost(own, told, told)
+        return Ghost(own, im.told(self.kept, call, reply, before, words), told)
 
 
 def listed():
@@ -160,10 +171,11 @@ class View:
     """A store read once, with what the clauses speak of."""
 
     def __init__(self, words, ghost):
-        self.words, self.own, self.kept, self.told, self.late = words, *ghost
+        self.words, self.own, self.kept, self.told = words, *ghost
         self.B, self.N, self.P, self.M = words[:4]
         self.tail, self.hp, self.starts = words[im.TAIL], words[im.HEAD_POSITION], words[im.STARTS]
         self.tail_record, self.head_record = words[im.TAIL_RECORD] - 1, words[im.HEAD_RECORD] - 1
+        self.limit, self.count = (im.drain_word(words, k) for k in (im.LIMIT, im.COUNT))
         self.read_records()
         self.read_threads()
 
@@ -186,9 +198,10 @@ class View:
 
     def read_threads(self):
         own = [self.words[16 + 8 * t : 24 + 8 * t] for t in range(self.P + 1)]
-        _, cursor, cursor_position, found, found_position, call, value, _ = own[0]
+        phase, cursor, cursor_position, found, found_position, call, value, _ = own[0]
+        self.scanned = cursor_position if phase >= 6 else 0
         self.consumer = Consumer(
-            own[0][0], record_number(cursor), cursor_position, record_number(found), found_position, call, value
+            phase, record_number(cursor), cursor_position, record_number(found), found_position, call, value
         )
         self.producers = []
         for t in range(1, self.P + 1):
@@ -235,13 +248,16 @@ class View:
 
 
 CLAUSES = {}
+TOLD = {}  # those that hold of histories as lists of events too
 
 
-def clause(name):
-    """Register a predicate over a view under a short name."""
+def clause(name, group=None):
+    """Register a predicate over a view under a short name, also with a group."""
 
     def register(holds):
         CLAUSES[name] = holds
+        if group is not None:
+            group[name] = holds
         return holds
 
     return register
@@ -249,8 +265,11 @@ def clause(name):
 
 def broken(words, ghost, clauses=None):
     """The names of the clauses that fail. A clause that cannot be evaluated on the view fails."""
-    view = View(words, ghost)
-    return [name for name, holds in (clauses or CLAUSES).items() if not evaluates(holds, view)]
+    view, named = View(words, ghost), (clauses or CLAUSES).items()
+    try:
+        return [name for name, holds in named if not holds(view)]
+    except (IndexError, TypeError):
+        return [name for name, holds in named if not evaluates(holds, view)]
 
 
 def evaluates(holds, view):
@@ -604,11 +623,6 @@ def _(v):
     return not consumer_in(v, 8, 8) or v.lo < v.tp
 
 
-@clause('consumer 8: the item is the last one kept')
-def _(v):
-    return not consumer_in(v, 8, 8) or (v.consumer.item_call, v.consumer.item_value) == v.late
-
-
 @clause('consumer 8: the item is that of the position before hp')
 def _(v):
     if not consumer_in(v, 8, 8):
@@ -617,22 +631,76 @@ def _(v):
     return (v.consumer.item_call, v.consumer.item_value) == (call, v.kept.values[call - 1])
 
 
+# Drains.
+
+
+@clause('drain: below its limit but in 8')
+def _(v):
+    return v.limit == 0 or consumer_in(v, 8, 8) or v.count < v.limit
+
+
+@clause('drain 8: has an item')
+def _(v):
+    return v.limit == 0 or not consumer_in(v, 8, 8) or v.count > 0
+
+
+@clause('drain 2-5: has no item')
+def _(v):
+    return not consumer_in(v, 2, 5) or v.count == 0
+
+
+@clause('drain 6-8: came through the scan for its first item alone')
+def _(v):
+    return not v.scanned or v.limit > 0 and v.count == (1 if v.consumer.phase == 8 else 0)
+
+
+@clause('drain 6-7: came through the scan, or found is the head')
+def _(v):
+    return not consumer_in(v, 6, 7) or v.limit == 0 or v.scanned or v.consumer.found_position == v.hp
+
+
+@clause('drain: the last pair is the last item kept, and a dequeue is open since', TOLD)
+def _(v):
+    return v.count == 0 or v.kept.open_since(im.pair(v.words, v.count - 1))
+
+
+@clause('drain 8: the item is the last pair')
+def _(v):
+    item = v.consumer.item_call, v.consumer.item_value
+    return v.limit == 0 or not consumer_in(v, 8, 8) or item == im.pair(v.words, v.count - 1)
+
+
 # What was told.
 
 
-@clause('told: in 1-7 and between calls what is kept')
+def late(v):
+    """A dequeue's item is marked and not told."""
+    return v.limit == 0 and consumer_in(v, 8, 8)
+
+
+@clause('told: what is kept, but in 8 of a dequeue', TOLD)
 def _(v):
-    return consumer_in(v, 8, 8) or v.late is None and v.told == v.kept
+    return late(v) or v.told == v.kept
 
 
-@clause('told 8: what is kept, without its last item and the dequeue opened there')
+@clause('told 8: the item of a dequeue is the last one kept, and a dequeue is open since', TOLD)
 def _(v):
-    return not consumer_in(v, 8, 8) or v.kept.withdrawn_is(v.told, v.late[0])
+    return not late(v) or v.kept.open_since((v.consumer.item_call, v.consumer.item_value))
 
 
-@clause('told 8: the item may be given now')
+@clause('told 8: of a dequeue, what is kept withdrawn', TOLD)
 def _(v):
-    return not consumer_in(v, 8, 8) or v.told.in_order((4, 0) + v.late)
+    return not late(v) or v.told == v.kept.withdrawn()
+
+
+@clause('told 8: the item of a dequeue may be given now')
+def _(v):
+    return not late(v) or v.told.in_order(im.gave((v.consumer.item_call, v.consumer.item_value)))
+
+
+@clause('told: the last item of a drain may be given later')
+def _(v):
+    return v.count == 0 or v.kept.withdrawn().in_order(im.gave(im.pair(v.words, v.count - 1)))
 
 
 @clause('told: good')

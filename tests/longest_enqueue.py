@@ -98,7 +98,7 @@ class Run:
         self.take(t)
         self.to_end(t)
 
-    def drain(self):
+    def take_all(self):
         """Dequeue until there is no item."""
         reply = ('item',)
         while reply[0] == 'item':
@@ -110,21 +110,21 @@ class Run:
 
     def end_before(self, place):
         """Step to their ends the other producers that stand in phase 2 with a position before the record of a place,
-        then drain. Where that is the tail record they go back, and link nothing ahead."""
+        then take all items. Where that is the tail record they go back, and link nothing ahead."""
         first = self.words[0] * (place - 1)
         for t in range(OTHER, self.words[2] + 1):
             own = CONTENTS + THREAD_WORDS * t
             if self.words[own] == 2 and self.words[own + im.POSITION] < first:
                 self.to_end(t)
-        self.drain()
+        self.take_all()
 
 
 def construct(B, N, P):
     """The calls of a longest enqueue, for any sizes.
 
     All records are filled, so that nothing is linked after the last one. Others take positions and stop, ours takes the
-    next one, and what was filled is drained. Ours makes its rounds; after each, the others with positions before the
-    tail record end and are drained, so that a record is free for the next one. Where ours is to go back, the others end
+    next one, and all items are taken. Ours makes its rounds; after each, the others with positions before the tail record
+    end and their items are taken, so that a record is free for the next one. Where ours is to go back, the others end
     before its last load, and one of them enqueues until all records are linked or held."""
     run, rounds = Run(B, N, P), records_for(B, P)
     back, ahead = after_the_rounds(B, N, P)
@@ -133,7 +133,7 @@ def construct(B, N, P):
     for t in range(OTHER, OTHER + (P - 1 if back >= ahead else B * (rounds - 1) + 1)):
         run.take(t)
     run.take(OURS)
-    run.drain()
+    run.take_all()
     for _ in range(rounds):
         for _ in range(5):
             run.call(('s', OURS))
@@ -232,7 +232,7 @@ class Reduction:
             new += row
         for k, (kind, _, r) in enumerate(self.kinds, 1):
             new += self.renamed(k, kind, r)
-        return new
+        return new + NO_DRAIN
 
     def call(self, call):
         """The call on the words as they were that a call on the new ones stands for."""
@@ -241,13 +241,14 @@ class Reduction:
         return (call[0], self.rows[call[1] - 1][1], *call[2:])
 
 
-SIZES = 4
+SIZES, NO_DRAIN = 4, [0] * im.DRAIN_WORDS
 OUR_STEPS = CONTENTS + THREAD_WORDS * OURS + im.STEPS - SIZES  # where a packed state has them
 
 
 def packed(words):
-    """The reduced words but for their sizes. Those of a small case are below 256."""
-    return bytes(Reduction(words).words()[SIZES:])
+    """The reduced words but for their sizes and the drain area: here the consumer dequeues. Those of a small case are below
+    256."""
+    return bytes(Reduction(words).words()[SIZES : -im.DRAIN_WORDS])
 
 
 def without_steps(state):
@@ -279,7 +280,7 @@ def search(B, N, P, engine=im.Intake):
         _, _, state = heapq.heappop(waiting)
         if most[without_steps(state)] > state[OUR_STEPS]:
             continue
-        words = [B, N, P, MOST_STARTS, *state]
+        words = [B, N, P, MOST_STARTS, *state, *NO_DRAIN]
         for call in moves(words):
             intake = engine(words)
             reply = accepted(intake, call)

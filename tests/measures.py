@@ -6,8 +6,8 @@ words alone. It is meant for stores that only the engine has written.
 """
 
 import intake_model as im
-from intake_model import HANDLED, USE_LINKED
-from step_counts import Tally, steps_of, thread_of
+from intake_model import HANDLED, USE_LINKED, thread_of
+from step_counts import Tally, steps_of
 
 
 def triangle(n):
@@ -35,8 +35,20 @@ def most_dequeue_steps(B, N):
     return N * (5 * B + 3) + 3 * B + 1 + triangle(N * (B + 1))
 
 
+def next_item_steps(B, N):
+    """From the end of a drain's item to the end of the next: N records passed and left, entries passed in one more, then
+    phases 1, 6, 7 and 8."""
+    return N * (B + 1) + B + 4
+
+
+def most_drain_steps(B, N, limit):
+    """The measure of a drain at its start, at the most; with limit 0 that of a dequeue."""
+    return most_dequeue_steps(B, N) + max(0, limit - 1) * next_item_steps(B, N)
+
+
 def most_steps(words, t):
-    return most_enqueue_steps(*words[:3]) if t else most_dequeue_steps(*words[:2])
+    """The steps of the call under way, at the most."""
+    return most_enqueue_steps(*words[:3]) if t else most_drain_steps(*words[:2], im.drain_word(words, im.LIMIT))
 
 
 class Records:
@@ -87,27 +99,35 @@ def of_enqueue(words, t, records):
 
 def of_dequeue(words, records):
     """The front passes handled entries and leaves the records that they fill; the scan passes positions up to the last
-    record's end. The rescan passes those before found, and each find is before the one it replaces."""
+    record's end. The rescan passes those before found, and each find is before the one it replaces. A drain has the items
+    that are yet to come too, none of which is scanned for."""
     B, N = words[:2]
     phase, cursor, cursor_position, found, found_position = words[im.CONTENTS : im.CONTENTS + 5]
+    limit, count = (im.drain_word(words, k) for k in (im.LIMIT, im.COUNT))
     rescans = triangle(N * (B + 1))
+    later = max(0, limit - count - (phase != 8)) * next_item_steps(B, N)
 
     def far(position, place):
         """The steps of a rescan from the beginning of the head record to a position of the record of a place."""
         return (B + 1) * records.rank(place) + max(0, position + B - B * place)
 
-    if phase <= 2:
-        scan = (2 * B + 1) * (N + records.begun) + 2 * B + rescans
-        to_end = max(0, B * records.place(words[im.HEAD_RECORD]) - words[im.HEAD_POSITION])
-        return (0, (B + 1) * records.begun + to_end + 1 + scan, scan)[phase]
-    if phase <= 4:
-        place = records.place(cursor)
-        records_left = max(0, N - records.rank(place)) + records.begun
-        return (2 * B + 1) * records_left + 2 * max(0, B * place - cursor_position) + rescans - (phase == 4)
-    if phase == 5:
-        to_found = far(found_position, records.place(found))
-        return triangle(to_found) + max(0, to_found - far(cursor_position, records.place(cursor))) + 3
-    return 9 - phase
+    def this_one():
+        """The steps to the end of the item that it is about."""
+        if phase <= 2:
+            scan = (2 * B + 1) * (N + records.begun) + 2 * B + rescans
+            to_end = max(0, B * records.place(words[im.HEAD_RECORD]) - words[im.HEAD_POSITION])
+            passing = (B + 1) * records.begun + to_end
+            return (0, passing + (4 if count else 1 + scan), scan)[phase]
+        if phase <= 4:
+            place = records.place(cursor)
+            records_left = max(0, N - records.rank(place)) + records.begun
+            return (2 * B + 1) * records_left + 2 * max(0, B * place - cursor_position) + rescans - (phase == 4)
+        if phase == 5:
+            to_found = far(found_position, records.place(found))
+            return triangle(to_found) + max(0, to_found - far(cursor_position, records.place(cursor))) + 3
+        return 9 - phase
+
+    return this_one() + later
 
 
 def measures(words):
@@ -116,13 +136,13 @@ def measures(words):
     return (of_dequeue(words, records), *(of_enqueue(words, t, records) for t in range(1, words[2] + 1)))
 
 
-def broken(call, reply, words, before, after):
-    """What an accepted call breaks: `words` are those before it, `before` and `after` the measures around it."""
+def broken(call, reply, words, words_after, before, after):
+    """What an accepted call breaks: the words around it, then the measures around it."""
     t = thread_of(call)
     others = [u for u in range(len(before)) if u != t]
     bad = [f'measure: raised or used up by another, {u}' for u in others if not min(before[u], 1) <= after[u] <= before[u]]
     if call[0] != 's':
-        return bad + ['measure: at a start'] * (not 1 <= after[t] <= most_steps(words, t))
+        return bad + ['measure: at a start'] * (not 1 <= after[t] <= most_steps(words_after, t))
     if reply[0] == 'going':
         bad += ['measure: not lowered'] * (not 1 <= after[t] < before[t])
     else:
@@ -147,5 +167,5 @@ class Lengths:
         """What is wrong with an accepted call: its number of steps, its measure, or the two together."""
         was, self.left = self.left, measures(words)
         together = map(sum, zip(steps_of(words), self.left))
-        bad = self.tally.add(call, reply) + self.tally.wrong(words) + broken(call, reply, before, was, self.left)
+        bad = self.tally.add(call, reply) + self.tally.wrong(words) + broken(call, reply, before, words, was, self.left)
         return bad + [f'steps past the bound, {t}' for t, k in enumerate(together) if k > most_steps(words, t)]

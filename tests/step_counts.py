@@ -2,13 +2,9 @@
 that no engine wrote."""
 
 import intake_model as im
-from intake_model import MOST_STEPS
+from intake_model import MOST_STEPS, thread_of
 
 EDGES = (0, 1, MOST_STEPS - 1, MOST_STEPS, MOST_STEPS + 1)
-
-
-def thread_of(call):
-    return call[1] if len(call) > 1 else 0
 
 
 def steps_of(words):

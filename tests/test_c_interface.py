@@ -19,7 +19,7 @@ from engine_library import Engine, load
 HERE = pathlib.Path(__file__).resolve().parent
 HEADER = ROOT / 'include' / 'intake.h'
 
-# document 01's table, and what the reply words are to C
+# the papers' table, and what the reply words are to C
 NUMBERS = {
     'INTAKE_OK': 0,
     'INTAKE_REFUSED_SIZES': 1,
@@ -31,15 +31,27 @@ NUMBERS = {
     'INTAKE_REFUSED_IDLE': 7,
     'INTAKE_REFUSED_NONE_FREE': 8,
     'INTAKE_REFUSED_LINK': 9,
+    'INTAKE_REFUSED_LIMIT': 14,
+    'INTAKE_REFUSED_BUFFER': 15,
     'INTAKE_GOING': 100,
     'INTAKE_END': 101,
     'INTAKE_EMPTY': 102,
     'INTAKE_ITEM': 103,
+    'INTAKE_DRAINED': 104,
     'INTAKE_ENTRIES': 0,
     'INTAKE_RECORDS': 1,
     'INTAKE_PRODUCERS': 2,
     'INTAKE_TAIL': 6,
     'INTAKE_HEAD': 9,
+}
+
+
+MACROS = {
+    'INTAKE_MOST_STEPS': 100_000_000,
+    'INTAKE_MOST_WORDS': 12_826,
+    'INTAKE_DRAIN_WORDS': 130,
+    'INTAKE_MOST_DRAINED': 64,
+    'INTAKE_MOST_BUFFER': 128,
 }
 
 
@@ -55,9 +67,9 @@ class Header(unittest.TestCase):
         """A header that does not compile, or not without warnings."""
         with tempfile.TemporaryDirectory() as folder:
             source = pathlib.Path(folder) / 'header.c'
-            numbers = NUMBERS | {'INTAKE_MOST_STEPS': 100_000_000}
+            numbers = NUMBERS | MACROS
             names = '\n'.join(f'static_assert({name} == {number}, "");' for name, number in numbers.items())
-            source.write_text(f'#include <assert.h>\n#include "intake.h"\n{names}\nint main(void) {{ return INTAKE_VERSION - 4; }}\n')
+            source.write_text(f'#include <assert.h>\n#include "intake.h"\n{names}\nint main(void) {{ return INTAKE_VERSION - 5; }}\n')
             strict = ['-Wall', '-Wextra', '-Wpedantic', '-Wconversion', '-Werror', f'-I{HEADER.parent}']
             subprocess.run([compiler, *flags, *strict, '-c', str(source), '-o', str(source.with_suffix('.o'))], check=True)
 
@@ -83,7 +95,7 @@ class Header(unittest.TestCase):
         library = compiled()
         for sizes in itertools.product((2, 3, 63, 64), (2, 3, 63, 64), (1, 2, 15, 16)):
             self.assertEqual(library.words_of(*sizes), im.needed_words(*sizes))
-        self.assertEqual(library.words_of(64, 64, 16), 12696)
+        self.assertEqual(library.words_of(64, 64, 16), MACROS['INTAKE_MOST_WORDS'])
 
     def test_most_enqueue_steps(self):
         """A bound that is not document 02's, or that the explorations pass: they hold enqueues to less."""
@@ -100,6 +112,13 @@ class Header(unittest.TestCase):
         for B, N in itertools.product(range(2, 65), repeat=2):
             self.assertEqual(library.most_dequeue_steps(B, N), measures.most_dequeue_steps(B, N))
         self.assertEqual(library.most_dequeue_steps(64, 64), 8_675_745)
+
+    def test_most_drain_steps(self):
+        """A bound that is not the one that the explorations hold drains to, or that wraps at some sizes."""
+        library = compiled()
+        for B, N, limit in itertools.product((2, 3, 8, 63, 64), (2, 3, 8, 63, 64), range(1, 65)):
+            self.assertEqual(library.most_drain_steps(B, N, limit), measures.most_drain_steps(B, N, limit))
+        self.assertEqual(library.most_drain_steps(64, 64, 64), 8_942_109)
 
 
 class Guard(unittest.TestCase):

@@ -7,7 +7,6 @@ import re
 import subprocess
 import tempfile
 import unittest
-from pathlib import Path
 
 import definition_cases as dc
 import intake_model as im
@@ -18,7 +17,7 @@ def setUpModule():
     global SCHEDULES, COUNTS, SINGLES, CLAIMS, HISTORIES
     SCHEDULES = dc.schedules(1, 3_200)
     COUNTS = [dc.counted(case, 30 + k) for k, case in enumerate(SCHEDULES)]
-    SINGLES = dc.singles(2, [store for case in SCHEDULES for store in dc.snapshots(case)], 2_100)
+    SINGLES = dc.singles(2, [store for case in SCHEDULES for store in dc.snapshots(case)], 2_400)
     CLAIMS = dc.claims(6, 60)
     HISTORIES = dc.histories(3, 1_600)
 
@@ -100,7 +99,7 @@ class Reach(unittest.TestCase):
     def test_number_of_cases(self):
         """A generator that makes fewer cases than meant, or the same ones again."""
         self.assertGreaterEqual(sum(len(case.calls) for case in SCHEDULES), 3_200)
-        self.assertEqual((len(SINGLES), len(CLAIMS), len(HISTORIES)), (2_100, 1_308, 1_600))
+        self.assertEqual((len(SINGLES), len(CLAIMS), len(HISTORIES)), (2_400, 1_308, 1_600))
         self.assertGreater(len({(tuple(case.words), case.call) for case in SINGLES}), 1_850)
         self.assertGreater(len({(tuple(case.words), case.entries) for case in HISTORIES}), 1_300)
 
@@ -114,7 +113,7 @@ class Reach(unittest.TestCase):
     def test_refusals(self):
         """A refusal that no call meets; 9 in a phase that can meet it, or in one that cannot."""
         counts = dc.reached(SCHEDULES + SINGLES)
-        for number in range(1, 10):
+        for number in (*range(1, 10), 14, 15):
             self.assertGreaterEqual(counts.get(('refused', number), 0), 20, number)
         with_last = dc.reached([case for case in SINGLES if stored_steps(case) == im.MOST_STEPS])
         singles = dc.reached([case for case in SINGLES if stored_steps(case) != im.MOST_STEPS])
@@ -198,7 +197,7 @@ class Reach(unittest.TestCase):
         """No mark that brings the head to the end of its record, be that the tail record or not; no phase 8 with next
         none, with a first position below 0 or above M, at the tail record, with the head elsewhere, or out of range."""
         steps = [step for case in SINGLES for step in dc.steps_of(case)]
-        admitted = [(words, reply) for words, call, reply in steps if call == ('s', 0) and im.admission(words) == 0]
+        admitted = [(words, reply) for words, call, reply in steps if call[:2] == ('s', 0) and im.admission(words) == 0]
         marks = [(marked(words), reply[0]) for words, reply in admitted if words[im.CONTENTS] == 7]
         self.assertGreater(marks.count(('end of the tail record', 'item')), 5)
         self.assertGreater(marks.count(('end of another', 'going')), 10)
@@ -210,12 +209,34 @@ class Reach(unittest.TestCase):
         in_8 = [words for words, reply in admitted if words[im.CONTENTS] == 8 and reply[0] == 'item']
         self.assertGreater(sum(words[im.HEAD_RECORD] == words[im.TAIL_RECORD] for words in in_8), 5)
         self.assertGreater(sum(not at_its_end(words, words[im.HEAD_POSITION]) for words in in_8), 5)
-        outside = [reply for words, call, reply in steps if len(words) > 16 and words[16] == 8 and call == ('s', 0)]
+        outside = [reply for words, call, reply in steps if len(words) > 16 and words[16] == 8 and call[:2] == ('s', 0)]
         self.assertGreater(outside.count(('refused', 3)), 5)
+
+    def test_drains(self):
+        """No schedule in which a drain gives several items, ends with its last one moved, or meets 15; no single step that ends
+        a drain in each phase in which one ends, with room to the word, with one word less, with the buffer ending before the
+        named word; no limit at the edge of its range."""
+        replies = [reply for case in SCHEDULES for reply in case.expected[0]]
+        sizes = [len(reply[1]) for reply in replies if reply[0] == 'drained']
+        for items in range(3):
+            self.assertGreater(sizes.count(items), 3, items)
+        self.assertGreater(max(sizes), 2)
+        steps = [step for case in SCHEDULES for step in dc.steps_of(case)]
+        moved = [reply for words, _, reply in steps if reply[0] == 'drained' and 0 < len(reply[1]) == im.drain_word(words, im.COUNT)]
+        self.assertGreater(len(moved), 3)
+        self.assertGreater(replies.count(('refused', 15)), 5)
+        ends = [(case.words[im.CONTENTS], lack(case)) for case in SINGLES if lack(case) is not None]
+        for phase in (1, 2, 3, 7, 8):
+            for what in ('fits', 'too short', 'ends before'):
+                self.assertIn((phase, what), ends)
+        self.assertGreater(ends.count((1, 'fits')) + ends.count((7, 'fits')), 10)
+        limits = {(case.call[1], case.expected[0]) for case in SINGLES if case.call[0] == 'drain'}
+        for limit, reply in ((0, ('refused', 14)), (1, ('ok',)), (64, ('ok',)), (65, ('refused', 14)), (im.U32, ('refused', 14))):
+            self.assertIn((limit, reply), limits)
 
     def test_items_left(self):
         """Final stores that hold too few items to show their order."""
-        self.assertGreater(sum(len(case.expected[2]) > 1 for case in SCHEDULES), 20)
+        self.assertGreaterEqual(sum(len(case.expected[2]) > 1 for case in SCHEDULES), 20)
         self.assertGreater(sum(map(dc.leaves_in_another_order, SCHEDULES)), 5)
 
     def test_verdicts(self):
@@ -236,10 +257,19 @@ def single_steps(count):
     """(producer, phase, reply) of the single steps with this stored number. Of a reply the word alone, but a refusal with
     its number."""
     found = set()
-    for words, call, (reply, _) in (case for case in SINGLES if stored_steps(case) == count):
+    for words, call, (reply, _, _) in (case for case in SINGLES if stored_steps(case) == count):
         phase = words[im.CONTENTS + im.THREAD_WORDS * call[1]]
         found.add((call[1] > 0, phase, *(reply if reply[0] == 'refused' else reply[:1])))
     return found
+
+
+def lack(case):
+    """Whether the buffer of a single step that would end a drain fits; None for other calls."""
+    reply = case.expected[0]
+    if reply[0] != 'drained' and reply != ('refused', 15):
+        return None
+    buffer, named = case.call[2:]
+    return 'fits' if reply[0] == 'drained' else 'ends before' if named > len(buffer) else 'too short'
 
 
 def at_its_end(words, position):

@@ -7,12 +7,17 @@ import subprocess
 import unittest
 
 import claim_stores
+import drain_stores
 import engine_library
 import intake_model as model
+import judge_library
+import judge_model
 import leaving_stores
 import step_counts
 from archives import ROOT, archive
-from test_model import ACCEPTED_STEPS, LET_GO, accepted_steps, let_go_run, random_store
+from drain_stores import lent_step
+from test_drain import FORTY, drain, drained, ends_of_drains, forty_waiting, late_set_run, lend, overtaken_run, passing_run
+from test_model import ACCEPTED_STEPS, LENT, LET_GO, OK, accepted_steps, going, let_go_run, random_store
 
 LARGEST = (64, 64, 16, 1000000)
 
@@ -21,15 +26,17 @@ def random_sizes(rng):
     return rng.choice([(2, 2, 1, 9), (2, 2, 2, 12), (2, 3, 3, 20), (3, 4, 4, 30), (4, 3, 5, 40), (5, 5, 16, 64), (8, 6, 7, 50)])
 
 
-def random_call(rng, producers):
-    """A start or a step, sometimes of a thread that there is not."""
+def random_call(rng, producers, words=()):
+    """A start or a step, sometimes of a thread that there is not, on these words. A step is lent a buffer."""
     thread = rng.randint(0, producers) if rng.random() < 0.97 else rng.choice([producers + 1, 17, 2**31, 2**32 - 1])
     draw = rng.random()
     if draw < 0.12:
         return ('e', thread, rng.choice([0, 1, 7, 2**32 - 1, rng.getrandbits(32)]))
-    if draw < 0.17:
+    if draw < 0.15:
         return ('d',)
-    return ('s', thread)
+    if draw < 0.18:
+        return ('drain', rng.choice(drain_stores.LIMITS))
+    return lent_step(rng, words, thread)
 
 
 def kind(reply):
@@ -56,27 +63,55 @@ def damaged(rng, words):
     return words
 
 
-class Differential(unittest.TestCase):
+REPLIES = ('ok', 'going', 'end', 'empty', 'item', 'drained')
+
+
+class Both:
+    """Calls of the engine and of the model, which must be the same."""
+
     @classmethod
     def setUpClass(cls):
         cls.library = engine_library.load()
 
     def both(self, engine, words, call):
-        """One call on both; replies, reply buffers and all words must be the same."""
-        before = list(words)
-        want = model.do(words, call)
-        number, buffer = engine_library.expected(want)
+        """One call on both; replies, reply buffers, the words lent to a step and all words must be the same. A list that was
+        lent has them afterwards."""
+        before, made = list(words), drain_stores.fresh(call)
+        want = model.do(words, made)
+        number, reply = engine_library.expected(want)
         self.assertEqual(engine.call(call), number, (before, call))
-        self.assertEqual(list(engine.reply), buffer, (before, call))
+        self.assertEqual(list(engine.reply), reply, (before, call))
         self.assertEqual(engine.words(), words, (before, call))
         if want[0] == 'refused':
-            self.assertEqual(words, before)
+            self.assertEqual((words, made), (before, drain_stores.fresh(call)))
+        if made is not call:
+            self.assertEqual(engine.buffer, made[2], (before, call))
+            if isinstance(call[2], list):
+                call[2][:] = made[2]
         return want
 
     def on(self, words, call):
         """One call of both on words that are lent for it alone."""
         return self.both(engine_library.Engine(self.library, words), words, call)
 
+
+class Beside:
+    """A store just opened, for the engine and for the model, as a recorder has it."""
+
+    def __init__(self, test, *sizes):
+        self.test, self.words = test, [1] * model.needed_words(*sizes[:3])
+        self.engine = engine_library.Engine(test.library, self.words)
+        model.open_store(self.words, *sizes)
+        test.assertEqual((self.engine.open(sizes), self.engine.words()), (0, self.words))
+
+    def call(self, call):
+        return self.test.both(self.engine, self.words, call)
+
+    def run(self, calls):
+        return [self.call(call) for call in calls]
+
+
+class Differential(Both, unittest.TestCase):
     def test_schedules(self):
         """A phase, a reply or a word that differs from the rules on stores that only the engine has written."""
         rng, seen, phases = random.Random(11), collections.Counter(), collections.Counter()
@@ -88,13 +123,13 @@ class Differential(unittest.TestCase):
             self.assertEqual(engine.open(sizes), 0)
             self.assertEqual(engine.words(), words)
             for _ in range(rng.randrange(100, 1200)):
-                call = random_call(rng, sizes[2])
+                call = random_call(rng, sizes[2], words)
                 steps = call[0] == 's' and call[1] <= sizes[2]
                 phase = steps and (call[1] > 0, words[16 + 8 * call[1]])
                 reply = self.both(engine, words, call)
                 seen[kind(reply)] += 1
                 phases[phase] += reply[0] != 'refused'
-        for known in ('ok', 'going', 'end', 'empty', 'item', *(('refused', number) for number in (4, 5, 6, 7, 8))):
+        for known in (*REPLIES, *(('refused', number) for number in (4, 5, 6, 7, 8, 14, 15))):
             self.assertGreaterEqual(seen[known], 50, seen)
         for known in [(False, phase) for phase in range(1, 9)] + [(True, phase) for phase in range(1, 12)]:
             self.assertGreaterEqual(phases[known], 50, phases)
@@ -106,11 +141,11 @@ class Differential(unittest.TestCase):
             sizes = random_sizes(rng)
             run = model.Recorder(*sizes)
             for _ in range(rng.randrange(200)):
-                run.call(random_call(rng, sizes[2]))
+                run.call(drain_stores.fresh(random_call(rng, sizes[2], run.words)))
             for _ in range(60):
-                reply = self.on(damaged(rng, run.words), random_call(rng, sizes[2]))
-                seen[kind(reply)] += 1
-        for number in (2, 3, 4, 5, 7, 9):
+                words = damaged(rng, run.words)
+                seen[kind(self.on(words, random_call(rng, sizes[2], words)))] += 1
+        for number in (2, 3, 4, 5, 7, 9, 14):
             self.assertGreaterEqual(seen['refused', number], 50, seen)
 
     def test_stores_in_range(self):
@@ -118,10 +153,11 @@ class Differential(unittest.TestCase):
         rng, seen = random.Random(15), collections.Counter()
         for _ in range(5000):
             store = random_store(rng)
-            for call in [('d',)] + [call for t in range(store[2] + 1) for call in (('e', t, 7), ('s', t))]:
+            steps = [lent_step(rng, store, t) for t in range(store[2] + 1)]
+            for call in [('d',), ('drain', rng.choice(drain_stores.LIMITS))] + steps + [('e', t, 7) for t in range(store[2] + 1)]:
                 words = list(store)
                 seen[kind(self.on(words, call))] += 1
-        for known in ('ok', 'going', 'end', 'empty', 'item', *(('refused', number) for number in range(4, 10))):
+        for known in (*REPLIES, *(('refused', number) for number in (*range(4, 10), 14, 15))):
             self.assertGreaterEqual(seen[known], 50, seen)
 
     def test_numbers_of_steps(self):
@@ -132,7 +168,7 @@ class Differential(unittest.TestCase):
         self.assertEqual(set(stores), ACCEPTED_STEPS)
         for (_, _, kind), (words, t) in stores.items():
             for steps in step_counts.EDGES:
-                reply = self.on(step_counts.with_steps(words, t, steps), ('s', t))
+                reply = self.on(step_counts.with_steps(words, t, steps), ('s', t, *LENT))
                 refusal = {model.MOST_STEPS: 9, model.MOST_STEPS + 1: 3}.get(steps)
                 self.assertEqual((reply[0], reply[-1]), ('refused', refusal) if refusal else (kind, steps + 1))
         dry = model.Recorder(2, 2, 1, 9)
@@ -160,12 +196,7 @@ class Differential(unittest.TestCase):
     def test_feeders_go_on(self):
         """A feeder that meets 8 although the dequeue that took the head record's last item has ended, and no other was
         started (document 02, U2)."""
-        sizes = (2, 2, 3, 99)
-        words = [0] * model.needed_words(*sizes[:3])
-        engine = engine_library.Engine(self.library, words)
-        model.open_store(words, *sizes)
-        self.assertEqual(engine.open(sizes), 0)
-        self.assertEqual(let_go_run(lambda call: self.both(engine, words, call)), LET_GO)
+        self.assertEqual(let_go_run(Beside(self, 2, 2, 3, 99).call), LET_GO)
 
     def test_letting_go(self):
         """A mark that goes to phase 8 or not by another record than the head record; a phase 8 that follows no link, leaves
@@ -173,9 +204,10 @@ class Differential(unittest.TestCase):
         rng, seen = random.Random(18), collections.Counter()
         for draw in 2 * [leaving_stores.marking, leaving_stores.leaving]:
             for words in draw(rng):
-                seen[words[16], kind(self.on(words, ('s', 0)))] += 1
-        for known in ((7, 'going'), (7, 'item'), (7, ('refused', 9)), (8, 'item'), (8, ('refused', 9))):
-            self.assertGreaterEqual(seen[known], 15, seen)
+                for store in (words, drain_stores.draining(rng, words)):
+                    seen[store[16], kind(self.on(list(store), lent_step(rng, store, 0)))] += 1
+        for known in itertools.product((7, 8), ('going', 'item', 'drained', ('refused', 9), ('refused', 15))):
+            self.assertGreaterEqual(seen[known], 10, seen)
 
     def test_words_11_to_15(self):
         """A word 11 of 0 or above N, or one of words 12 to 15 that is not zero, that is let through."""
@@ -195,8 +227,9 @@ class Differential(unittest.TestCase):
         model.open_store(words, *LARGEST)
         self.assertEqual(engine.open(LARGEST), 0)
         for _ in range(2500):
-            self.both(engine, words, random_call(rng, 16))
-        for at in [0, 5, 11, 15, 16, 143, 151, 152, 155, 12695] + [rng.randrange(12696) for _ in range(150)]:
+            self.both(engine, words, random_call(rng, 16, words))
+        edges = [0, 5, 11, 15, 16, 143, 151, 152, 155, *range(12694, 12701), 12825]
+        for at in edges + [rng.randrange(12826) for _ in range(150)]:
             spoiled = list(words)
             spoiled[at] = 2**32 - 1
             self.on(spoiled, random_call(rng, 16))
@@ -219,18 +252,86 @@ class Differential(unittest.TestCase):
         self.assertGreaterEqual(min(seen.values()), 50, seen)
 
 
+class Drains(Both, unittest.TestCase):
+    """Drains of the engine (document 02, U5): test_drain.py's runs."""
+
+    def opened(self, *sizes):
+        return Beside(self, *sizes)
+
+    def test_forty_items(self):
+        """A drain that does not hand over all that wait, or hands over more or elsewhere."""
+        beside, buffer = forty_waiting(self.opened), [7] * 100
+        self.assertEqual(beside.run(drain(64) + lend(buffer, 125, named=3)), [OK] + going(1, 124) + drained(40, 125))
+        self.assertEqual(buffer, [7] * 3 + FORTY + [7] * 17)
+
+    def test_fronts(self):
+        """A drain that goes on where its first front was not set, though the rescan returned to the head; that scans once it has
+        an item; or that ends at a handled entry or a record's end."""
+        self.assertEqual(late_set_run(self.opened), (going(3, 6) + drained(1, 7), [1, 70]))
+        self.assertEqual(overtaken_run(self.opened), drained(1, 4))
+        self.assertEqual(passing_run(self.opened), ([1, 70, 3, 72, 4, 73], 12))
+
+    def test_ends(self):
+        """An end in some phase that takes a buffer too short by a word, or ending before the named one, or that does not take one
+        that fits, from any named word."""
+        seen = collections.Counter()
+        for (phase, items), words in ends_of_drains().items():
+            for length, named in itertools.product(range(2 * items + 4), (0, 1, 2, 3, 2 * items, 2**31, 2**32 - 1)):
+                reply = self.on(list(words), ('s', 0, tuple(range(length)), named))
+                self.assertEqual(reply[:2], ('drained', items) if length >= named + 2 * items else ('refused', 15))
+                seen[phase, reply[0]] += 1
+        for known in itertools.product((1, 2, 3, 7, 8), ('drained', 'refused')):
+            self.assertGreaterEqual(seen[known], 10, seen)
+
+    def test_limits(self):
+        """A limit that is off by one, or looked at before the consumer."""
+        for limit in (0, 1, 64, 65, 2**31, 2**32 - 1):
+            beside = self.opened(2, 2, 1, 9)
+            allowed = 1 <= limit <= 64
+            self.assertEqual(beside.call(('drain', limit)), OK if allowed else ('refused', 14))
+            self.assertEqual(beside.call(('drain', limit)), ('refused', 5 if allowed else 14))
+
+    def test_area(self):
+        """A word of the drain area out of its range that is let through, or one in range that is not."""
+        rng, seen = random.Random(19), collections.Counter()
+        for _ in range(1500):
+            words = random_store(rng)
+            at = len(words) - 130 + rng.choice((0, 1, 2, 3, rng.randrange(130)))
+            words[at] = rng.choice((0, 1, 2, 63, 64, 65, 2**32 - 1))
+            seen[self.on(words, lent_step(rng, words, 0)) == ('refused', 3)] += 1
+        self.assertGreater(min(seen[True], seen[False]), 300)
+
+    def test_histories(self):
+        """A history with drains, by the words before and after each call, that the compiled judge does not find explained."""
+        library, rng, met = judge_library.load(), random.Random(20), collections.Counter()
+        for _ in range(12):
+            beside, history = self.opened(2, rng.randint(2, 4), 3, 60), model.History()
+            for _ in range(300):
+                t = rng.choice((0, 0, 0, 1, 2, 3))
+                call = lent_step(rng, beside.words, t)
+                if not beside.words[16 + 8 * t]:
+                    call = ('e', t, 7) if t else rng.choice((('d',), ('drain', 2), ('drain', 64)))
+                before = list(beside.words)
+                reply = beside.call(call)
+                history = model.told(history, call, reply, before, beside.engine.words())
+                words = judge_model.flatten(history)
+                self.assertEqual(judge_library.judge(library, words, [judge_library.Call()] * len(history), len(history))[0], 'explained')
+                met[reply[0]] += 1
+        self.assertGreater(min(met['drained'], met['item'], met['empty']), 30)
+
+
 class Host(unittest.TestCase):
     def make(self, target):
         return subprocess.run(['make', '-s', '-C', ROOT / 'host', target], capture_output=True, text=True)
 
     def test_host(self):
-        """A host that does not build without warnings, that sees a producer's items out of order, or a number of steps that
-        is not its own count."""
+        """A host that does not build without warnings, that sees a producer's items out of order, by dequeues or by drains, or a
+        number of steps that is not its own count."""
         archive('engine')
         done = self.make('run')
         self.assertEqual(done.returncode, 0, done.stderr)
-        self.assertRegex(done.stdout, r'(?m)^longest enqueue \d+ steps, longest dequeue \d+ steps$')
-        self.assertIn("8000 items received, each producer's in its order", done.stdout)
+        self.assertRegex(done.stdout, r'(?m)^longest enqueue \d+ steps, longest dequeue \d+ steps, longest drain \d+ steps$')
+        self.assertRegex(done.stdout, r"(?m)^8000 items received, each producer's in its order; \d{3,} of them by \d{2} drains;")
 
     def test_host_sanitized(self):
         """An access outside the lent memory, or undefined behaviour, at the boundary."""

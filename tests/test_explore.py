@@ -8,7 +8,8 @@ import intake_model as im
 import invariants
 import judge_model as jm
 import measures
-from intake_model import EMPTY, SET, USE_RETIRED
+from intake_model import EMPTY, HANDLED, SET, USE_RETIRED
+from test_drain import DRAINING, AsksForRoomEarly
 from test_model import COUNTING, LETTING_GO, TRAPS, ShiftsOnlyAfterOwnLink
 
 
@@ -73,11 +74,48 @@ SITUATIONS = {
 }
 
 
+# With drains.
+DRAINS = {
+    'a drain has no item in 1': lambda v: drains_in(v, 1) and v.count == 0,
+    'a drain goes on to a set front': lambda v: goes_on(v) and v.state_at(v.hp) == SET,
+    'a drain passes a handled front': lambda v: goes_on(v) and v.hp < v.B * v.lo and v.state_at(v.hp) == HANDLED,
+    'a drain leaves a record in 1': lambda v: goes_on(v) and v.hp == v.B * v.lo and v.lo < v.tp,
+    'a drain ends at an empty front': lambda v: goes_on(v) and v.hp < v.B * v.lo and v.state_at(v.hp) == EMPTY,
+    'a drain ends at the tail record\'s end': lambda v: goes_on(v) and v.hp == v.B * v.lo and v.lo == v.tp,
+    'a drain ends with an item in 7': lambda v: drains_in(v, 7) and v.count == v.limit - 1,
+    'a drain ends at its limit in 8': lambda v: drains_in(v, 8) and v.count == v.limit and not v.scanned,
+    'a drain goes on from 8': lambda v: drains_in(v, 8) and v.count < v.limit and not v.scanned,
+    'a drain that came through the scan ends in 7': lambda v: drains_in(v, 7) and v.scanned and v.limit > 1,
+    'a drain that came through the scan ends in 8': lambda v: drains_in(v, 8) and v.scanned and v.limit > 1,
+    'the rescan of a drain returned to the head': lambda v: drains_in(v, 7)
+    and v.scanned
+    and v.consumer.found_position == v.hp,
+    'an enqueue ends after the last mark of a drain': lambda v: goes_on(v) and v.kept.ended != v.kept.before_dequeue,
+    'an enqueue has ended after the last mark of a drain and is behind an empty front': lambda v: goes_on(v)
+    and v.state_at(v.hp) == EMPTY
+    and any(v.is_ended(v.own[p]) for p in v.set_positions()),
+    'no record is free in 4, and a drain is at its items': lambda v: v.count > 0
+    and v.in_phases(4, 4)
+    and not im.free_records(v.words),
+}
+
+
+def drains_in(v, phase):
+    return v.limit > 0 and v.consumer.phase == phase
+
+
+def goes_on(v):
+    """A drain stands at the front with an item."""
+    return drains_in(v, 1) and v.count > 0
+
+
 def untold_alone(v):
     """A call that has ended and was not taken by what was told is not left, and only a dequeue is under way."""
+    if v.consumer.phase != 8 or v.limit > 0 or v.in_phases(1, 11):
+        return False
     untaken = set(v.calls_in(v.told.ended & ~v.told.taken))
     left = {call for call, _ in im.items_left(v.words)}
-    return v.consumer.phase == 8 and not v.in_phases(1, 11) and untaken == left | {v.late[0]} != left
+    return untaken == left | {v.consumer.item_call} != left
 
 
 def cursor_at_end(v):
@@ -90,10 +128,10 @@ class Reachable(unittest.TestCase):
     def test_every_state_of_small_cases(self):
         """A clause that fails on a reachable state, a reply 3 or 9, a number of steps or a measure that is wrong at some
         call, or an exploration that meets too little."""
-        met = set()
+        every, met = SITUATIONS | DRAINS, set()
 
         def note(v):
-            met.update(name for name in SITUATIONS.keys() - met if SITUATIONS[name](v))
+            met.update(name for name in every.keys() - met if every[name](v))
             return True
 
         clauses = invariants.CLAUSES | {'situations': note}
@@ -101,7 +139,7 @@ class Reachable(unittest.TestCase):
             result = explore.explore(*case, clauses=clauses)
             self.assertIsNone(result.violation, case)
             self.assertTrue(result.whole)
-        self.assertEqual(set(SITUATIONS) - met, set())
+        self.assertEqual(set(every) - met, set())
 
     def test_every_short_list_of_calls(self):
         """A history that is not linearizable, or items left that no linearization leaves, by all orders; or what is kept
@@ -114,7 +152,7 @@ class Reachable(unittest.TestCase):
         dequeue leaves the items left; one that completes it does."""
         calls = explore.THREE_IN + explore.dequeue(3) * 2
         packed, ghost = explore.state_after(explore.open_words(2, 2, 1, 4), calls, im.Intake, invariants.listed())
-        left = tuple(im.items_left(list(packed)))
+        left = tuple(im.items_left(explore.unpacked(packed)))
         self.assertEqual((packed[im.CONTENTS], left), (8, ((3, 103),)))
         self.assertEqual(jm.linearizations_leaving(ghost.told[:-1]), {((2, 102), (3, 103))})
         self.assertIn(left, jm.linearizations_leaving(ghost.told))
@@ -148,7 +186,7 @@ class AnswersEmptyUnread(im.Intake):
     """A wrong engine whose dequeue replies empty before it reads."""
 
     def front(self):
-        return self.idle(im.NOTHING)
+        return self.answer_empty()
 
 
 class Sensitivity(unittest.TestCase):
@@ -185,10 +223,24 @@ class Sensitivity(unittest.TestCase):
             'KeepsTheRecord': ['chain: a record of use 2 is ch of its place'],
             'GoesToTheFront': ['measure: not lowered'],
             'ForgetsTheItem': [
-                'consumer 8: the item is the last one kept',
                 'consumer 8: the item is that of the position before hp',
+                'told 8: the item of a dequeue is the last one kept, and a dequeue is open since',
+                'told 8: the item of a dequeue may be given now',
             ],
             'LeavesTheTailRecord': ['consumer 8: lo < tp'],
+        })
+
+    def test_wrong_drains_are_caught(self):
+        """An exploration blind to a drain that scans though it has an item, that keeps an item late, that leaves its words, or
+        that looks at its buffer early. Two others are linearizable and end; their own runs show them."""
+        caught = {engine.__name__: what_is_wrong(engine, (2, 3)) for engine in DRAINING + (AsksForRoomEarly,)}
+        self.assertEqual(caught, {
+            'GoesOnAfterTheScan': None,
+            'ScansForMore': ['measure: not lowered'],
+            'StopsAtRecordEnds': None,
+            'KeepsItLate': ['measure: not lowered'],
+            'LeavesTheArea': ['ranges'],
+            'AsksForRoomEarly': ['a buffer too short'],
         })
 
     def test_wrong_answers_break_demand_3(self):
@@ -199,7 +251,7 @@ class Sensitivity(unittest.TestCase):
             for v in range(2):
                 recorder.run([('e', 1, v)] + [('s', 1)] * 6)
             recorder.run(([('d',)] + [('s', 0)] * 3) * 2)
-            self.assertFalse(explore.demand_3_long(recorder.words, recorder.history))
+            self.assertFalse(explore.demand_3_long(im.items_left(recorder.words), recorder.history))
 
     def test_each_clause_can_fail(self):
         """A clause that holds of every store: each fails on some damaged copy of a reachable state."""
@@ -229,10 +281,10 @@ def wrong_lengths(engine):
     return wrong
 
 
-def what_is_wrong(engine):
-    """The clauses that the first bad state breaks, over the states of a case in which head records are drained; None if
-    all hold."""
-    violation = explore.explore(2, 2, 1, 5, engine=engine).violation
+def what_is_wrong(engine, limits=()):
+    """The clauses that the first bad state breaks, over the states of a case in which head records are left, with drains of
+    these limits; None if all hold."""
+    violation = explore.explore(2, 2, 1, 5, limits, engine=engine).violation
     return violation and violation[1]
 
 
@@ -253,17 +305,19 @@ def reachable_states(rng, runs):
     for _ in range(runs):
         words, ghost = explore.open_words(2, 3, 3, 12), invariants.Ghost()
         for _ in range(120):
-            call = rng.choice(list(explore.moves(words)))
+            call = rng.choice(list(explore.moves(words, (2, 3))))
             after, reply = explore.after(words, call, im.Intake)
-            ghost, words = ghost.after(call, words, reply), after
+            ghost, words = ghost.after(call, words, reply, after), after
             yield words, ghost
 
 
 def damaged_words(rng, words):
     words = list(words)
+    area = im.drain_at(*words[:3])
     for _ in range(rng.randint(0, 2)):
-        last = rng.choice((words[5], len(words)))  # the threads' words are few, so hit them more often
-        words[rng.randrange(im.TAIL, last)] = rng.randint(0, rng.choice((3, 12)))
+        # the words of the threads, and of the drain area those in use, are few, so hit them more often
+        first, last = rng.choice(((im.TAIL, words[5]), (im.TAIL, area), (area, area + 6)))
+        words[rng.randrange(first, last)] = rng.randint(0, rng.choice((3, 12)))
     return words
 
 
@@ -276,6 +330,7 @@ def damaged_past(rng, past):
         'ended_before': tuple(rng.randrange(2**13) & ~1 for _ in past.ended_before),
         'good': False,
         'running': (),
+        'last': None,
     }
     field = rng.choice(list(changes))
     return past._replace(**{field: changes[field]})
@@ -286,9 +341,8 @@ def damaged_ghost(rng, ghost):
         'own': tuple(rng.sample(ghost.own, len(ghost.own)))[rng.randint(0, 1) :] + (rng.randint(0, 13),),
         'kept': damaged_past(rng, ghost.kept),
         'told': damaged_past(rng, ghost.told),
-        'late': rng.choice((None, (rng.randint(1, 12), 7))),
     }
-    field = rng.choice([None, 'own', 'late', 'told', 'told', *['kept'] * 4])
+    field = rng.choice([None, 'own', 'told', 'told', *['kept'] * 4])
     return ghost if field is None else ghost._replace(**{field: changes[field]})
 
 

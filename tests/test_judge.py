@@ -271,16 +271,16 @@ def close_dequeue(history):
 
 
 def engine_history(seed):
-    """The history of a short random run of the model."""
+    """The history of a short random run of the model, with drains."""
     rng = random.Random(seed)
     recorder = im.Recorder(2, 3, 2, 5)
     for _ in range(70):
         t = rng.randrange(3)
-        start = ('d',) if t == 0 else ('e', t, rng.choice((7, 8)))
-        recorder.call(('s', t) if t in recorder.starts else start)
+        start = rng.choice((('d',), ('drain', 2))) if t == 0 else ('e', t, rng.choice((7, 8)))
+        recorder.call(('s', t, [0] * 4, 0) if t in recorder.busy else start)
         if len(recorder.history) >= 14:
             break
-    return recorder.history
+    return list(recorder.history)
 
 
 def with_another_answer(rng, history):

@@ -1,15 +1,16 @@
-"""The model against document 01 and U1 to U3 of document 02: runs, claims, drained records, numbers of steps, refusals,
-damaged stores, and the four traps."""
+"""The model against document 01 and U1 to U3 of document 02: runs, claims, records that are let go, numbers of steps,
+refusals, damaged stores, and the four traps. test_drain.py has U5."""
 
 import random
 import unittest
 
 import claim_stores
+import drain_stores
 import intake_model as im
 import leaving_stores
 import step_counts
 from intake_model import (
-    GOING, MOST_STEPS, Intake, Recorder, needed_words, open_store, start_dequeue, start_enqueue, step,
+    GOING, MOST_STEPS, Intake, Recorder, needed_words, open_store, start_dequeue, start_drain, start_enqueue, step,
 )
 
 D = [('d',)]
@@ -96,7 +97,7 @@ class Runs(unittest.TestCase):
         self.assertEqual(recorder.run(D + S(0, 3)), [OK] + going(1, 2) + item(1, 7, 3))
         self.assertEqual(
             recorder.history,
-            [(3, 0, 0, 0), (5, 0, 0, 0), (1, 1, 1, 7), (2, 1, 1, 7), (3, 0, 0, 0), (4, 0, 1, 7)],
+            ((3, 0, 0, 0), (5, 0, 0, 0), (1, 1, 1, 7), (2, 1, 1, 7), (3, 0, 0, 0), (4, 0, 1, 7)),
         )
 
     def test_steps_of_enqueues(self):
@@ -113,12 +114,12 @@ class Runs(unittest.TestCase):
     def test_sizes(self):
         """A limit that is off by one, or a wrong size of the store."""
         for sizes in ((1, 2, 1, 1), (2, 65, 1, 1), (2, 2, 0, 1), (2, 2, 17, 1), (2, 2, 1, 0)):
-            self.assertEqual(open_store([0] * 12_696, *sizes), refused(1), sizes)
+            self.assertEqual(open_store([0] * 12_826, *sizes), refused(1), sizes)
         for sizes in ((65, 2, 1, 1), (2, 1, 1, 1), (2, 2, 1, 1_000_001)):
             self.assertEqual(open_store([0] * 20_000, *sizes), refused(1), sizes)
-        self.assertEqual(needed_words(64, 64, 16), 12_696)
-        self.assertEqual(open_store([0] * 12_696, 64, 64, 16, 1_000_000), OK)
-        self.assertEqual(open_store([0] * 12_695, 64, 64, 16, 1_000_000), refused(2))
+        self.assertEqual(needed_words(64, 64, 16), 12_826)
+        self.assertEqual(open_store([0] * 12_826, 64, 64, 16, 1_000_000), OK)
+        self.assertEqual(open_store([0] * 12_825, 64, 64, 16, 1_000_000), refused(2))
 
     def test_starts_are_counted(self):
         """A limit M on starts that is not kept once the first call has ended."""
@@ -132,7 +133,7 @@ class Runs(unittest.TestCase):
         self.assertEqual(open_store(words, 2, 2, 1, 5), OK)
         record_0 = [1, 0, 0, 2] + [0] * 6
         contents = [2, 2, 1, 5, 16, 32, 0, 1, 1, 0, 0, 1, 0, 0, 0, 0]
-        self.assertEqual(words, contents + [0] * 16 + record_0 + [0] * 10 + [9] * 3)
+        self.assertEqual(words, contents + [0] * 16 + record_0 + [0] * 10 + [0] * 130 + [9] * 3)
 
     def test_head_advances_with_its_item(self):
         """An item at the head that leaves the head position behind: the next dequeue then takes a step more."""
@@ -616,9 +617,9 @@ class CountsEachPhase(Intake):
 class LooksAtTheNumberFirst(Intake):
     """The last number is refused with 9 before the phase is looked at."""
 
-    def run(self, t):
+    def run(self, t, room):
         im.need(self.w[16 + 8 * t + 7] < MOST_STEPS)
-        return super().run(t)
+        return super().run(t, room)
 
 
 class EndsAfterTheLast(Intake):
@@ -632,8 +633,10 @@ COUNTING = (LeavesOutStays, CountsEachPhase)
 
 # (producer, phase, reply) of every accepted step
 ACCEPTED_STEPS = {(True, phase, 'going') for phase in range(1, 11)} | {(True, phase, 'end') for phase in (9, 10, 11)}
-ACCEPTED_STEPS |= {(False, phase, 'going') for phase in range(1, 8)} | {(False, phase, 'empty') for phase in (1, 2, 3)}
+ACCEPTED_STEPS |= {(False, phase, 'going') for phase in range(1, 9)} | {(False, phase, 'empty') for phase in (1, 2, 3)}
 ACCEPTED_STEPS |= {(False, phase, 'item') for phase in (7, 8)}
+ACCEPTED_STEPS |= {(False, phase, 'drained') for phase in (1, 2, 3, 7, 8)}
+LENT = ([0] * 128, 0)  # a buffer with room for every drain
 
 
 class Counting(unittest.TestCase):
@@ -682,7 +685,7 @@ class Counting(unittest.TestCase):
             self.assertEqual(self.steps_on(words, t, MOST_STEPS - 1)[-1], MOST_STEPS)
             self.assertEqual(self.steps_on(words, t, MOST_STEPS), refused(9))
             self.assertEqual(self.steps_on(words, t, MOST_STEPS + 1), refused(3))
-            ends = step(step_counts.with_steps(words, t, MOST_STEPS), t, EndsAfterTheLast)
+            ends = step(step_counts.with_steps(words, t, MOST_STEPS), t, *LENT, engine=EndsAfterTheLast)
             self.assertEqual(ends[0], 'refused' if kind == 'going' else kind)
 
     def test_8_comes_before_9(self):
@@ -694,7 +697,8 @@ class Counting(unittest.TestCase):
         dry = list(recorder.words)
         for steps, number in ((0, 8), (MOST_STEPS - 1, 8), (MOST_STEPS, 8), (MOST_STEPS + 1, 3)):
             self.assertEqual(self.steps_on(dry, 1, steps), refused(number))
-        self.assertEqual(step(step_counts.with_steps(dry, 1, MOST_STEPS), 1, LooksAtTheNumberFirst), refused(9))
+        first = step(step_counts.with_steps(dry, 1, MOST_STEPS), 1, engine=LooksAtTheNumberFirst)
+        self.assertEqual(first, refused(9))
         dequeue_whole(recorder), dequeue_whole(recorder)
         self.assertEqual(self.steps_on(recorder.words, 1, MOST_STEPS), refused(9))
         self.assertEqual(self.steps_on(recorder.words, 1, 3), ('going', 4))
@@ -716,7 +720,7 @@ class Counting(unittest.TestCase):
         refused then, it is refused with this one too."""
         first, after = step_counts.with_steps(words, t, 0), step_counts.with_steps(words, t, steps)
         before = list(after)
-        plain, reply = step(first, t), step(after, t)
+        plain, reply = step(first, t, *LENT), step(after, t, *LENT)
         if steps > MOST_STEPS:
             expected = refused(3), before
         elif plain[0] == 'refused':
@@ -758,7 +762,8 @@ def accepted_steps():
         for _ in range(300):
             t = rng.randrange(4)
             before = list(recorder.words)
-            reply = recorder.call((('s', t) if before[16 + 8 * t] else ('e', t, 7) if t else ('d',)))
+            start = ('e', t, 7) if t else rng.choice((('d',), ('drain', rng.randint(1, 3))))
+            reply = recorder.call(('s', t, *LENT) if before[16 + 8 * t] else start)
             if before[16 + 8 * t] and reply[0] != 'refused':
                 stores.setdefault((t > 0, before[16 + 8 * t], reply[0]), (before, t))
     return stores
@@ -902,6 +907,9 @@ class Room(unittest.TestCase):
                     dry += 1
 
 
+EACH_CALL = ((start_enqueue, (1, 5)), (start_dequeue, ()), (start_drain, (1,)), (step, (0,)))
+
+
 class Refusals(unittest.TestCase):
     """Each refusal where the table has it, in the table's order, with the words unchanged."""
 
@@ -919,7 +927,7 @@ class Refusals(unittest.TestCase):
         """A store read past its end."""
         words = opened(2, 3, 2, 4)
         for length in (0, 1, 15, 16, 40, len(words) - 1):
-            for call, arguments in ((start_enqueue, (1, 5)), (start_dequeue, ()), (step, (0,))):
+            for call, arguments in EACH_CALL:
                 self.assert_refused(2, words[:length], call, *arguments)
 
     def test_3_sizes_come_between_the_halves_of_2(self):
@@ -932,8 +940,8 @@ class Refusals(unittest.TestCase):
 
     def test_3_store_before_any_open(self):
         """A store of zeros taken for an open one."""
-        for call, arguments in ((start_enqueue, (1, 5)), (start_dequeue, ()), (step, (0,))):
-            self.assert_refused(3, [0] * 12_696, call, *arguments)
+        for call, arguments in EACH_CALL:
+            self.assert_refused(3, [0] * 12_826, call, *arguments)
 
     def test_3_limits_of_each_word_of_an_idle_store(self):
         """A range that is off by one, or a word that is not looked at."""
@@ -945,7 +953,21 @@ class Refusals(unittest.TestCase):
             limits |= {r: (0, 500_002), r + 1: (0, 3), r + 2: (0, 3), r + 3: (0, 3)}
             for entry in (r + 4, r + 7):
                 limits |= {entry: (0, 2), entry + 1: (0, 4), entry + 2: (0, 2**32 - 1)}
+        limits |= {k: (0, 0) for k in range(62, 62 + 130)}
+        self.assertEqual(set(limits), set(range(4, len(words))))
         self.assert_limits(words, limits)
+
+    def test_3_limits_of_the_drain_area(self):
+        """A limit above 64, a count above the limit, a pair out of its range, or one not in use that is not zero."""
+        words, top = opened(2, 3, 1, 4), 2**32 - 1
+        words[16], area = 1, 62
+        for limit, count in ((0, 0), (1, 0), (1, 1), (3, 2), (64, 63), (64, 64)):
+            words[area : area + 2] = limit, count
+            words[area + 2 :] = [3, 7] * count + [0] * 2 * (64 - count)
+            limits = {area: (count, 64), area + 1: (count, limit)}
+            for k in range(64):
+                limits |= {area + 2 + 2 * k: (0, 4 if k < count else 0), area + 3 + 2 * k: (0, top if k < count else 0)}
+            self.assert_limits(words, limits)
 
     def test_3_limits_of_thread_words_by_phase(self):
         """A thread word not in use that is let through, or one in use that is not."""
@@ -961,9 +983,9 @@ class Refusals(unittest.TestCase):
         for phase in (3, 4):
             self.assert_thread_limits(0, phase, [3, 4, 0, 0, 0, 0, steps])
         self.assert_thread_limits(0, 5, [3, 4, 3, 4, 0, 0, steps])
-        self.assert_thread_limits(0, 6, [0, 0, 3, 4, 0, 0, steps])
-        self.assert_thread_limits(0, 7, [0, 0, 3, 4, 4, top, steps])
-        self.assert_thread_limits(0, 8, [0, 0, 0, 0, 4, top, steps])
+        self.assert_thread_limits(0, 6, [0, 1, 3, 4, 0, 0, steps])
+        self.assert_thread_limits(0, 7, [0, 1, 3, 4, 4, top, steps])
+        self.assert_thread_limits(0, 8, [0, 1, 0, 0, 4, top, steps])
 
     def assert_thread_limits(self, t, phase, tops):
         words = opened(2, 3, 1, 4)
@@ -1049,7 +1071,7 @@ class Damage(unittest.TestCase):
         before = list(words)
         reply = im.do(words, call)
         if reply[0] == 'refused':
-            self.assertIn(reply[1], range(2, 10))
+            self.assertIn(reply[1], (*range(2, 10), 14, 15))
             self.assertEqual(words, before)
         else:
             self.assertTrue(im.in_range(words), (before, call))
@@ -1057,8 +1079,9 @@ class Damage(unittest.TestCase):
 
     def check_all(self, words):
         P = min(words[2], 4) if len(words) > 2 else 1
-        calls = [('d',)] + [('e', t, 3) for t in range(P + 2)] + [('s', t) for t in range(P + 2)]
-        return {call: self.check(list(words), call) for call in calls}
+        calls = [('d',), ('drain', 2)] + [('e', t, 3) for t in range(P + 2)] + [('s', t, (), 0) for t in range(P + 2)]
+        calls.append(('s', 0, tuple(LENT[0]), 0))
+        return {call: self.check(list(words), drain_stores.fresh(call)) for call in calls}
 
     def test_random_single_words(self):
         """A word that the engine trusts without looking: one wrong word in a reachable store."""
@@ -1132,7 +1155,7 @@ def random_store(rng):
         words += [rng.choice((0, 1, 1, 2, 2, 3, 4, 500_002)), rng.randint(0, N), rng.randint(0, N), rng.randint(0, 3)]
         for _ in range(B):
             words += [rng.randint(0, 2), rng.randint(0, M), rng.randrange(2**32)]
-    return words
+    return words + drain_stores.area(rng, M, words[16])
 
 
 if __name__ == '__main__':

@@ -19,7 +19,7 @@ from program_streams import lines_of
 
 HERE = pathlib.Path(__file__).resolve().parent
 PROGRAM = HERE.parent / 'target' / 'bin' / 'intake'
-STORE_WORDS = 12_696
+STORE_WORDS = 12_826
 
 NUMBER = rb'(0|[1-9][0-9]{0,9})'
 OPEN = re.compile(rb'open ' + rb' '.join([NUMBER] * 4))
@@ -48,7 +48,7 @@ def expected(data):
     """What the papers say the program prints."""
     if len(data) > MOST_INPUT:
         return b'too long\n'
-    words, history, starts, out = [0] * STORE_WORDS, [], {}, []
+    words, history, out = [0] * STORE_WORDS, im.History(), []
     for line in lines_of(data):
         call = parse(line)
         if call is None:
@@ -56,15 +56,10 @@ def expected(data):
         if call[0] == 'open':
             reply = im.open_store(words, *call[1:])
             if reply[0] == 'ok':
-                history, starts = [], {}
+                history = im.History()
         else:
             reply = im.do(words, call)
-            thread = call[1] if len(call) > 1 else 0
-            made = im.event(call, reply, starts.get(thread))
-            if made:
-                history.append(made)
-                if made[0] in (1, 3):
-                    starts[thread] = made
+            history = im.told(history, call, reply, words, words)  # no drain: it does not go by the words
         out.append(line_of(reply).encode() + b'\n')
     verdict = jm.judge(jm.flatten(history), jm.MAX_EVENTS, jm.explained_by_mark)[0]
     return b''.join(out) + verdict.encode() + b'\n'

@@ -8,7 +8,8 @@ struct Contestant {
     const char *label;
     uint32_t (*start_enqueue)(uint32_t *s, size_t words, uint32_t t, uint32_t value, uint32_t reply[4]);
     uint32_t (*start_dequeue)(uint32_t *s, size_t words);
-    uint32_t (*step)(uint32_t *s, size_t words, uint32_t t, uint32_t reply[4]);
+    uint32_t (*start_drain)(uint32_t *s, size_t words, uint32_t limit);
+    uint32_t (*step)(uint32_t *s, size_t words, uint32_t t, uint32_t *buffer, size_t buffer_words, uint32_t from, uint32_t reply[4]);
 };
 
 struct Pass {

@@ -5,13 +5,21 @@
 
 enum { TAIL = 6, TAIL_RECORD, HEAD_RECORD, HEAD_POSITION, STARTS, LAST_CLAIMED };
 enum { PHASE, CALL, VALUE, POSITION, HELD, CLAIMED, BACKED, STEPS };
-enum { CURSOR_RECORD = 1, CURSOR_POSITION, FOUND_RECORD, FOUND_POSITION, ITEM_NUMBER, ITEM_VALUE };
+enum { CURSOR_RECORD = 1, CURSOR_POSITION, FOUND_RECORD, FOUND_POSITION, ITEM_NUMBER, ITEM_VALUE, SCANNED = CURSOR_POSITION };
 enum { PLACE, NEXT, PREV, USE };
-enum { MOST_PLACE = 500002, MOST_STEPS = 100000000 };
+enum { LIMIT, COUNT, PAIRS };
+enum { MOST_PLACE = 500002, MOST_STEPS = 100000000, MOST_ITEMS = 64, DRAIN_WORDS = 130 };
 
 typedef struct {
     uint32_t *s, B, N, P, M, first, size;
+    uint32_t *drain;
 } Store;
+
+/* the words of a buffer from the named one on; fewer than none if it ends before that */
+typedef struct {
+    uint32_t *to;
+    int64_t words;
+} Room;
 
 static uint32_t *record(Store *z, uint32_t stored) { return z->s + z->first + (size_t)(stored - 1) * z->size; }
 static uint32_t *thread(Store *z, uint32_t t) { return z->s + 16 + 8 * (size_t)t; }
@@ -34,9 +42,18 @@ static int consumer_ok(const Store *z, const uint32_t *w) {
     uint32_t p = w[PHASE];
     if (p > 8 || w[STEPS] > (p ? MOST_STEPS : 0)) return 0;
     int cursor = p >= 3 && p <= 5, found = p >= 5 && p <= 7, item = p >= 7;
-    if (cursor ? !link_ok(z, w[1]) || !number_ok(z, w[2]) : (w[1] | w[2]) != 0) return 0;
+    if (cursor ? !link_ok(z, w[1]) || !number_ok(z, w[2]) : w[1] != 0 || w[SCANNED] > (p >= 6)) return 0;
     if (found ? !link_ok(z, w[3]) || !number_ok(z, w[4]) : (w[3] | w[4]) != 0) return 0;
     return item ? number_ok(z, w[5]) : (w[5] | w[6]) == 0;
+}
+
+static int drain_ok(const Store *z) {
+    const uint32_t *d = z->drain;
+    if (d[LIMIT] > (z->s[16] ? MOST_ITEMS : 0) || d[COUNT] > d[LIMIT]) return 0;
+    uint32_t bad = 0, in_use = PAIRS + 2 * d[COUNT];
+    for (uint32_t i = PAIRS; i < in_use; i += 2) bad |= d[i] > z->M;
+    for (uint32_t i = in_use; i < DRAIN_WORDS; i++) bad |= d[i];
+    return !bad;
 }
 
 #ifdef ROW
@@ -89,11 +106,12 @@ static int records_ok(Store *z) {
 
 static uint32_t admit(Store *z, uint32_t *s, size_t words) {
     if (words < 16) return 2;
-    *z = (Store){s, s[0], s[1], s[2], s[3], 0, 0};
+    *z = (Store){s, s[0], s[1], s[2], s[3], 0, 0, 0};
     if (z->B < 2 || z->B > 64 || z->N < 2 || z->N > 64 || z->P < 1 || z->P > 16 || z->M < 1 || z->M > 1000000) return 3;
     z->first = 16 + 8 * (z->P + 1);
     z->size = 3 * z->B + 4;
-    if (words < z->first + (size_t)z->N * z->size) return 2;
+    if (words < z->first + (size_t)z->N * z->size + DRAIN_WORDS) return 2;
+    z->drain = record(z, z->N + 1);
     if (s[4] != 16 || s[5] != z->first || s[TAIL] > z->M || s[TAIL_RECORD] < 1 || s[TAIL_RECORD] > z->N || s[HEAD_RECORD] < 1 ||
         s[HEAD_RECORD] > z->N || s[HEAD_POSITION] > z->M || s[STARTS] > z->M || s[LAST_CLAIMED] < 1 || s[LAST_CLAIMED] > z->N ||
         (s[12] | s[13] | s[14] | s[15]) != 0)
@@ -101,7 +119,7 @@ static uint32_t admit(Store *z, uint32_t *s, size_t words) {
     if (!consumer_ok(z, thread(z, 0))) return 3;
     for (uint32_t t = 1; t <= z->P; t++)
         if (!producer_ok(z, thread(z, t))) return 3;
-    return records_ok(z) ? 0 : 3;
+    return records_ok(z) && drain_ok(z) ? 0 : 3;
 }
 
 static void clear(uint32_t *w, uint32_t n) {
@@ -243,23 +261,64 @@ static int leave_head(Store *z) {
     return 1;
 }
 
-static uint32_t give(uint32_t *w, uint32_t reply[4]) {
+/* a drain ends with its first n items */
+static uint32_t hand_over(Store *z, uint32_t n, Room room, uint32_t reply[4]) {
+    for (uint32_t i = 0; i < 2 * n; i++) room.to[i] = z->drain[PAIRS + i];
+    clear(z->drain, DRAIN_WORDS);
+    reply[0] = n;
+    reply[1] = 0;
+    return end(thread(z, 0), 104);
+}
+
+static int fits(uint32_t n, Room room) { return room.words >= 2 * (int64_t)n; }
+
+/* where a dequeue answers empty */
+static uint32_t answer_empty(Store *z, Room room, uint32_t reply[4]) {
+    uint32_t n = z->drain[COUNT];
+    if (!z->drain[LIMIT]) return end(thread(z, 0), 102);
+    return fits(n, room) ? hand_over(z, n, room, reply) : 15;
+}
+
+/* whether a drain with n items ends where a dequeue replies its item */
+static int ends(Store *z, uint32_t n) { return z->drain[LIMIT] && (n == z->drain[LIMIT] || thread(z, 0)[SCANNED]); }
+
+/* where a dequeue replies its item; n items fit if they end a drain */
+static uint32_t give(Store *z, uint32_t n, Room room, uint32_t reply[4]) {
+    uint32_t *w = thread(z, 0);
+    if (ends(z, n)) return hand_over(z, n, room, reply);
+    if (z->drain[LIMIT]) {
+        clear(w + 1, 6);
+        w[PHASE] = 1;
+        return 100;
+    }
     reply[0] = w[ITEM_NUMBER];
     reply[1] = w[ITEM_VALUE];
     return end(w, 103);
 }
 
-static uint32_t consume(Store *z, uint32_t reply[4]) {
-    uint32_t *w = thread(z, 0), *s = z->s, *r, *e, to, at;
+/* marks an entry, which is found, and moves the head to a position; a drain keeps the item */
+static void mark(Store *z, uint32_t *e, uint32_t head) {
+    uint32_t *w = thread(z, 0), *d = z->drain;
+    e[0] = 2;
+    z->s[HEAD_POSITION] = head;
+    if (!d[LIMIT]) return;
+    d[PAIRS + 2 * d[COUNT]] = w[ITEM_NUMBER];
+    d[PAIRS + 2 * d[COUNT] + 1] = w[ITEM_VALUE];
+    d[COUNT]++;
+}
+
+static uint32_t consume(Store *z, Room room, uint32_t reply[4]) {
+    uint32_t *w = thread(z, 0), *s = z->s, *d = z->drain, *r, *e, to, at, at_head, head;
     switch (w[PHASE]) {
     case 1:
         r = record(z, s[HEAD_RECORD]);
         if (s[HEAD_POSITION] == z->B * r[PLACE]) {
-            if (s[HEAD_RECORD] == s[TAIL_RECORD]) return end(w, 102);
+            if (s[HEAD_RECORD] == s[TAIL_RECORD]) return answer_empty(z, room, reply);
             return leave_head(z) ? 100 : 9;
         }
         if (!(e = entry(z, r, s[HEAD_POSITION]))) return 9;
         if (e[0] == 0) {
+            if (d[COUNT]) return answer_empty(z, room, reply);
             w[PHASE] = 2;
         } else if (e[0] == 1) {
             w[FOUND_RECORD] = s[HEAD_RECORD];
@@ -271,7 +330,7 @@ static uint32_t consume(Store *z, uint32_t reply[4]) {
         }
         return 100;
     case 2:
-        if (s[TAIL] == s[HEAD_POSITION]) return end(w, 102);
+        if (s[TAIL] == s[HEAD_POSITION]) return answer_empty(z, room, reply);
         if (s[HEAD_POSITION] == z->M) return 9;
         w[CURSOR_RECORD] = s[HEAD_RECORD];
         w[CURSOR_POSITION] = s[HEAD_POSITION] + 1;
@@ -281,13 +340,13 @@ static uint32_t consume(Store *z, uint32_t reply[4]) {
         if (!w[CURSOR_RECORD]) return 9;
         r = record(z, w[CURSOR_RECORD]);
         if (w[CURSOR_POSITION] == z->B * r[PLACE]) {
-            if (w[CURSOR_RECORD] == s[TAIL_RECORD]) return end(w, 102);
+            if (w[CURSOR_RECORD] == s[TAIL_RECORD]) return answer_empty(z, room, reply);
             if (!cross(z, r, &to, &at)) return 9;
             w[CURSOR_RECORD] = to;
             w[CURSOR_POSITION] = at;
             return 100;
         }
-        if (w[CURSOR_POSITION] == s[TAIL]) return end(w, 102);
+        if (w[CURSOR_POSITION] == s[TAIL]) return answer_empty(z, room, reply);
         w[PHASE] = 4;
         return 100;
     case 4:
@@ -324,7 +383,8 @@ static uint32_t consume(Store *z, uint32_t reply[4]) {
             }
         }
         if (w[CURSOR_POSITION] == w[FOUND_POSITION]) {
-            w[CURSOR_RECORD] = w[CURSOR_POSITION] = 0;
+            w[CURSOR_RECORD] = 0;
+            w[SCANNED] = d[LIMIT] != 0;
             w[PHASE] = 6;
         }
         return 100;
@@ -336,20 +396,23 @@ static uint32_t consume(Store *z, uint32_t reply[4]) {
         return 100;
     case 7:
         if (!w[FOUND_RECORD] || !(e = entry(z, record(z, w[FOUND_RECORD]), w[FOUND_POSITION]))) return 9;
-        if (w[FOUND_POSITION] != s[HEAD_POSITION]) {
-            e[0] = 2;
-            return give(w, reply);
+        at_head = w[FOUND_POSITION] == s[HEAD_POSITION];
+        if ((at_head && s[HEAD_POSITION] == z->M) || (d[LIMIT] && d[COUNT] == d[LIMIT])) return 9;
+        head = s[HEAD_POSITION] + at_head;
+        if (at_head && head == z->B * record(z, s[HEAD_RECORD])[PLACE] && s[HEAD_RECORD] != s[TAIL_RECORD]) {
+            mark(z, e, head);
+            w[FOUND_RECORD] = w[FOUND_POSITION] = 0;
+            w[PHASE] = 8;
+            return 100;
         }
-        if (s[HEAD_POSITION] == z->M) return 9;
-        e[0] = 2;
-        s[HEAD_POSITION]++;
-        r = record(z, s[HEAD_RECORD]);
-        if (s[HEAD_POSITION] != z->B * r[PLACE] || s[HEAD_RECORD] == s[TAIL_RECORD]) return give(w, reply);
-        w[FOUND_RECORD] = w[FOUND_POSITION] = 0;
-        w[PHASE] = 8;
-        return 100;
+        if (ends(z, d[COUNT] + 1) && !fits(d[COUNT] + 1, room)) return 15;
+        mark(z, e, head);
+        return give(z, d[COUNT], room, reply);
     default:
-        return leave_head(z) ? give(w, reply) : 9;
+        if (!cross(z, record(z, s[HEAD_RECORD]), &to, &at)) return 9;
+        if (ends(z, d[COUNT]) && !fits(d[COUNT], room)) return 15;
+        leave_head(z);
+        return give(z, d[COUNT], room, reply);
     }
 }
 
@@ -376,7 +439,19 @@ static uint32_t start_dequeue(uint32_t *s, size_t words) {
     return 0;
 }
 
-static uint32_t step(uint32_t *s, size_t words, uint32_t t, uint32_t reply[4]) {
+static uint32_t start_drain(uint32_t *s, size_t words, uint32_t limit) {
+    Store z;
+    uint32_t no = admit(&z, s, words);
+    if (no) return no;
+    if (s[16]) return 5;
+    if (limit < 1 || limit > MOST_ITEMS) return 14;
+    s[16] = 1;
+    z.drain[LIMIT] = limit;
+    return 0;
+}
+
+static uint32_t step(uint32_t *s, size_t words, uint32_t t, uint32_t *buffer, size_t buffer_words, uint32_t from, uint32_t reply[4]) {
+    Room room = {buffer + (from <= buffer_words ? from : 0), (int64_t)buffer_words - from};
     Store z;
     uint32_t no = admit(&z, s, words);
     if (no) return no;
@@ -384,11 +459,11 @@ static uint32_t step(uint32_t *s, size_t words, uint32_t t, uint32_t reply[4]) {
     uint32_t *w = thread(&z, t), steps = w[STEPS], answer;
     if (!w[PHASE]) return 7;
     if (steps == MOST_STEPS) return t && w[PHASE] == 4 && !first_free(&z, 1, z.N) ? 8 : 9; /* no step may be added; 8 comes first */
-    answer = t ? produce(&z, t) : consume(&z, reply);
+    answer = t ? produce(&z, t) : consume(&z, room, reply);
     if (answer < 100) return answer;
     if (answer == 100) w[STEPS] = steps + 1;
     reply[2] = steps + 1;
     return answer;
 }
 
-const struct Contestant CONTESTANT = {LABEL, start_enqueue, start_dequeue, step};
+const struct Contestant CONTESTANT = {LABEL, start_enqueue, start_dequeue, start_drain, step};

@@ -2,3 +2,4 @@ pub mod Refusal
 pub mod Rows
 pub mod Admit
 pub mod Bounds
+pub mod Area

@@ -3,11 +3,12 @@ ghost use mathlib.Core.Path.{_≡_};
 ghost use mathlib.Core.Bool.{_&&_};
 ghost use mathlib.Core.List.{[], _∷_};
 ghost use Prim.Native.Nat.{suc, _+_, _*_, _≤_, _<_};
-ghost use lib.ListN.{length};
+ghost use lib.Dec.{leb, eqb};
+ghost use lib.ListN.{length, getD};
 ghost use Rattle.history.specs.Event.{mostProducers};
 ghost use Rattle.rules.specs.Sizes.{sizesInRange, recordWords, storeWords, mostEntries, mostRecords, mostPlace, mostWords};
 ghost use Rattle.rules.specs.Cell.{reader};
-ghost use Rattle.rules.specs.Range.{every, contentsInRange, consumerInRange, producerInRange, recordInRange, threadsInRange, recordsInRange, inRange};
+ghost use Rattle.rules.specs.Range.{every, contentsInRange, consumerInRange, producerInRange, recordInRange, threadsInRange, recordsInRange, drainInRange, inRange};
 ghost use Rattle.rules.specs.Request.{sizesOf};
 ghost use Rattle.store.specs.Shape.{sizes};
 ghost use Rattle.store.specs.Store.{Room};
@@ -15,6 +16,7 @@ ghost use Rattle.admission.specs.Refusal.{refusal};
 ghost use Rattle.admission.specs.Rows.{atMost, from};
 ghost use Rattle.admission.specs.Bounds.{bounds, wordTest, Bounded};
 use store::Shape;
+use store::drain_at;
 use store::phase;
 use store::record_at;
 use store::record_words;
@@ -203,7 +205,7 @@ fn producers_in_range(s: &[u32], z: Shape) -> bool
 }
 
 // Phase 0 to 8 of the consumer, and the words that the phase uses: cursor record and position, found record and position, the
-// item's call number and value, accepted steps. (For speed 3 and 4 stand before the match, since four cases would be an indirect
+// item's call number and value, accepted steps. In 6 to 8 the second is a flag. (For speed 3 and 4 stand before the match, since four cases would be an indirect
 // jump, and 0 to 2 are one row.)
 fn consumer_in_range(s: &[u32], z: Shape) -> bool
     requires { ⌜ Room (sizes z) (now s) ⌝ }
@@ -226,9 +228,9 @@ fn consumer_in_range(s: &[u32], z: Shape) -> bool
     }
     match phase {
         5 => row_at_most(s, at, n, m, n, m, 0, 0, k),
-        6 => row_at_most(s, at, 0, 0, n, m, 0, 0, k),
-        7 => row_at_most(s, at, 0, 0, n, m, m, ANY, k),
-        _ => row_at_most(s, at, 0, 0, 0, 0, m, ANY, k),
+        6 => row_at_most(s, at, 0, 1, n, m, 0, 0, k),
+        7 => row_at_most(s, at, 0, 1, n, m, m, ANY, k),
+        _ => row_at_most(s, at, 0, 1, 0, 0, m, ANY, k),
     }
 }
 
@@ -260,13 +262,61 @@ fn threads_in_range(s: &[u32], z: Shape) -> bool
     consumer_in_range(s, z) & producers_in_range(s, z)
 }
 
+// The call numbers of so many pairs from word `at` on, m the most that one may be.
+fn pairs_marked(s: &[u32], at: usize, count: usize, m: u32) -> bool
+    requires { ⌜ at + 2 * count ≤ length (now s) ⌝ }
+    ensures { λ ok. ⌜ every count (λ i. leb (getD (now (s .entry)) (at + 2 * i) 0) m) ≡ ok ⌝ }
+{
+    let mut ok = true;
+    let mut i: usize = 0;
+    while i < count {
+        ok = ok & (s[at + 2 * i] <= m);
+        i += 1;
+    }
+    ok
+}
+
+// Whether n words from word `at` on are zero. Of a dequeue this loop runs over every pair of the drain area: no branch in it.
+fn zero_from(s: &[u32], at: usize, n: usize) -> bool
+    requires { ⌜ at + n ≤ length (now s) ⌝ }
+    ensures { λ zero. ⌜ every n (λ j. eqb (getD (now (s .entry)) (at + j) 0) 0) ≡ zero ⌝ }
+{
+    let mut zero = true;
+    let mut j: usize = 0;
+    while j < n {
+        zero = zero & (s[at + j] == 0);
+        j += 1;
+    }
+    zero
+}
+
+// The drain area: limit 0 to 64, and 0 while the consumer is idle; count 0 to the limit; a pair below the count as an entry's number and
+// value, the others zero.
+fn drain_in_range(s: &[u32], z: Shape) -> bool
+    requires { ⌜ Room (sizes z) (now s) ⌝ }
+    ensures { λ ok. ⌜ drainInRange (sizes z) (reader (sizes z) (now (s .entry))) ≡ ok ⌝ }
+{
+    let at = drain_at(z) as usize;
+    let limit = s[at];
+    let count = s[at + 1];
+    if select(s[16] == phase::IDLE, 0, size::MOST_DRAINED) < limit {
+        return false;
+    }
+    if limit < count {
+        return false;
+    }
+    let marked = count as usize;
+    let pairs = pairs_marked(s, at + 2, marked, z.starts);
+    pairs & zero_from(s, at + 2 + 2 * marked, 128 - 2 * marked)
+}
+
 // Every word is in its range.
 fn in_range(s: &[u32], z: Shape) -> bool
     requires { ⌜ Room (sizes z) (now s) ⌝ }
     requires { ⌜ sizes z ≡ sizesOf (now s) ⌝ }
     ensures { λ ok. ⌜ inRange (sizes z) (reader (sizes z) (now (s .entry))) ≡ ok ⌝ }
 {
-    threads_in_range(s, z) & records_in_range(s, z)
+    threads_in_range(s, z) & records_in_range(s, z) & drain_in_range(s, z)
 }
 
 // The sizes that words 0 to 3 give.
@@ -298,7 +348,7 @@ pub fn store_words(z: Shape) -> usize
     requires { ⌜ (z .entries ≤ mostEntries) × (z .records ≤ mostRecords) × (z .producers ≤ mostProducers) ⌝ }
     ensures { λ n. ⌜ (storeWords (sizes z) ≡ n) × (n ≤ mostWords) ⌝ }
 {
-    record_at(z, z.records) as usize
+    (drain_at(z) + size::DRAIN_WORDS) as usize
 }
 
 // The number of the first test that fails, 0 where the words are admitted.

@@ -23,15 +23,6 @@ OfEnqueue dequeueStarted = ⊥
 OfEnqueue (gaveItem n v) = ⊥
 OfEnqueue gaveEmpty = ⊥
 
--- A history without its last item's end, and without what the consumer did after that.
-abbrev pub withdrawn : History → History
-withdrawn [] = []
-withdrawn (enqueueStarted t n v ∷ h) = enqueueStarted t n v ∷ withdrawn h
-withdrawn (enqueueEnded t n v ∷ h) = enqueueEnded t n v ∷ withdrawn h
-withdrawn (dequeueStarted ∷ h) = withdrawn h
-withdrawn (gaveItem n v ∷ h) = h
-withdrawn (gaveEmpty ∷ h) = withdrawn h
-
 -- Two histories say the same of every enqueue. What had ended before the last dequeue started is none of this: of that kept and
 -- told history may differ.
 pub record SameEnqueues (g h : History) : Type 1 where

@@ -8,7 +8,7 @@ use mathlib.Core.Option.{none, some}
 use Prim.Native.Nat.{ℕ}
 use lib.Dec.{eqb}
 use Rattle.history.specs.Lists.{All}
-use Rattle.history.specs.Event.{History, enqueueStarted, enqueueEnded, dequeueStarted, gaveItem, gaveEmpty}
+use Rattle.history.specs.Event.{History, enqueueStarted, enqueueEnded, dequeueStarted, gaveItem, gaveEmpty, withdrawn}
 use Rattle.history.specs.Form.{wellFormed}
 use Rattle.criterion.specs.Explained.{Started, Begun, Taken, EndedBefore, MayGive, Explained, dequeuing}
 use Rattle.criterion.specs.Following.{tail-formed}
@@ -16,7 +16,7 @@ use Rattle.criterion.specs.Growth.{number-is-begun, enqueue-may-start, e
 use Rattle.criterion.specs.Times.{started-when}
 use Rattle.criterion.specs.Tidy.{enqueue-of-start}
 use Rattle.criterion.specs.UnderWay.{start-was-idle, start-is-new, end-was-current, item-was-asked}
-use Rattle.criterion.specs.Late.{Late, marked, thenStarted, thenEnded, OfEnqueue, withdrawn, SameEnqueues}
+use Rattle.criterion.specs.Late.{Late, marked, thenStarted, thenEnded, OfEnqueue, SameEnqueues}
 
 -- Enqueue events are added to what is kept and to what was told.
 pub withdrawn-adds : (es : History) → All OfEnqueue es → (g : History) → withdrawn (es ++ g) ≡ es ++ withdrawn g

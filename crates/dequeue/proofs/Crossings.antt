@@ -9,7 +9,7 @@ use Rattle.rules.specs.Cell.{reader, next, place}
 use Rattle.rules.specs.Rule.{Effect, refuse, need}
 use Rattle.rules.specs.Request.{applied}
 use Rattle.store.specs.declared.Reply.the-variants.{Refused}
-use Rattle.store.specs.Outcome.{left}
+use Rattle.store.specs.Outcome.{left, leaves}
 use Rattle.dequeue.specs.declared.Crossing.{Crossing}
 use Rattle.dequeue.specs.declared.Crossing.the-variants.{None, To}
 use Rattle.dequeue.specs.Crossing.{CrossesTo, Crossed}
@@ -19,6 +19,6 @@ module _ {z : Sizes} {m : List ℕ} {r : ℕ} {x : Crossing} (s : Crossed z m r 
   crosses-to e = rw e at (s .crosses)
 
   pub crosses-nowhere : (a : ℕ → ℕ → Effect) → x ≡ None
-      → left (Refused 9) m ≡ applied 0 z m (need (reader z m (next r)) (λ n. need (reader z m (place n)) λ q. cond (leb (z .B * q) (z .M)) (a n q) (refuse 9)))
+      → left (Refused 9) m ≡ leaves z m (need (reader z m (next r)) (λ n. need (reader z m (place n)) λ q. cond (leb (z .B * q) (z .M)) (a n q) (refuse 9)))
   unfolding applied
-  crosses-nowhere a e = ap (applied 0 z m) (sym ((rw e at (s .crosses)) .refused a))
+  crosses-nowhere a e = ap (leaves z m) (sym ((rw e at (s .crosses)) .refused a))

@@ -1,16 +1,19 @@
-// The consumer's phases 1 to 4, a function each (document 01, "Calls"). The words are admitted.
+// The consumer's phases 1 to 4, a function each (document 01, "Calls"). The words are admitted. A phase that may end a drain is lent the
+// buffer (document 02, U5).
 ghost use mathlib.Core.Path.{_≡_};
+ghost use mathlib.Core.List.{[], _∷_};
 ghost use Prim.Native.Nat.{_<_};
+ghost use Rattle.rules.specs.Cell.{writes, _:=_, headRecord, headPosition, used};
 ghost use Rattle.rules.specs.Rule.{goes, cross};
 ghost use Rattle.rules.specs.Consumer.{moveHead, front, readTail, scan, readEntry};
 ghost use Rattle.store.specs.Shape.{sizes};
 ghost use Rattle.store.specs.Outcome.{left, does};
-ghost use Rattle.store.specs.Store.{Admitted};
+ghost use Rattle.store.specs.Store.{Room, Admitted};
 ghost use Rattle.dequeue.specs.Crossing.{Crossed, toCursor};
+use draining::end_empty;
 use store::Reply;
 use store::Shape;
 use store::Slot;
-use store::clear_consumer;
 use store::entry;
 use store::part;
 use store::phase;
@@ -22,6 +25,7 @@ use store::put_head;
 use store::put_use;
 use store::read_consumer;
 use store::read_contents;
+use store::read_drain;
 use store::record_end;
 use store::slot_in;
 use store::state;
@@ -55,8 +59,18 @@ pub fn cross_from(s: &[u32], z: Shape, r: u32) -> Crossing
     Crossing::To { link, position }
 }
 
+// The head moves to a link at the first position of its record, and record h is retired.
+pub fn move_to(s: &mut [u32], z: Shape, h: u32, link: u32, position: u32)
+    requires { ⌜ Room (sizes z) (now s) ⌝ }
+    requires { ⌜ h < z .records ⌝ }
+    ensures { λ _. ⌜ now (s .exit) ≡ writes (sizes z) (now (s .entry)) (headRecord := link ∷ headPosition := position ∷ used h := 3 ∷ []) ⌝ }
+{
+    put_head(s, z, link, position);
+    put_use(s, z, h, usage::RETIRED);
+}
+
 // The move past the end of the head record: next becomes head record, head position its first, the old one is retired.
-pub fn move_head(s: &mut [u32], z: Shape, h: u32) -> Reply
+fn move_head(s: &mut [u32], z: Shape, h: u32) -> Reply
     requires { ⌜ Admitted (sizes z) (now s) ⌝ }
     requires { ⌜ h < z .records ⌝ }
     ensures { λ r. ⌜ left r (now (s .exit)) ≡ does (λ z σ. moveHead z σ h goes) z (now (s .entry)) ⌝ }
@@ -64,24 +78,22 @@ pub fn move_head(s: &mut [u32], z: Shape, h: u32) -> Reply
     let Crossing::To { link, position } = cross_from(s, z, h) else {
         return Reply::Refused(9);
     };
-    put_head(s, z, link, position);
-    put_use(s, z, h, usage::RETIRED);
+    move_to(s, z, h, link, position);
     Reply::Going
 }
 
 // 1. Front. At the end of the head record: empty if it is also the tail record; otherwise next becomes head record, head
 // position its first, the old one is retired; stay. Else read the entry: handled advances the head; set goes to 6 with found
-// the head; empty goes to 2.
-pub fn read_front(s: &mut [u32], z: Shape) -> Reply
+// the head; empty goes to 2. A drain that has marked an item ends there.
+pub fn read_front(s: &mut [u32], z: Shape, b: &mut [u32], from: u32) -> Reply
     requires { ⌜ Admitted (sizes z) (now s) ⌝ }
-    ensures { λ r. ⌜ left r (now (s .exit)) ≡ does front z (now (s .entry)) ⌝ }
+    ensures { λ r. ⌜ left r (now (s .exit)) (now (b .exit)) from ≡ does front z (now (s .entry)) (now (b .entry)) from ⌝ }
 {
     let q = read_contents(s, z);
     let slot = slot_in(s, z, q.head_record, q.head_position);
     if let Slot::End { record } = slot {
         if q.tail_record == q.head_record {
-            clear_consumer(s, z);
-            return Reply::Empty;
+            return end_empty(s, z, b, from);
         }
         return move_head(s, z, record);
     }
@@ -90,6 +102,9 @@ pub fn read_front(s: &mut [u32], z: Shape) -> Reply
     };
     let found = entry(s, z, record, index, word::STATE);
     if found == state::EMPTY {
+        if read_drain(s, z).count != 0 {
+            return end_empty(s, z, b, from);
+        }
         put_consumer(s, z, word::PHASE, phase::READ_TAIL);
         return Reply::Going;
     }
@@ -106,14 +121,13 @@ pub fn read_front(s: &mut [u32], z: Shape) -> Reply
 }
 
 // 2. Read tail: equal to the head position is empty; otherwise the cursor is the next position; to 3.
-pub fn read_tail(s: &mut [u32], z: Shape) -> Reply
+pub fn read_tail(s: &mut [u32], z: Shape, b: &mut [u32], from: u32) -> Reply
     requires { ⌜ Admitted (sizes z) (now s) ⌝ }
-    ensures { λ r. ⌜ left r (now (s .exit)) ≡ does readTail z (now (s .entry)) ⌝ }
+    ensures { λ r. ⌜ left r (now (s .exit)) (now (b .exit)) from ≡ does readTail z (now (s .entry)) (now (b .entry)) from ⌝ }
 {
     let q = read_contents(s, z);
     if q.tail == q.head_position {
-        clear_consumer(s, z);
-        return Reply::Empty;
+        return end_empty(s, z, b, from);
     }
     if z.starts <= q.head_position {
         return Reply::Refused(9);
@@ -138,9 +152,9 @@ fn move_cursor(s: &mut [u32], z: Shape, r: u32) -> Reply
 
 // 3. If the cursor stands at its record's end: empty if that is the tail record, otherwise cross to next, the cursor at its
 // first position (so in every crossing); stay. Else read tail: cursor at tail is empty; otherwise to 4.
-pub fn scan_on(s: &mut [u32], z: Shape) -> Reply
+pub fn scan_on(s: &mut [u32], z: Shape, b: &mut [u32], from: u32) -> Reply
     requires { ⌜ Admitted (sizes z) (now s) ⌝ }
-    ensures { λ r. ⌜ left r (now (s .exit)) ≡ does scan z (now (s .entry)) ⌝ }
+    ensures { λ r. ⌜ left r (now (s .exit)) (now (b .exit)) from ≡ does scan z (now (s .entry)) (now (b .entry)) from ⌝ }
 {
     let c = read_consumer(s, z);
     if c.cursor_record == 0 {
@@ -149,15 +163,13 @@ pub fn scan_on(s: &mut [u32], z: Shape) -> Reply
     let q = read_contents(s, z);
     if c.cursor_position != record_end(s, z, c.cursor_record - 1) {
         if c.cursor_position == q.tail {
-            clear_consumer(s, z);
-            return Reply::Empty;
+            return end_empty(s, z, b, from);
         }
         put_consumer(s, z, word::PHASE, phase::READ_ENTRY);
         return Reply::Going;
     }
     if q.tail_record == c.cursor_record {
-        clear_consumer(s, z);
-        return Reply::Empty;
+        return end_empty(s, z, b, from);
     }
     move_cursor(s, z, c.cursor_record - 1)
 }

@@ -8,7 +8,7 @@ use borrow.Author.Tests.{le-ltb, eq-eqb, ne-eqb}
 use Rattle.rules.specs.Sizes.{Sizes}
 use Rattle.rules.specs.Cell.{reader}
 use Rattle.rules.specs.Free.{nextFree}
-use Rattle.rules.specs.Rule.{refuse}
+use Rattle.rules.specs.Rule.{Effect, refuse}
 use Rattle.rules.specs.Producer.{producerRules, producerStep}
 use Rattle.rules.specs.Consumer.{consumerRules, consumerStep}
 use Rattle.rules.specs.Request.{Request, Result, applied, phaseStep, effect, stepsSoFar, result, sizesOf}
@@ -22,20 +22,21 @@ use Rattle.store.specs.Outcome.{left}
 use Rattle.admission.specs.Refusal.{refusal}
 use Rattle.store.specs.Store.{Admitted}
 use Rattle.admission.specs.Admit.{admitted-by, refused-by, goes-on}
-use Rattle.engine.specs.Answer.{answer}
+use Rattle.engine.specs.Answer.{answer, called}
 
 module _ (q : Request) (m : List ℕ) where
   -- the words are refused
-  pub call-refused : (n : ℕ) → refusal m ≡ n → (n ≡ 0 → ⊥) → left (Refused n) m ≡ result q m
+  pub call-refused : (n : ℕ) → refusal m ≡ n → (n ≡ 0 → ⊥) → left (Refused n) m ≡ called q m
   unfolding result applied
-  call-refused n e h = ap (applied (stepsSoFar q (reader (sizesOf m) m)) (sizesOf m) m) (sym (refused-by m (effect q) n e h))
+  call-refused n e h =
+      ap {B = List ℕ → ℕ → Result} (λ (a : Effect). λ b i. applied (stepsSoFar q (reader (sizesOf m) m)) (sizesOf m) m b i a) (sym (refused-by m (effect q) n e h))
 
   -- they are admitted, and the call's own rule answers
-  pub call-answered : (l : Result) (z : Shape) → sizes z ≡ sizesOf m → refusal m ≡ 0 → l ≡ answer q z m → l ≡ result q m
+  pub call-answered : (z : Shape) → sizes z ≡ sizesOf m → refusal m ≡ 0 → answer q z m ≡ called q m
   unfolding result
-  call-answered l z s e a =
-      a ∙ subst (λ (y : Sizes). answer q z m ≡ applied (stepsSoFar q (reader y m)) y m (effect q y (reader y m))) s refl
-      ∙ ap (applied (stepsSoFar q (reader (sizesOf m) m)) (sizesOf m) m) (sym (goes-on m (effect q) e))
+  call-answered z s e =
+      subst (λ (y : Sizes). answer q z m ≡ (λ b i. applied (stepsSoFar q (reader y m)) y m b i (effect q y (reader y m)))) s refl
+      ∙ ap {B = List ℕ → ℕ → Result} (λ (a : Effect). λ b i. applied (stepsSoFar q (reader (sizesOf m) m)) (sizesOf m) m b i a) (sym (goes-on m (effect q) e))
 
 -- the code's sizes are admitted with the words
 pub admitted-as : (z : Shape) (m : List ℕ) → sizes z ≡ sizesOf m → refusal m ≡ 0 → Admitted (sizes z) m
@@ -43,25 +44,24 @@ admitted-as z m s e = rw s (admitted-by m e)
 
 -- The step of an idle thread, and of one in phase k + 1: the rule of that phase. It is not yet counted.
 module _ {z : Sizes} {m : List ℕ} {c : Consumer} {t : ℕ} (r : ReadsConsumer z m c) (b : t ≤ z .P) (o : t ≡ 0) where
-  pub consumer-idle : c .phase ≡ 0 → left (Refused 7) m ≡ applied 0 z m (phaseStep (nextFree z (reader z m)) t z (reader z m))
-  unfolding phaseStep applied
+  pub consumer-idle : c .phase ≡ 0 → phaseStep (nextFree z (reader z m)) t z (reader z m) ≡ refuse 7
+  unfolding phaseStep
   consumer-idle p = rw (le-ltb (z .P) t b, eq-eqb t 0 o, r .phase, p) refl
 
-  pub consumer-steps : {l : Result} (k : ℕ) → c .phase ≡ suc k → l ≡ applied 0 z m (getD consumerRules (suc k) (λ z σ. refuse 7) z (reader z m))
-      → l ≡ applied 0 z m (phaseStep (nextFree z (reader z m)) t z (reader z m))
+  pub consumer-steps : (k : ℕ) → c .phase ≡ suc k
+      → phaseStep (nextFree z (reader z m)) t z (reader z m) ≡ getD consumerRules (suc k) (λ z σ. refuse 7) z (reader z m)
   unfolding phaseStep consumerStep
-  consumer-steps k p a = rw (le-ltb (z .P) t b, eq-eqb t 0 o, r .phase, p, ne-eqb (suc k) 0 (λ e. omega arith)) a
+  consumer-steps k p = rw (le-ltb (z .P) t b, eq-eqb t 0 o, r .phase, p, ne-eqb (suc k) 0 (λ e. omega arith)) refl
 
 module _ {z : Sizes} {m : List ℕ} {p : Producer} {t : ℕ} (r : ReadsProducer z m t p) (b : t ≤ z .P) (o : t ≡ 0 → ⊥) where
-  pub producer-idle : p .phase ≡ 0 → left (Refused 7) m ≡ applied 0 z m (phaseStep (nextFree z (reader z m)) t z (reader z m))
-  unfolding phaseStep applied
+  pub producer-idle : p .phase ≡ 0 → phaseStep (nextFree z (reader z m)) t z (reader z m) ≡ refuse 7
+  unfolding phaseStep
   producer-idle e = rw (le-ltb (z .P) t b, ne-eqb t 0 o, r .phase, e) refl
 
-  pub producer-steps : {l : Result} (k : ℕ) → p .phase ≡ suc k
-      → l ≡ applied 0 z m (getD (producerRules (nextFree z (reader z m))) (suc k) (λ z σ t. refuse 7) z (reader z m) t)
-      → l ≡ applied 0 z m (phaseStep (nextFree z (reader z m)) t z (reader z m))
+  pub producer-steps : (k : ℕ) → p .phase ≡ suc k
+      → phaseStep (nextFree z (reader z m)) t z (reader z m) ≡ getD (producerRules (nextFree z (reader z m))) (suc k) (λ z σ t. refuse 7) z (reader z m) t
   unfolding phaseStep producerStep
-  producer-steps k e a = rw (le-ltb (z .P) t b, ne-eqb t 0 o, r .phase, e, ne-eqb (suc k) 0 (λ h. omega arith)) a
+  producer-steps k e = rw (le-ltb (z .P) t b, ne-eqb t 0 o, r .phase, e, ne-eqb (suc k) 0 (λ h. omega arith)) refl
 
 -- p is none of 1 to k
 abbrev pub Avoids : (k p : ℕ) → Type 0

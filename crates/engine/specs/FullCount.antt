@@ -67,11 +67,11 @@ module _ (z : Sizes) (σ : Reader) where
 
   mark-handled-9 : Only9 (markHandled z σ)
   unfolding markHandled
-  mark-handled-9 = search (needed, either, refuses, replies) depth 8
+  mark-handled-9 = search (needed, either, refuses, replies) depth 12
 
   retire-head-9 : Only9 (retireHead z σ)
   unfolding retireHead
-  retire-head-9 = search (needed, either, refuses, replies)
+  retire-head-9 = search (needed, either, refuses, replies) depth 8
 
   -- A producer's.
   module _ (t : ℕ) where

@@ -1,16 +1,18 @@
-// The calls *start enqueue*, *start dequeue* and *step* on the lent words (document 01, "Calls"), and the C interface of all four.
+// The calls *start enqueue*, *start dequeue*, *start drain* and *step* on the lent words (document 01, "Calls"; document 02, U5), and the C
+// interface of all five.
 ghost use mathlib.Core.Path.{_≡_};
+ghost use mathlib.Core.List.{[]};
 ghost use Prim.Native.Nat.{_≤_};
 ghost use Rattle.rules.specs.Sizes.{mostSteps};
 ghost use Rattle.rules.specs.Cell.{reader, stepCount};
 ghost use Rattle.rules.specs.Free.{nextFree};
 ghost use Rattle.rules.specs.Rule.{refuse};
-ghost use Rattle.rules.specs.Request.{startEnqueue, startDequeue, step, phaseStep, effect, result, open-store};
+ghost use Rattle.rules.specs.Request.{startEnqueue, startDequeue, startDrain, step, phaseStep, effect, open-store};
 ghost use Rattle.store.specs.Shape.{sizes};
 ghost use Rattle.store.specs.Outcome.{response, responseAfter, left, leftAfter, does};
 ghost use Rattle.store.specs.Store.{Admitted};
-ghost use Rattle.engine.specs.Answer.{answer};
-ghost use Rattle.engine.specs.Export.{code, replyWords, returned, replied};
+ghost use Rattle.engine.specs.Answer.{answer, called};
+ghost use Rattle.engine.specs.Export.{code, replyWords, returned, replied, stepped};
 use admission::admit;
 use admission::shape_of;
 use claim::claim_ahead;
@@ -32,6 +34,7 @@ use linking::link_claimed;
 use opening::open_store;
 use rescan::rescan_on;
 use starting::begin_dequeue;
+use starting::begin_drain;
 use starting::begin_enqueue;
 use store::Counted;
 use store::Reply;
@@ -46,23 +49,23 @@ use taking::mark_handled;
 use taking::read_item;
 use taking::retire_head;
 
-// One phase of thread t, not yet counted.
-fn step_thread(s: &mut [u32], z: Shape, t: u32) -> Reply
+// One phase of thread t, not yet counted. Only the end of a drain looks at the buffer.
+fn step_thread(s: &mut [u32], z: Shape, t: u32, b: &mut [u32], from: u32) -> Reply
     requires { ⌜ Admitted (sizes z) (now s) ⌝ }
     requires { ⌜ t ≤ z .producers ⌝ }
-    ensures { λ r. ⌜ left r (now (s .exit)) ≡ does (λ z σ. phaseStep (nextFree z σ) t z σ) z (now (s .entry)) ⌝ }
+    ensures { λ r. ⌜ left r (now (s .exit)) (now (b .exit)) from ≡ does (λ z σ. phaseStep (nextFree z σ) t z σ) z (now (s .entry)) (now (b .entry)) from ⌝ }
 {
     if t == 0 {
         let phase = read_consumer(s, z).phase;
         return match phase {
-            1 => read_front(s, z),
-            2 => read_tail(s, z),
-            3 => scan_on(s, z),
+            1 => read_front(s, z, b, from),
+            2 => read_tail(s, z, b, from),
+            3 => scan_on(s, z, b, from),
             4 => read_entry(s, z),
             5 => rescan_on(s, z),
             6 => read_item(s, z),
-            7 => mark_handled(s, z),
-            8 => retire_head(s, z),
+            7 => mark_handled(s, z, b, from),
+            8 => retire_head(s, z, b, from),
             0 | 9..=4294967295 => Reply::Refused(7),
         };
     }
@@ -101,9 +104,9 @@ fn full_refusal(s: &[u32], z: Shape, t: u32) -> u32
 }
 
 // *Step* (thread) on admitted words does one phase and is counted. The number is kept where the call goes on.
-fn count_step(s: &mut [u32], z: Shape, t: u32) -> Counted
+fn count_step(s: &mut [u32], z: Shape, t: u32, b: &mut [u32], from: u32) -> Counted
     requires { ⌜ Admitted (sizes z) (now s) ⌝ }
-    ensures { λ c. ⌜ leftAfter c (now (s .exit)) ≡ answer (step t) z (now (s .entry)) ⌝ }
+    ensures { λ c. ⌜ leftAfter c (now (s .exit)) (now (b .exit)) from ≡ answer (step t) z (now (s .entry)) (now (b .entry)) from ⌝ }
 {
     if z.producers < t {
         return Counted {
@@ -119,7 +122,7 @@ fn count_step(s: &mut [u32], z: Shape, t: u32) -> Counted
         };
     }
     let steps = before + 1;
-    let reply = step_thread(s, z, t);
+    let reply = step_thread(s, z, t, b, from);
     if let Reply::Going = reply {
         put_step_count(s, z, t, steps);
     }
@@ -128,7 +131,7 @@ fn count_step(s: &mut [u32], z: Shape, t: u32) -> Counted
 
 // *Start enqueue* (producer, value): admission first, then its own rule.
 pub fn start_enqueue(s: &mut [u32], t: u32, v: u32) -> Reply
-    ensures { λ r. ⌜ left r (now (s .exit)) ≡ result (startEnqueue t v) (now (s .entry)) ⌝ }
+    ensures { λ r. ⌜ left r (now (s .exit)) ≡ called (startEnqueue t v) (now (s .entry)) ⌝ }
 {
     let n = admit(s);
     if n != 0 {
@@ -139,7 +142,7 @@ pub fn start_enqueue(s: &mut [u32], t: u32, v: u32) -> Reply
 
 // *Start dequeue*.
 pub fn start_dequeue(s: &mut [u32]) -> Reply
-    ensures { λ r. ⌜ left r (now (s .exit)) ≡ result startDequeue (now (s .entry)) ⌝ }
+    ensures { λ r. ⌜ left r (now (s .exit)) ≡ called startDequeue (now (s .entry)) ⌝ }
 {
     let n = admit(s);
     if n != 0 {
@@ -148,9 +151,20 @@ pub fn start_dequeue(s: &mut [u32]) -> Reply
     begin_dequeue(s, shape_of(s))
 }
 
-// *Step* (thread).
-pub fn step(s: &mut [u32], t: u32) -> Counted
-    ensures { λ c. ⌜ leftAfter c (now (s .exit)) ≡ result (step t) (now (s .entry)) ⌝ }
+// *Start drain* (limit).
+pub fn start_drain(s: &mut [u32], limit: u32) -> Reply
+    ensures { λ r. ⌜ left r (now (s .exit)) ≡ called (startDrain limit) (now (s .entry)) ⌝ }
+{
+    let n = admit(s);
+    if n != 0 {
+        return Reply::Refused(n);
+    }
+    begin_drain(s, shape_of(s), limit)
+}
+
+// *Step* (thread), lent a word buffer; a drain's items go into it from word `from` on.
+pub fn step(s: &mut [u32], t: u32, b: &mut [u32], from: u32) -> Counted
+    ensures { λ c. ⌜ leftAfter c (now (s .exit)) (now (b .exit)) from ≡ called (step t) (now (s .entry)) (now (b .entry)) from ⌝ }
 {
     let n = admit(s);
     if n != 0 {
@@ -159,7 +173,7 @@ pub fn step(s: &mut [u32], t: u32) -> Counted
             steps: 0,
         };
     }
-    count_step(s, shape_of(s), t)
+    count_step(s, shape_of(s), t, b, from)
 }
 
 // The number that a reply is returned as.
@@ -174,10 +188,11 @@ fn returned_code(r: Reply) -> u32
         Reply::Ended => 101,
         Reply::Empty => 102,
         Reply::Item(_, _) => 103,
+        Reply::Drained(_) => 104,
     }
 }
 
-// The call number, the value and the accepted steps of a reply, stored for the caller.
+// The call number, or how many items a drain handed over, the value and the accepted steps of a reply, stored for the caller.
 fn store_reply(r: Reply, steps: u32, reply: &mut [u32; 4])
     ensures { λ _. ⌜ now (reply .exit) ≡ replyWords (responseAfter steps r) (now (reply .entry)) ⌝ }
 {
@@ -199,6 +214,11 @@ fn store_reply(r: Reply, steps: u32, reply: &mut [u32; 4])
         Reply::Item(number, value) => {
             reply[0] = number;
             reply[1] = value;
+            reply[2] = steps;
+        }
+        Reply::Drained(count) => {
+            reply[0] = count;
+            reply[1] = 0;
             reply[2] = steps;
         }
     }
@@ -241,7 +261,7 @@ pub extern "C" fn intake_start_enqueue(
     value: u32,
     reply: &mut [u32; 4],
 ) -> u32
-    ensures { λ n. ⌜ record { number = n; store = now (store .exit); reply = now (reply .exit) } ≡ replied (result (startEnqueue producer value) (now (store .entry))) (now (reply .entry)) ⌝ }
+    ensures { λ n. ⌜ record { number = n; store = now (store .exit); reply = now (reply .exit) } ≡ replied (called (startEnqueue producer value) (now (store .entry)) [] 0) (now (reply .entry)) ⌝ }
 {
     let c = Counted {
         reply: start_enqueue(store, producer, value),
@@ -253,15 +273,30 @@ pub extern "C" fn intake_start_enqueue(
 // *Start dequeue*.
 #[no_mangle]
 pub extern "C" fn intake_start_dequeue(store: &mut [u32]) -> u32
-    ensures { λ n. ⌜ record { number = n; store = now (store .exit) } ≡ returned (result startDequeue (now (store .entry))) ⌝ }
+    ensures { λ n. ⌜ record { number = n; store = now (store .exit) } ≡ returned (called startDequeue (now (store .entry)) [] 0) ⌝ }
 {
     returned_code(start_dequeue(store))
 }
 
-// *Step*; an item's call number and value go to words 0 and 1 of the reply, the accepted steps of the call to word 2.
+// *Start drain*.
 #[no_mangle]
-pub extern "C" fn intake_step(store: &mut [u32], thread: u32, reply: &mut [u32; 4]) -> u32
-    ensures { λ n. ⌜ record { number = n; store = now (store .exit); reply = now (reply .exit) } ≡ replied (result (step thread) (now (store .entry))) (now (reply .entry)) ⌝ }
+pub extern "C" fn intake_start_drain(store: &mut [u32], limit: u32) -> u32
+    ensures { λ n. ⌜ record { number = n; store = now (store .exit) } ≡ returned (called (startDrain limit) (now (store .entry)) [] 0) ⌝ }
 {
-    deliver(step(store, thread), reply)
+    returned_code(start_drain(store, limit))
+}
+
+// *Step*; an item's call number and value go to words 0 and 1 of the reply, how many items a drain handed over to word 0, the accepted steps
+// of the call to word 2. Those items go into the buffer from word `from` on.
+#[no_mangle]
+pub extern "C" fn intake_step(
+    store: &mut [u32],
+    thread: u32,
+    buffer: &mut [u32],
+    from: u32,
+    reply: &mut [u32; 4],
+) -> u32
+    ensures { λ n. ⌜ record { number = n; store = now (store .exit); buffer = now (buffer .exit); reply = now (reply .exit) } ≡ stepped (called (step thread) (now (store .entry)) (now (buffer .entry)) from) (now (reply .entry)) ⌝ }
+{
+    deliver(step(store, thread, buffer, from), reply)
 }

@@ -19,6 +19,15 @@ pub data Event : Type 0 where
 abbrev pub History : Type 0
 History = List Event
 
+-- A history without its last item's end, and without what the consumer did after that.
+abbrev pub withdrawn : History → History
+withdrawn [] = []
+withdrawn (enqueueStarted t n v ∷ h) = enqueueStarted t n v ∷ withdrawn h
+withdrawn (enqueueEnded t n v ∷ h) = enqueueEnded t n v ∷ withdrawn h
+withdrawn (dequeueStarted ∷ h) = withdrawn h
+withdrawn (gaveItem n v ∷ h) = h
+withdrawn (gaveEmpty ∷ h) = withdrawn h
+
 -- the most threads that a history names besides thread 0
 abbrev pub mostProducers : ℕ
 mostProducers = 16

@@ -46,9 +46,9 @@ fn link_first(s: &mut [u32], z: Shape)
     put_use(s, z, 0, usage::LINKED);
 }
 
-// *Open* zeroes the store, writes the contents, and links record 0.
+// *Open* zeroes the store, writes the contents, and links record 0. It is lent no buffer.
 pub fn open_store(s: &mut [u32], z: Shape) -> Reply
-    ensures { λ r. ⌜ left r (now (s .exit)) ≡ open-store (sizes z) (now (s .entry)) ⌝ }
+    ensures { λ r. ⌜ left r (now (s .exit)) [] 0 ≡ open-store (sizes z) (now (s .entry)) ⌝ }
 {
     if !sizes_in_range(z) {
         return Reply::Refused(1);

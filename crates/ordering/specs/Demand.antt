@@ -12,7 +12,7 @@ use Rattle.history.specs.Linearization.{Linearization, Linearizable, Settled}
 use Rattle.rules.specs.Sizes.{Sizes}
 use Rattle.rules.specs.Cell.{reader}
 use Rattle.rules.specs.Rule.{refused, accepted, ok}
-use Rattle.rules.specs.Request.{Request, open-store}
+use Rattle.rules.specs.Request.{Invocation, open-store}
 use Rattle.rules.specs.Play.{Played, play, itemsLeft}
 
 -- What is owed of the calls made so far on a store of sizes z.
@@ -25,10 +25,10 @@ pub record Ordered (z : Sizes) (p : Played) : Type 0 where
   -- No call was answered 3 or 9.
   pub answered : All (λ r. (r ≢ refused 3) × (r ≢ refused 9)) (p .replies)
 
--- For sizes z and any words m that an open accepts, whatever they held before; for every list of starts and steps, with any
--- arguments, refused ones included. Each call gets the store as the one before left it.
+-- For sizes z and any words m that an open accepts, whatever they held before; for every list of starts, of drains too, and steps, with any
+-- arguments and buffers, refused ones included. Each call gets the store as the one before left it.
 abbrev pub Demand-3 : Type 0
 Demand-3 =
-    (z : Sizes) (m : List ℕ) (requests : List Request)
+    (z : Sizes) (m : List ℕ) (calls : List Invocation)
     → open-store z m .reply ≡ accepted ok 0
-    → Ordered z (play requests (record { words = open-store z m .words; replies = []; history = [] }))
+    → Ordered z (play calls (record { words = open-store z m .words; replies = []; history = [] }))

@@ -7,7 +7,7 @@ use Prim.Native.Nat.{ℕ, _+_, _-_, _*_, _/_, _≤_, _<_}
 use Rattle.rules.specs.Sizes.{Sizes}
 use Rattle.rules.specs.Cell.{reader, stepCount}
 use Rattle.rules.specs.Rule.{Reply, accepted, ok, ended}
-use Rattle.rules.specs.Request.{Request, step, result, open-store}
+use Rattle.rules.specs.Request.{step, Invocation, lending, result, open-store}
 use Rattle.rules.specs.Play.{play}
 use Rattle.ordering.specs.Steps.{openedPlay, stepsWithThis}
 
@@ -15,12 +15,12 @@ use Rattle.ordering.specs.Steps.{openedPlay, stepsWithThis}
 -- at most so many, and the one that reaches the number, if any, replied end.
 abbrev pub EnqueueEndsWithin : (most : Sizes → ℕ) → Type 0
 EnqueueEndsWithin most =
-    (z : Sizes) (m : List ℕ) (requests : List Request)
+    (z : Sizes) (m : List ℕ) (calls : List Invocation)
     → open-store z m .reply ≡ accepted ok 0
-    → (t : ℕ) (r : Reply) (k : ℕ)
+    → (t : ℕ) (buffer : List ℕ) (from : ℕ) (r : Reply) (k : ℕ)
     → 1 ≤ t
-    → result (step t) (play requests (openedPlay z m) .words) .reply ≡ accepted r k
-    → (stepsWithThis z m requests t ≤ most z) × (stepsWithThis z m requests t ≡ most z → r ≡ ended)
+    → result (lending buffer from (step t)) (play calls (openedPlay z m) .words) .reply ≡ accepted r k
+    → (stepsWithThis z m calls t ≤ most z) × (stepsWithThis z m calls t ≡ most z → r ≡ ended)
 
 -- Document 02's number.
 abbrev pub mostEnqueueSteps : Sizes → ℕ
@@ -40,9 +40,9 @@ EnqueueEndsSooner = EnqueueEndsWithin fewerEnqueueSteps
 -- So word 7 of a producer stays below that number.
 abbrev pub CountBelow : Type 0
 CountBelow =
-    (z : Sizes) (m : List ℕ) (requests : List Request)
+    (z : Sizes) (m : List ℕ) (calls : List Invocation)
     → open-store z m .reply ≡ accepted ok 0
     → (t : ℕ)
     → 1 ≤ t
     → t ≤ z .P
-    → reader z (play requests (openedPlay z m) .words) (stepCount t) < fewerEnqueueSteps z
+    → reader z (play calls (openedPlay z m) .words) (stepCount t) < fewerEnqueueSteps z

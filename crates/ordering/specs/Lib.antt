@@ -6,3 +6,4 @@ pub mod AnyClaims
 pub mod Steps
 pub mod EnqueueEnds
 pub mod Counting
+pub mod NoDrain

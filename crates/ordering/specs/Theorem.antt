@@ -3,11 +3,12 @@
 use mathlib.Core.Path.{_≡_, refl, ap, ap₂, sym, _∙_, subst, subst⁻¹}
 use mathlib.Core.Logic.{_≢_}
 use mathlib.Core.Bool.{Bool, true, false, cond}
-use mathlib.Core.List.{List, [], _∷_, _++_}
+use mathlib.Core.List.{List, [], _∷_}
 use Prim.Native.Nat.{ℕ, zero, suc, _≤_}
+use native.Mathlib.Omega.{arith}
 use lib.ListN.{length}
 use Rattle.history.specs.Lists.{All}
-use Rattle.history.specs.Event.{History}
+use Rattle.history.specs.Event.{History, withdrawn}
 use Rattle.history.specs.Calls.{Call, deq, endOf, calls}
 use Rattle.history.specs.Form.{wellFormed}
 use Rattle.history.specs.Linearization.{Queue, Linearization, Linearizable, Settled}
@@ -16,17 +17,19 @@ use Rattle.criterion.specs.Members.{all-at}
 use Rattle.criterion.specs.Growth.{dequeuing-is-open}
 use Rattle.criterion.specs.Criterion.{sound, criterion}
 use Rattle.criterion.specs.Order.{order}
-use Rattle.criterion.specs.Late.{Late, withdrawn}
+use Rattle.criterion.specs.Late.{Late}
 use Rattle.criterion.specs.LateFacts.{late-formed, late-dequeuing}
 use Rattle.criterion.specs.Settle.{late-linearizable}
 use Rattle.rules.specs.Sizes.{Sizes, storeWords}
-use Rattle.rules.specs.Cell.{Reader, reader}
+use Rattle.rules.specs.Cell.{Reader, reader, Write, writes}
+use Rattle.rules.specs.Update.{after}
+use Rattle.rules.specs.InRange.{InRange}
 use Rattle.rules.specs.Free.{nextFree}
-use Rattle.rules.specs.Rule.{Effect, refuse, reply, refused, accepted, ok}
-use Rattle.rules.specs.Request.{Request, Result, applied, effect, stepsSoFar, result, open-store}
-use Rattle.rules.specs.Play.{Played, replyEvents, events, playOne, play, itemsLeft}
+use Rattle.rules.specs.Rule.{Effect, Reply, refuse, reply, refused, accepted, ok}
+use Rattle.rules.specs.Request.{Request, Invocation, Result, handedOver, applied, effect, stepsSoFar, result, open-store}
+use Rattle.rules.specs.Play.{Played, recorded, historyWith, cellsOf, playOne, play, itemsLeft}
 use Rattle.rules.specs.Readback.{reader-writes, length-writes}
-use Rattle.rules.specs.Refusal.{accepted-not-refused, by-open}
+use Rattle.rules.specs.Refusal.{accepted-not-refused, by-applied, by-open}
 use Rattle.model.specs.Items.{items, items-rest}
 use Rattle.model.specs.State.{State}
 use Rattle.simulation.specs.View.{Ghost, view}
@@ -49,7 +52,7 @@ pub record Maintained (z : Sizes) (p : Played) : Type 0 where
   pub answered : All (λ r. (r ≢ refused 3) × (r ≢ refused 9)) (p .replies)
 
 -- two refusals with one number
-refused-number : {a b : ℕ} → refused a ≡ refused b → a ≡ b
+pub refused-number : {a b : ℕ} → refused a ≡ refused b → a ≡ b
 refused-number e = cc
 
 -- What is owed of a history, where the store holds these items.
@@ -89,7 +92,7 @@ module _ (z : Sizes) (σ : Reader) (γ : Ghost) (good : Good z σ γ) where
   of-told = go (untold σ) refl
     where
       go : (b : Bool) → untold σ ≡ b → Owed (itemsLeft z σ) (cond b (withdrawn (γ .history)) (γ .history))
-      go true e = of-late (good .pending e)
+      go true e = of-late (good .pending .of-dequeue e)
       go false e = of-kept
 
 owed : {z : Sizes} {p : Played} → Maintained z p → Ordered z p
@@ -100,62 +103,89 @@ owed {z} {p} k =
 
 -- What stands after a call with this result, and after one whose claim takes this record (plus one; zero for none).
 abbrev pub played : Request → Played → Result → Played
-played q p r = record { words = r .words; replies = r .reply ∷ p .replies; history = events q (p .history) (r .reply) ++ p .history }
+played q p r =
+    record {
+      words = r .words;
+      replies = r .reply ∷ p .replies;
+      history = historyWith q (cellsOf (p .words)) (cellsOf (r .words)) (r .reply) (p .history);
+    }
 
-abbrev pub playTaking : Sizes → (c : ℕ) → Request → Played → Played
-playTaking z c q p = played q p (applied (stepsSoFar q (reader z (p .words))) z (p .words) (effectTaking c q z (reader z (p .words))))
+abbrev pub resultOf : Sizes → Played → Invocation → Effect → Result
+resultOf z p v a = applied (stepsSoFar (v .request) (reader z (p .words))) z (p .words) (v .buffer) (v .from) a
+
+abbrev pub playTaking : Sizes → (c : ℕ) → Invocation → Played → Played
+playTaking z c v p = played (v .request) p (resultOf z p v (effectTaking c (v .request) z (reader z (p .words))))
+
+-- A store in range has the sizes that it holds, so its cells are those.
+pub cells-are : (z : Sizes) (m : List ℕ) → InRange z (reader z m) → cellsOf m ≡ reader z m
+cells-are z m range = ap (λ (y : Sizes). reader y m) (sizes-are z m range)
 
 -- One call.
-module _ {z : Sizes} {p : Played} (k : Maintained z p) (q : Request) where
-  pub result-is : result q (p .words) ≡ applied (stepsSoFar q (reader z (p .words))) z (p .words) (effect q z (reader z (p .words)))
+module _ {z : Sizes} {p : Played} (k : Maintained z p) (v : Invocation) where
+  abbrev q : Request
+  q = v .request
+
+  abbrev σ : Reader
+  σ = reader z (p .words)
+
+  pub result-is : result v (p .words) ≡ resultOf z p v (effect q z σ)
   unfolding result
   result-is =
-      ap₂ (λ (y : Sizes) (a : Effect). applied (stepsSoFar q (reader y (p .words))) y (p .words) a) (sizes-are z (p .words) (k .good .range))
+      ap₂ (λ (y : Sizes) (a : Effect). applied (stepsSoFar q (reader y (p .words))) y (p .words) (v .buffer) (v .from) a) (sizes-are z (p .words) (k .good .range))
       (admitted-is z (p .words) (k .good .range) (k .good .sizes) (k .fits) (effect q))
 
   -- The rules' own takes the next free record.
-  pub play-is : playOne q p ≡ playTaking z (nextFree z (reader z (p .words))) q p
-  play-is = ap (played q p) (result-is ∙ ap (applied (stepsSoFar q (reader z (p .words))) z (p .words)) (effect-is q z (reader z (p .words))))
+  pub play-is : playOne v p ≡ playTaking z (nextFree z σ) v p
+  play-is = ap (played q p) (result-is ∙ ap (resultOf z p v) (effect-is q z σ))
 
-  by-answer : (n : ℕ) (a : Effect) → Keeps z (reader z (p .words)) (k .beside) q a → Maintained z (played q p (applied n z (p .words) a))
-  unfolding applied
-  by-answer n (refuse m) f =
+  -- a refusal by any number but 3 and 9
+  turned-down : (n : ℕ) → (n ≢ 3) × (n ≢ 9) → Maintained z (played q p (record { reply = refused n; words = p .words; buffer = v .buffer }))
+  turned-down n other =
       record {
         fits = k .fits;
         beside = k .beside;
         good = k .good;
         same = k .same;
         paced = k .paced;
-        answered = (let o = none-of-3-and-9 z (reader z (p .words)) q m f in (λ e. o .0 (refused-number e), λ e. o .1 (refused-number e)), k .answered);
+        answered = ((λ e. other .0 (refused-number e), λ e. other .1 (refused-number e)), k .answered);
       }
-  by-answer n (reply r ws) f =
+
+  goes-on : (n : ℕ) (r : Reply) (ws : List Write) (b : List ℕ) → Keeps z σ (k .beside) q (reply r ws)
+      → Maintained z (played q p (record { reply = accepted r n; words = writes z (p .words) ws; buffer = b }))
+  goes-on n r ws b f =
       let g = f .goes in
+      let reads : reader z (writes z (p .words) ws) ≡ after σ ws = reader-writes z (p .words) ws (k .fits) (g .there) in
+      let good : Good z (reader z (writes z (p .words) ws)) (g .next) = subst⁻¹ (λ (τ : Reader). Good z τ (g .next)) reads (g .good) in
       record {
         fits = rw (length-writes z (p .words) ws) (k .fits);
         beside = g .next;
-        good = subst⁻¹ (λ (τ : Reader). Good z τ (g .next)) (reader-writes z (p .words) ws (k .fits) (g .there)) (g .good);
+        good = good;
         same =
-            ap (λ (τ : Reader). told τ (g .next .history)) (reader-writes z (p .words) ws (k .fits) (g .there))
-            ∙ g .grown
-            ∙ ap (λ (h : History). replyEvents q h r ++ h) (k .same);
-        paced = subst⁻¹ (Paced z) (reader-writes z (p .words) ws (k .fits) (g .there)) (f .paced);
+            subst⁻¹ (λ (τ : Reader). told τ (g .next .history) ≡ recorded q σ τ r (told σ (k .beside .history))) reads (g .grown)
+            ∙ ap (recorded q σ (reader z (writes z (p .words) ws)) r) (k .same)
+            ∙ ap₂ (λ (α β : Reader). recorded q α β r (p .history)) (sym (cells-are z (p .words) (k .good .range))) (sym (cells-are z (writes z (p .words) ws) (good .range)));
+        paced = subst⁻¹ (Paced z) reads (f .paced);
         answered = ((accepted-not-refused, accepted-not-refused), k .answered);
       }
 
-  pub keeps-taking : (c : ℕ) → LooseChoice z (reader z (p .words)) c → Maintained z (playTaking z c q p)
-  keeps-taking c choice =
-      by-answer (stepsSoFar q (reader z (p .words))) (effectTaking c q z (reader z (p .words))) (call-keeps z (reader z (p .words)) (k .beside) (k .good) (k .paced) c choice q)
+  by-answer : (n : ℕ) (a : Effect) → Keeps z σ (k .beside) q a → Maintained z (played q p (applied n z (p .words) (v .buffer) (v .from) a))
+  by-answer n a f =
+      by-applied (λ r. Maintained z (played q p r)) n z (p .words) (v .buffer) (v .from) a
+      (λ m e. turned-down m (none-of-3-and-9 z σ q m (subst (Keeps z σ (k .beside) q) e f)))
+      (λ r ws e short. turned-down 15 ((λ x. omega arith), (λ x. omega arith)))
+      (λ r ws e long. goes-on n r ws (handedOver (v .buffer) (v .from) r) (subst (Keeps z σ (k .beside) q) e f))
 
-  pub keeps : Maintained z (playOne q p)
-  keeps =
-      subst⁻¹ (Maintained z) play-is
-      (keeps-taking (nextFree z (reader z (p .words))) (next-choice z (reader z (p .words)) (k .beside) (k .good)))
+  pub keeps-taking : (c : ℕ) → LooseChoice z σ c → Maintained z (playTaking z c v p)
+  keeps-taking c choice = by-answer (stepsSoFar q σ) (effectTaking c q z σ) (call-keeps z σ (k .beside) (k .good) (k .paced) c choice q)
+
+  pub keeps : Maintained z (playOne v p)
+  keeps = subst⁻¹ (Maintained z) play-is (keeps-taking (nextFree z σ) (next-choice z σ (k .beside) (k .good)))
 
 -- All of them.
-plays : {z : Sizes} (qs : List Request) {p : Played} → Maintained z p → Maintained z (play qs p)
+plays : {z : Sizes} (vs : List Invocation) {p : Played} → Maintained z p → Maintained z (play vs p)
 unfolding play
 plays [] k = k
-plays (q ∷ qs) k = plays qs (keeps k q)
+plays (v ∷ vs) k = plays vs (keeps k v)
 
 -- After an open no call is under way.
 open-paced : (z : Sizes) → Paced z (openReader z)
@@ -186,4 +216,4 @@ module _ (z : Sizes) (m : List ℕ) where
 
 -- Demand 3.
 pub demand-3 : Demand-3
-demand-3 z m requests opens = owed (plays requests (opened-kept z m opens))
+demand-3 z m calls opens = owed (plays calls (opened-kept z m opens))

@@ -9,38 +9,40 @@ use native.Mathlib.Omega.{arith}
 use lib.Dec.{leb, eqb}
 use lib.ListN.{getD}
 use borrow.Author.Tests.{leb-true}
-use Rattle.rules.specs.Sizes.{Sizes, sizesInRange, mostSteps}
+use Rattle.rules.specs.Sizes.{Sizes, sizesInRange, mostSteps, mostDrained}
 use Rattle.rules.specs.Update.{both}
 use Rattle.rules.specs.Range.{consumerSorts, producerSorts, lastConsumerPhase, lastProducerPhase, ofSorts}
-use Rattle.rules.specs.Cell.{Reader, consumer, producer, headRecord, headPosition, consumerPhase, cursorRecord, cursorPosition, foundRecord, foundPosition, phase, position, held, backed, tailRecord}
+use Rattle.rules.specs.Cell.{Reader, consumer, producer, headRecord, headPosition, consumerPhase, cursorRecord, cursorPosition, foundRecord, foundPosition, drainLimit, drainCount, phase, position, held, backed, tailRecord}
 use Rattle.simulation.specs.View.{Ghost, placesOf, placeOf}
 use Rattle.simulation.specs.Good.{Good}
 use Rattle.simulation.specs.Limits.{limits}
 use Rattle.simulation.specs.ConsumerSteps.{head-placed}
 use Rattle.progress.specs.Arithmetic.{count-most, scaled, product, triangle, triangle-is, triangle-less}
-use Rattle.progress.specs.Measure.{phaseOf, mostEnqueueLeft, firstHandled, enqueueAt, enqueueLeft, dequeueAt, dequeueLeft, stepsLeft}
+use Rattle.progress.specs.Measure.{phaseOf, mostEnqueueLeft, firstHandled, enqueueAt, enqueueLeft, itemSteps, dequeueAt, consumerLeft, stepsLeft}
 
--- By the thread: a dequeue's, and an enqueue's.
-abbrev pub mostLeft : Sizes → (t : ℕ) → ℕ
-mostLeft z zero = z .N * (5 * z .B + 3) + 3 * z .B + 1 + triangle (z .N * suc (z .B))
-mostLeft z (suc p) = mostEnqueueLeft z
+-- By the thread: a dequeue's, or a drain's by its limit, and an enqueue's.
+abbrev pub mostLeft : Sizes → (limit : ℕ) (t : ℕ) → ℕ
+mostLeft z l zero = z .N * (5 * z .B + 3) + 3 * z .B + 1 + triangle (z .N * suc (z .B)) + itemSteps z * (l - 1)
+mostLeft z l (suc p) = mostEnqueueLeft z
 
 -- They fit a thread's word.
-pub most-fits : (z : Sizes) → sizesInRange z ≡ true → (t : ℕ) → mostLeft z t ≤ mostSteps
-most-fits z e zero =
+pub most-fits : (z : Sizes) → sizesInRange z ≡ true → (limit : ℕ) → limit ≤ mostDrained → (t : ℕ) → mostLeft z limit t ≤ mostSteps
+most-fits z e limit few zero =
     let l = limits z e in
     let v : z .N * suc (z .B) ≤ 64 * 65 = product (z .N) (suc (z .B)) 64 65 (l .most-records) (omega (arith, l .most-entries)) in
     let square : (z .N * suc (z .B)) * suc (z .N * suc (z .B)) ≤ 4160 * 4161 = product (z .N * suc (z .B)) (suc (z .N * suc (z .B))) 4160 4161 (omega arith) (omega arith) in
     let rows : z .N * (5 * z .B + 3) ≤ 64 * 323 = product (z .N) (5 * z .B + 3) 64 323 (l .most-records) (omega (arith, l .most-entries)) in
+    let all : suc (z .B) * z .N ≤ 65 * 64 = product (suc (z .B)) (z .N) 65 64 (omega (arith, l .most-entries)) (l .most-records) in
+    let items : itemSteps z * (limit - 1) ≤ 4228 * 63 = product (itemSteps z) (limit - 1) 4228 63 (omega (arith, l .most-entries)) (omega arith) in
     omega (arith, triangle-is (z .N * suc (z .B)), l .most-entries)
-most-fits z e (suc p) = let l = limits z e in omega (arith, l .most-producers, l .most-entries, l .most-records, div-le-self (z .P + z .B - 1) (z .B))
+most-fits z e limit few (suc p) = let l = limits z e in omega (arith, l .most-producers, l .most-entries, l .most-records, div-le-self (z .P + z .B - 1) (z .B))
 
 module _ (z : Sizes) (σ : Reader) (γ : Ghost) (good : Good z σ γ) where
   -- at the start
-  pub dequeue-starts : σ consumerPhase ≡ 1 → dequeueLeft z σ ≤ mostLeft z 0
-  unfolding dequeueLeft
-  dequeue-starts e =
-      rw e
+  pub consumer-starts : σ consumerPhase ≡ 1 → σ drainCount ≡ 0 → consumerLeft z σ ≤ mostLeft z (σ drainLimit) 0
+  unfolding consumerLeft
+  consumer-starts e none =
+      rw (e, none)
       (omega (
         arith,
         scaled (suc (z .B)) (firstHandled z σ) (z .N) most,
@@ -52,7 +54,7 @@ module _ (z : Sizes) (σ : Reader) (γ : Ghost) (good : Good z σ γ) where
       most : firstHandled z σ ≤ z .N
       most = count-most (z .N) _
 
-  pub enqueue-starts : (p : ℕ) → σ (phase (suc p)) ≡ 1 → enqueueLeft z σ (suc p) ≤ mostLeft z (suc p)
+  pub enqueue-starts : (p : ℕ) → σ (phase (suc p)) ≡ 1 → enqueueLeft z σ (suc p) ≤ mostEnqueueLeft z
   unfolding enqueueLeft
   enqueue-starts p e = rw e (omega arith)
 
@@ -62,17 +64,17 @@ module _ (z : Sizes) (σ : Reader) (γ : Ghost) (good : Good z σ γ) where
       let l = limits z (good .sizes) in
       omega (arith, triangle-less 0 (z .N * suc (z .B)) (omega (arith, scaled (z .N) 1 (suc (z .B)) (omega arith), l .two-records)))
 
-  at-dequeue : (p hp lo c k f g : ℕ) → p ≢ 0 → p ≤ lastConsumerPhase → 1 ≤ dequeueAt z σ p hp lo c k f g
-  at-dequeue zero hp lo c k f g b l = absurd (b refl)
-  at-dequeue (suc zero) hp lo c k f g b l = omega arith
-  at-dequeue (suc (suc zero)) hp lo c k f g b l = omega (arith, some-rescan)
-  at-dequeue (suc (suc (suc zero))) hp lo c k f g b l = omega arith
-  at-dequeue (suc (suc (suc (suc zero)))) hp lo c k f g b l = omega (arith, some-rescan)
-  at-dequeue (suc (suc (suc (suc (suc zero))))) hp lo c k f g b l = omega arith
-  at-dequeue (suc (suc (suc (suc (suc (suc zero)))))) hp lo c k f g b l = omega arith
-  at-dequeue (suc (suc (suc (suc (suc (suc (suc zero))))))) hp lo c k f g b l = omega arith
-  at-dequeue (suc (suc (suc (suc (suc (suc (suc (suc zero)))))))) hp lo c k f g b l = omega arith
-  at-dequeue (suc (suc (suc (suc (suc (suc (suc (suc (suc p))))))))) hp lo c k f g b l = absurd (omega arith)
+  at-dequeue : (p hp lo c k f g n : ℕ) → p ≢ 0 → p ≤ lastConsumerPhase → 1 ≤ dequeueAt z σ p hp lo c k f g n
+  at-dequeue zero hp lo c k f g n b l = absurd (b refl)
+  at-dequeue (suc zero) hp lo c k f g n b l = omega arith
+  at-dequeue (suc (suc zero)) hp lo c k f g n b l = omega (arith, some-rescan)
+  at-dequeue (suc (suc (suc zero))) hp lo c k f g n b l = omega arith
+  at-dequeue (suc (suc (suc (suc zero)))) hp lo c k f g n b l = omega (arith, some-rescan)
+  at-dequeue (suc (suc (suc (suc (suc zero))))) hp lo c k f g n b l = omega arith
+  at-dequeue (suc (suc (suc (suc (suc (suc zero)))))) hp lo c k f g n b l = omega arith
+  at-dequeue (suc (suc (suc (suc (suc (suc (suc zero))))))) hp lo c k f g n b l = omega arith
+  at-dequeue (suc (suc (suc (suc (suc (suc (suc (suc zero)))))))) hp lo c k f g n b l = omega arith
+  at-dequeue (suc (suc (suc (suc (suc (suc (suc (suc (suc p))))))))) hp lo c k f g n b l = absurd (omega arith)
 
   either : (c : Bool) {x y : ℕ} → 1 ≤ x → 1 ≤ y → 1 ≤ cond c x y
   either true a b = a
@@ -94,11 +96,14 @@ module _ (z : Sizes) (σ : Reader) (γ : Ghost) (good : Good z σ γ) where
   at-enqueue (suc (suc (suc (suc (suc (suc (suc (suc (suc (suc (suc (suc p)))))))))))) L k tp h b busy l = absurd (omega arith)
 
   pub some-left : (t : ℕ) → t ≤ z .P → σ (phaseOf t) ≢ 0 → 1 ≤ stepsLeft z σ t
-  unfolding dequeueLeft enqueueLeft
+  unfolding consumerLeft enqueueLeft
   some-left zero l busy =
       let r = both (leb (σ consumerPhase) lastConsumerPhase) (ofSorts z (λ k. σ (consumer k)) 1 (getD consumerSorts (σ consumerPhase) [])) (good .range .consuming) in
-      at-dequeue (σ consumerPhase) (σ headPosition) (placeOf (placesOf σ) (σ headRecord)) (σ cursorPosition) (placeOf (placesOf σ) (σ cursorRecord)) (σ foundPosition)
-      (placeOf (placesOf σ) (σ foundRecord)) busy (leb-true (σ consumerPhase) lastConsumerPhase (r .0))
+      omega (
+        arith,
+        at-dequeue (σ consumerPhase) (σ headPosition) (placeOf (placesOf σ) (σ headRecord)) (σ cursorPosition) (placeOf (placesOf σ) (σ cursorRecord)) (σ foundPosition)
+            (placeOf (placesOf σ) (σ foundRecord)) (σ drainCount) busy (leb-true (σ consumerPhase) lastConsumerPhase (r .0)),
+      )
   some-left (suc p) l busy =
       let r = both (leb (σ (phase (suc p))) lastProducerPhase) (ofSorts z (λ k. σ (producer (suc p) k)) 1 (getD producerSorts (σ (phase (suc p))) [])) (good .range .producing (suc p) (omega arith) l) in
       at-enqueue (σ (phase (suc p))) (σ (position (suc p))) (placeOf (placesOf σ) (σ (held (suc p)))) (placeOf (placesOf σ) (σ tailRecord)) (σ (held (suc p))) (σ (backed (suc p))) busy (leb-true (σ (phase (suc p))) lastProducerPhase (r .0))

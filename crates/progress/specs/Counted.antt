@@ -19,6 +19,7 @@ use Rattle.rules.specs.InRange.{OtherThread, writes-keep-range}
 use Rattle.rules.specs.Readback.{WriteThere}
 use Rattle.rules.specs.Rule.{going}
 use Rattle.rules.specs.Request.{step}
+use Rattle.rules.specs.Play.{goneOn, recorded}
 use Rattle.memory.specs.Memory.{ThreadOk, rowOf, Linked}
 use Rattle.memory.specs.OtherThreads.{thread-kept, holdable-kept, blank-kept}
 use Rattle.simulation.specs.View.{Ghost}
@@ -82,7 +83,7 @@ module _ (z : Sizes) (τ : Reader) (δ : Ghost) (good : Good z τ δ) (n : ℕ) 
   consumer-counted busy =
       record {
         sizes = good .sizes;
-        range = writes-keep-range z 0 τ (consumer 7 := n ∷ []) (refl, tt) (good .range) (λ e. consumer-row busy) (λ l. absurd (omega arith));
+        range = writes-keep-range z 0 τ (consumer 7 := n ∷ []) (refl, tt) (good .range) (λ e. (consumer-row busy, good .range .draining)) (λ l. absurd (omega arith));
         memory =
             record {
               head-tail = good .memory .head-tail;
@@ -100,7 +101,7 @@ module _ (z : Sizes) (τ : Reader) (δ : Ghost) (good : Good z τ δ) (n : ℕ) 
         agrees = good .agrees;
         model = good .model;
         formed = good .formed;
-        pending = good .pending;
+        pending = record { of-dequeue = good .pending .of-dequeue; of-drain = good .pending .of-drain; below = good .pending .below; some = good .pending .some };
       }
 
   module _ (p : ℕ) (there : (1 ≤ suc p) × (suc p ≤ z .P)) where
@@ -141,7 +142,7 @@ module _ (z : Sizes) (τ : Reader) (δ : Ghost) (good : Good z τ δ) (n : ℕ) 
           agrees = good .agrees;
           model = good .model;
           formed = good .formed;
-          pending = good .pending;
+          pending = record { of-dequeue = good .pending .of-dequeue; of-drain = good .pending .of-drain; below = good .pending .below; some = good .pending .some };
         }
       where
         untouched-row : (t k : ℕ) → ((1 ≤ t) × (t ≤ z .P) → ⊥) → withCount τ (suc p) n (producer t k) ≡ 0
@@ -184,9 +185,9 @@ module _ (z : Sizes) (σ τ : Reader) (γ δ : Ghost) (n : ℕ) where
             record { same-head = b .same-head; same-first = b .same-first; same-records = b .same-records; was-gone = b .was-gone };
       }
 
-  told-counted : (t : ℕ) (h : History) → told (withCount τ t n) h ≡ told τ h
-  told-counted zero h = refl
-  told-counted (suc p) h = refl
+  told-counted : (t : ℕ) (h g : History) → told τ h ≡ goneOn σ τ g → told (withCount τ t n) h ≡ goneOn σ (withCount τ t n) g
+  told-counted zero h g e = e
+  told-counted (suc p) h g e = e
 
   good-counted : (t : ℕ) → Good z τ δ → n ≤ mostSteps → t ≤ z .P → τ (phaseOf t) ≢ 0 → Good z (withCount τ t n) δ
   good-counted zero good fits l busy = consumer-counted z τ δ good n fits busy
@@ -205,6 +206,7 @@ module _ (z : Sizes) (σ : Reader) (γ : Ghost) (t n : ℕ) (ws : List Write) wh
         next = g .next;
         good = subst⁻¹ (λ (ρ : Reader). Good z ρ (g .next)) count-written (good-counted z σ (after σ ws) γ (g .next) n t (g .good) fits l busy);
         grown =
-            ap (λ (ρ : Reader). told ρ (g .next .history)) count-written ∙ told-counted z σ (after σ ws) γ (g .next) n t (g .next .history) ∙ g .grown;
+            subst⁻¹ (λ (ρ : Reader). told ρ (g .next .history) ≡ recorded (step t) σ ρ going (told σ (γ .history))) count-written
+            (told-counted z σ (after σ ws) γ (g .next) n t (g .next .history) (told σ (γ .history)) (g .grown));
         moved = subst⁻¹ (λ (ρ : Reader). Moved t σ ρ γ (g .next)) count-written (moved-counted z σ (after σ ws) γ (g .next) n t (g .moved));
       }

@@ -103,7 +103,7 @@ module _ (z : Sizes) (σ : Reader) (γ : Ghost) (good : Good z σ γ) (p : ℕ) 
       → placeOf (placesOf (after σ ws)) (after σ ws (held (suc p))) ≡ k′ → placeOf (placesOf (after σ ws)) (after σ ws tailRecord) ≡ tp′ → b ≢ 0
       → Fewer ws a b L′ k′ tp′ → Lowers z σ (suc p) (goes ws)
   from-to a b L′ k′ tp′ ws e f g h i some less =
-      goes-lowers z σ (suc p) ws (λ x. some (sym f ∙ x)) (rw (enqueue-is z σ (suc p) a L k tp e refl refl refl, enqueue-is z (after σ ws) (suc p) b L′ k′ tp′ f g h i) less)
+      goes-lowers z σ (suc p) ws (λ x. some (sym f ∙ x)) (rw (enqueue-is z σ (suc p) a L k tp e refl refl refl, enqueue-is z (after σ ws) (suc p) b L′ k′ tp′ f g h i) less) tt
 
   -- 1.
   take-lowers : σ (phase (suc p)) ≡ 1 → Lowers z σ (suc p) (takePosition z σ (suc p))

@@ -7,7 +7,7 @@ use Prim.Native.Nat.{ℕ, zero, suc, _+_, _-_, _*_, _/_}
 use lib.Dec.{eqb, ltb, leb}
 use lib.ListN.{getD}
 use Rattle.rules.specs.Sizes.{Sizes}
-use Rattle.rules.specs.Cell.{Cell, Reader, tailRecord, headRecord, headPosition, consumerPhase, cursorRecord, cursorPosition, foundRecord, foundPosition, phase, position, held, backed, place, used, state}
+use Rattle.rules.specs.Cell.{Cell, Reader, tailRecord, headRecord, headPosition, consumerPhase, cursorRecord, cursorPosition, foundRecord, foundPosition, drainLimit, drainCount, phase, position, held, backed, place, used, state}
 use Rattle.simulation.specs.View.{placesOf, placeOf}
 use Rattle.progress.specs.Arithmetic.{count, triangle}
 
@@ -24,6 +24,14 @@ lastSteps z = z .N + 1 + (4 - z .N)
 -- At its start: at most P positions are past the tail record's, and a round passes a record of B.
 abbrev pub mostEnqueueLeft : Sizes → ℕ
 mostEnqueueLeft z = 1 + 5 * ((z .P + z .B - 1) / z .B) + lastSteps z
+
+-- A drain's items after its next one: phases 1, 6, 7 and 8 for each, and the handled entries and record ends that are passed before it.
+abbrev pub itemSteps : Sizes → ℕ
+itemSteps z = suc (z .B) * z .N + z .B + 4
+
+-- How many they are, with n marked so far. In phase 8 the next one has been marked. A dequeue has no limit.
+abbrev pub itemsAfter : (p limit n : ℕ) → ℕ
+itemsAfter p l n = l - cond (eqb p 8) n (suc n)
 
 module _ (z : Sizes) (σ : Reader) where
   -- An enqueue at position L. The records past the one of place k, up to that of L: each round of phases 2 to 6 leaves fewer, since
@@ -96,26 +104,29 @@ module _ (z : Sizes) (σ : Reader) where
   abbrev pub readSteps : ℕ
   readSteps = suc (2 * z .B) * (z .N + firstHandled) + 2 * z .B + rescans
 
-  -- phase 1 with the head at position hp in the record of place lo: handled entries are passed, and records of those
-  abbrev pub frontSteps : (hp lo : ℕ) → ℕ
-  frontSteps hp lo = suc (z .B) * firstHandled + (z .B * lo - hp) + 1 + readSteps
+  -- phase 1 with the head at position hp in the record of place lo: handled entries are passed, and records of those. A drain that has marked
+  -- n items, one or more, then takes one more or ends.
+  abbrev pub frontSteps : (hp lo n : ℕ) → ℕ
+  frontSteps hp lo n = suc (z .B) * firstHandled + (z .B * lo - hp) + 1 + cond (eqb n 0) readSteps 3
 
   -- phase 5 with the cursor at c in the record of place k, found at f in that of place g
   abbrev pub rescanSteps : (c k f g : ℕ) → ℕ
   rescanSteps c k f g = triangle (along f g) + (along f g - along c k) + 3
 
-  -- by its phase, the head, the cursor and found
-  abbrev pub dequeueAt : (p hp lo c k f g : ℕ) → ℕ
-  dequeueAt p hp lo c k f g =
-      getD (0 ∷ frontSteps hp lo ∷ readSteps ∷ suc (lookSteps c k) ∷ lookSteps c k ∷ rescanSteps c k f g ∷ 3 ∷ 2 ∷ 1 ∷ []) p 0
+  -- by its phase, the head, the cursor, found, and the items marked: a dequeue's, and a drain's up to its next item
+  abbrev pub dequeueAt : (p hp lo c k f g n : ℕ) → ℕ
+  dequeueAt p hp lo c k f g n =
+      getD (0 ∷ frontSteps hp lo n ∷ readSteps ∷ suc (lookSteps c k) ∷ lookSteps c k ∷ rescanSteps c k f g ∷ 3 ∷ 2 ∷ 1 ∷ []) p 0
 
-  unfoldable pub dequeueLeft : ℕ
-  dequeueLeft =
+  unfoldable pub consumerLeft : ℕ
+  consumerLeft =
       dequeueAt (σ consumerPhase) (σ headPosition) (placeOf (placesOf σ) (σ headRecord)) (σ cursorPosition) (placeOf (placesOf σ) (σ cursorRecord))
       (σ foundPosition)
       (placeOf (placesOf σ) (σ foundRecord))
+      (σ drainCount)
+      + itemSteps z * itemsAfter (σ consumerPhase) (σ drainLimit) (σ drainCount)
 
   -- of either kind, by its thread
   abbrev pub stepsLeft : (t : ℕ) → ℕ
-  stepsLeft zero = dequeueLeft
+  stepsLeft zero = consumerLeft
   stepsLeft (suc p) = enqueueLeft (suc p)

@@ -1,12 +1,13 @@
 -- What another thread's call leaves of a call's steps: no more than before.
 use mathlib.Core.Path.{_≡_, refl, ap, sym, _∙_, subst}
+use mathlib.Core.Bool.{Bool, true, false, cond}
 use Prim.Native.Nat.{ℕ, zero, suc, _+_, _-_, _*_, _≤_, _<_}
 use native.Mathlib.Decide.{decLe}
 use native.Mathlib.Omega.{arith}
 use lib.Dec.{eqb, ltb}
 use borrow.Author.Tests.{eq-eqb, eqb-true, lt-ltb, ltb-true}
 use Rattle.rules.specs.Sizes.{Sizes}
-use Rattle.rules.specs.Cell.{Reader, producer, consumer, tailRecord, headRecord, headPosition, consumerPhase, cursorRecord, cursorPosition, foundRecord, foundPosition, phase, position, held, backed, place, used, state}
+use Rattle.rules.specs.Cell.{Reader, producer, consumer, drain, drainCount, tailRecord, headRecord, headPosition, consumerPhase, cursorRecord, cursorPosition, foundRecord, foundPosition, phase, position, held, backed, place, used, state}
 use Rattle.rules.specs.Update.{both, and-true}
 use Rattle.model.specs.State.{Entry, blank, put, gone}
 use Rattle.model.specs.Walking.{producer-clause}
@@ -17,7 +18,7 @@ use Rattle.simulation.specs.Limits.{limits}
 use Rattle.simulation.specs.ProducerSteps.{seen-at}
 use Rattle.simulation.specs.ConsumerSteps.{head-placed}
 use Rattle.progress.specs.Arithmetic.{count-grows, count-same, scaled, ahead-less}
-use Rattle.progress.specs.Measure.{recordsBack, loadSteps, enqueueAt, enqueueLeft, rank, firstHandled, readSteps, dequeueAt, dequeueLeft}
+use Rattle.progress.specs.Measure.{recordsBack, loadSteps, enqueueAt, enqueueLeft, rank, firstHandled, readSteps, dequeueAt, consumerLeft}
 
 -- the entry of a state
 is-gone : (e : Entry) → codeOf e ≡ 2 → e ≡ gone
@@ -115,29 +116,37 @@ module _ (z : Sizes) (σ σ′ : Reader) (γ γ′ : Ghost) (good : Good z σ γ
     reads-less : readSteps z σ′ ≤ readSteps z σ
     reads-less = omega (arith, scaled (suc (2 * z .B)) (z .N + firstHandled z σ′) (z .N + firstHandled z σ) (omega (arith, fewer)))
 
-    at-phase : (p hp lo c k f g : ℕ) → k ≤ γ .shape .hi → g ≤ γ .shape .hi → dequeueAt z σ′ p hp lo c k f g ≤ dequeueAt z σ p hp lo c k f g
-    at-phase zero hp lo c k f g a b = omega arith
-    at-phase (suc zero) hp lo c k f g a b = omega (arith, reads-less, scaled (suc (z .B)) (firstHandled z σ′) (firstHandled z σ) fewer)
-    at-phase (suc (suc zero)) hp lo c k f g a b = reads-less
-    at-phase (suc (suc (suc zero))) hp lo c k f g a b = rw (ranks k a) (omega (arith, scaled (suc (2 * z .B)) (z .N - rank z σ k + firstHandled z σ′) (z .N - rank z σ k + firstHandled z σ) (omega (arith, fewer))))
-    at-phase (suc (suc (suc (suc zero)))) hp lo c k f g a b = rw (ranks k a) (omega (arith, scaled (suc (2 * z .B)) (z .N - rank z σ k + firstHandled z σ′) (z .N - rank z σ k + firstHandled z σ) (omega (arith, fewer))))
-    at-phase (suc (suc (suc (suc (suc zero))))) hp lo c k f g a b = rw (ranks k a, ranks g b) (omega arith)
-    at-phase (suc (suc (suc (suc (suc (suc zero)))))) hp lo c k f g a b = omega arith
-    at-phase (suc (suc (suc (suc (suc (suc (suc zero))))))) hp lo c k f g a b = omega arith
-    at-phase (suc (suc (suc (suc (suc (suc (suc (suc zero)))))))) hp lo c k f g a b = omega arith
-    at-phase (suc (suc (suc (suc (suc (suc (suc (suc (suc p))))))))) hp lo c k f g a b = omega arith
+    at-front : (b : Bool) → cond b (readSteps z σ′) 3 ≤ cond b (readSteps z σ) 3
+    at-front true = reads-less
+    at-front false = omega arith
 
-    pub dequeue-not-raised : dequeueLeft z σ′ ≤ dequeueLeft z σ
-    unfolding dequeueLeft
-    dequeue-not-raised =
+    at-phase : (p hp lo c k f g n : ℕ) → k ≤ γ .shape .hi → g ≤ γ .shape .hi → dequeueAt z σ′ p hp lo c k f g n ≤ dequeueAt z σ p hp lo c k f g n
+    at-phase zero hp lo c k f g n a b = omega arith
+    at-phase (suc zero) hp lo c k f g n a b = omega (arith, at-front (eqb n 0), scaled (suc (z .B)) (firstHandled z σ′) (firstHandled z σ) fewer)
+    at-phase (suc (suc zero)) hp lo c k f g n a b = reads-less
+    at-phase (suc (suc (suc zero))) hp lo c k f g n a b = rw (ranks k a) (omega (arith, scaled (suc (2 * z .B)) (z .N - rank z σ k + firstHandled z σ′) (z .N - rank z σ k + firstHandled z σ) (omega (arith, fewer))))
+    at-phase (suc (suc (suc (suc zero)))) hp lo c k f g n a b = rw (ranks k a) (omega (arith, scaled (suc (2 * z .B)) (z .N - rank z σ k + firstHandled z σ′) (z .N - rank z σ k + firstHandled z σ) (omega (arith, fewer))))
+    at-phase (suc (suc (suc (suc (suc zero))))) hp lo c k f g n a b = rw (ranks k a, ranks g b) (omega arith)
+    at-phase (suc (suc (suc (suc (suc (suc zero)))))) hp lo c k f g n a b = omega arith
+    at-phase (suc (suc (suc (suc (suc (suc (suc zero))))))) hp lo c k f g n a b = omega arith
+    at-phase (suc (suc (suc (suc (suc (suc (suc (suc zero)))))))) hp lo c k f g n a b = omega arith
+    at-phase (suc (suc (suc (suc (suc (suc (suc (suc (suc p))))))))) hp lo c k f g n a b = omega arith
+
+    pub consumer-not-raised : consumerLeft z σ′ ≤ consumerLeft z σ
+    unfolding consumerLeft
+    consumer-not-raised =
+        let area : (k : ℕ) → σ′ (drain k) ≡ σ (drain k) = λ k. moved .others (drain k) (λ e. omega arith) in
         let word : (k : ℕ) → σ′ (consumer k) ≡ σ (consumer k) = λ k. moved .others (consumer k) (λ e. omega arith) in
         let cursor = seen-place (σ cursorRecord) (good .memory .cursor) in
         let found = seen-place (σ foundRecord) (good .memory .found) in
         let head : placeOf (placesOf σ′) (σ′ headRecord) ≡ placeOf (placesOf σ) (σ headRecord) =
         head-placed z σ′ γ′ good′ ∙ same .same-first ∙ sym (head-placed z σ γ good) in
-        rw (word 0, same .same-head, head, word 2, word 1, word 4, word 3, cursor .0, found .0)
-        (at-phase (σ consumerPhase) (σ headPosition) (placeOf (placesOf σ) (σ headRecord)) (σ cursorPosition) (placeOf (placesOf σ) (σ cursorRecord)) (σ foundPosition)
-        (placeOf (placesOf σ) (σ foundRecord)) (cursor .1) (found .1))
+        rw (word 0, same .same-head, head, word 2, word 1, word 4, word 3, cursor .0, found .0, area 0, area 1)
+        (omega (
+          arith,
+          at-phase (σ consumerPhase) (σ headPosition) (placeOf (placesOf σ) (σ headRecord)) (σ cursorPosition) (placeOf (placesOf σ) (σ cursorRecord)) (σ foundPosition)
+              (placeOf (placesOf σ) (σ foundRecord)) (σ drainCount) (cursor .1) (found .1),
+        ))
 
   -- Another call, seen by producer u.
   module _ (u : ℕ) (other : t ≡ u → ⊥) (there : (1 ≤ u) × (u ≤ z .P)) where

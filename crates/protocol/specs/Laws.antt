@@ -11,7 +11,7 @@ use lib.Seq.{drop-cons}
 use borrow.Author.Tests.{eq-eqb, ne-eqb}
 use Rattle.text.specs.Decimal.{decimal}
 use Rattle.text.specs.Laws.{length-digits}
-use Rattle.rules.specs.Rule.{Response, refused, accepted, ok, started, going, ended, empty, item}
+use Rattle.rules.specs.Rule.{Response, refused, accepted, ok, started, going, ended, empty, item, drained}
 use Rattle.protocol.specs.Words.{space, newline, okWord, endWord, emptyWord, itemWord, refusedWord}
 use Rattle.protocol.specs.Line.{lineLength, push, linesOf, startsWith}
 use Rattle.protocol.specs.Printed.{numberAnd, numbered, numberPair, printed, mostPrinted}
@@ -80,3 +80,4 @@ length-printed (accepted going k) = omega arith
 length-printed (accepted ended k) = omega (arith, length-numbered endWord k)
 length-printed (accepted empty k) = omega (arith, length-numbered emptyWord k)
 length-printed (accepted (item n v) k) = omega (arith, length-item n v k)
+length-printed (accepted (drained items) k) = omega arith

@@ -3,7 +3,7 @@ use mathlib.Core.Bool.{Bool, true, false}
 use mathlib.Core.List.{List, [], _∷_, _++_}
 use Prim.Native.Nat.{ℕ}
 use Rattle.text.specs.Decimal.{decimal}
-use Rattle.rules.specs.Rule.{Reply, Response, refused, accepted, ok, started, going, ended, empty, item}
+use Rattle.rules.specs.Rule.{Reply, Response, refused, accepted, ok, started, going, ended, empty, item, drained}
 use Rattle.protocol.specs.Words.{space, newline, okLine, okWord, goingLine, endWord, emptyWord, itemWord, refusedWord, explainedLine, unexplainedLine}
 
 -- a number and the byte after it
@@ -18,7 +18,7 @@ numbered word n = word ++ numberAnd n newline
 abbrev pub numberPair : (n v : ℕ) → List ℕ
 numberPair n v = numberAnd n space ++ numberAnd v newline
 
--- The number of accepted steps stands last where a call ends.
+-- The number of accepted steps stands last where a call ends. The program starts no drain, and has no line for its end (document 02, U5).
 abbrev pub printedReply : Reply → (steps : ℕ) → List ℕ
 printedReply ok k = okLine
 printedReply (started n) k = numbered okWord n
@@ -26,6 +26,7 @@ printedReply going k = goingLine
 printedReply ended k = numbered endWord k
 printedReply empty k = numbered emptyWord k
 printedReply (item n v) k = itemWord ++ (numberAnd n space ++ numberPair v k)
+printedReply (drained items) k = []
 
 unfoldable pub printed : Response → List ℕ
 printed (refused n) = numbered refusedWord n

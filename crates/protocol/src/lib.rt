@@ -187,7 +187,8 @@ fn print_item(out: &mut [u8], at: usize, n: u32, v: u32, steps: u32) -> usize
     print_pair(out, last, v, steps)
 }
 
-// Writes the line of a reply, with the accepted steps of its call where it ends, at a position, and answers the position after it.
+// Writes the line of a reply, with the accepted steps of its call where it ends, at a position, and answers the position after it. The
+// program starts no drain, and has no line for its end.
 pub fn print_reply(out: &mut [u8], at: usize, reply: Reply, steps: u32) -> usize
     requires { ⌜ at + mostPrinted ≤ length (now out) ⌝ }
     ensures { λ r. ⌜ Wrote (now (out .entry)) at (printed (responseAfter steps reply)) (now (out .exit)) r ⌝ }
@@ -213,6 +214,9 @@ pub fn print_reply(out: &mut [u8], at: usize, reply: Reply, steps: u32) -> usize
         }
         Reply::Item(n, v) => {
             return print_item(out, at, n, v, steps);
+        }
+        Reply::Drained(_) => {
+            return at;
         }
     }
 }

@@ -1,6 +1,6 @@
 -- Words past the store are never written (document 01, "Store"): no call, *open* included, changes one of them, and none changes how many
 -- words there are.
-use mathlib.Core.Path.{_≡_, refl, ap, sym, _∙_}
+use mathlib.Core.Path.{_≡_, refl, ap, sym, _∙_, subst}
 use mathlib.Core.Bool.{true, _&&_}
 use mathlib.Core.List.{List, _++_}
 use Prim.Native.Nat.{ℕ, _+_, _-_, _≤_}
@@ -12,11 +12,11 @@ use borrow.Author.Tests.{leb-true}
 use Rattle.history.specs.Lists.{All}
 use Rattle.rules.specs.Sizes.{Sizes, between, sizesInRange, storeWords}
 use Rattle.rules.specs.Cell.{reader}
-use Rattle.rules.specs.Rule.{Effect, refuse, reply}
-use Rattle.rules.specs.Request.{Request, applied, openWrites, opened, open-store, effect, stepsSoFar, sizesOf, admitted, result}
+use Rattle.rules.specs.Rule.{Effect}
+use Rattle.rules.specs.Request.{Request, Invocation, applied, openWrites, opened, open-store, effect, stepsSoFar, sizesOf, admitted, result}
 use Rattle.rules.specs.Update.{both}
 use Rattle.rules.specs.Readback.{WriteThere, length-writes, drop-writes}
-use Rattle.rules.specs.Refusal.{by-open}
+use Rattle.rules.specs.Refusal.{by-applied, by-open}
 use Rattle.refinement.specs.Effects.{Sound, admitted-sound}
 
 -- The words after a call on a store of sizes z: as many as before, and past the store the same.
@@ -39,10 +39,12 @@ behind z m n l e = record { as-many = l; same = same }
     same : (k : ℕ) → storeWords z ≤ k → getD n k 0 ≡ getD m k 0
     same k h = sym (at n k h) ∙ ap (λ (w : List ℕ). getD w (k - storeWords z) 0) e ∙ at m k h
 
-applied-beyond : (k : ℕ) (z : Sizes) (q : Request) (m : List ℕ) (a : Effect) → Sound z q a → Beyond z m (applied k z m a .words)
-unfolding applied
-applied-beyond k z q m (refuse n) s = unchanged z m
-applied-beyond k z q m (reply r ws) s = behind z m _ (length-writes z m ws) (drop-writes z m ws (s .1))
+applied-beyond : (k : ℕ) (z : Sizes) (q : Request) (m b : List ℕ) (i : ℕ) (a : Effect) → Sound z q a → Beyond z m (applied k z m b i a .words)
+applied-beyond k z q m b i a s =
+    by-applied (λ r. Beyond z m (r .words)) k z m b i a
+    (λ n e. unchanged z m)
+    (λ r ws e short. unchanged z m)
+    (λ r ws e long. behind z m _ (length-writes z m ws) (drop-writes z m ws (subst (Sound z q) e s .1)))
 
 two-records : (z : Sizes) → sizesInRange z ≡ true → 2 ≤ z .N
 two-records z e =
@@ -63,9 +65,11 @@ opened-beyond z m e l =
 
 -- Every call, on any words m.
 pub words-beyond : (m : List ℕ)
-    → ((z : Sizes) → Beyond z m (open-store z m .words)) × ((q : Request) → Beyond (sizesOf m) m (result q m .words))
+    → ((z : Sizes) → Beyond z m (open-store z m .words)) × ((v : Invocation) → Beyond (sizesOf m) m (result v m .words))
 unfolding result
 words-beyond m = (
   (λ z. by-open (λ r. Beyond z m (r .words)) z m (λ n h. unchanged z m) (opened-beyond z m)),
-  (λ q. applied-beyond (stepsSoFar q (reader (sizesOf m) m)) (sizesOf m) q m (admitted m (effect q)) (admitted-sound q m)),
+  (λ v.
+      applied-beyond (stepsSoFar (v .request) (reader (sizesOf m) m)) (sizesOf m) (v .request) m (v .buffer) (v .from) (admitted m (effect (v .request)))
+      (admitted-sound (v .request) m)),
 )

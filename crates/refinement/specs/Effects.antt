@@ -10,18 +10,20 @@ use lib.Dec.{leb, ltb, eqb}
 use lib.ListN.{length, getD}
 use borrow.Author.Tests.{leb-true, lt-ltb, ltb-true, ltb-false, eqb-false, not-false}
 use Rattle.history.specs.Lists.{All}
+use Rattle.history.specs.Linearization.{Item}
 use Rattle.criterion.specs.Members.{all-append}
-use Rattle.rules.specs.Sizes.{Sizes, sizesInRange, mostPlace, mostSteps, storeWords}
-use Rattle.rules.specs.Cell.{Cell, Reader, reader, Write, tailRecord, headRecord, held, claimed, cursorRecord, foundRecord, cursorPosition, foundPosition, consumerPhase, headPosition, tail, starts, state, phase, position, backed, stepCount, place, next, prev, _:=_, clearProducer}
+use Rattle.rules.specs.Sizes.{Sizes, between, sizesInRange, mostPlace, mostSteps, mostDrained, storeWords}
+use Rattle.rules.specs.Cell.{Cell, Reader, reader, Write, tailRecord, headRecord, held, claimed, cursorRecord, foundRecord, cursorPosition, foundPosition, consumerPhase, headPosition, tail, starts, state, phase, position, backed, stepCount, place, next, prev, used, _:=_, clearProducer, clearConsumer, clearDrain, scanned, drainLimit, drainCount}
 use Rattle.rules.specs.Range.{inRange}
 use Rattle.rules.specs.Free.{nextFree}
-use Rattle.rules.specs.Rule.{Reply, ok, started, going, ended, empty, item, Effect, refuse, reply, need, upTo, within, index, atEnd}
+use Rattle.rules.specs.Rule.{Reply, ok, started, going, ended, empty, item, drained, Effect, refuse, reply, need, upTo, within, index, atEnd}
 use Rattle.rules.specs.Producer.{linked, takePosition, loadTail, lookNext, claimRecord, linkClaimed, shiftTail, goBack, writeEntry, setEntry, claimAhead, linkAhead, producerRules, producerStep}
-use Rattle.rules.specs.Consumer.{byState, front, readTail, scan, readEntry, rescan, readItem, drainedAt, markHandled, retireHead, consumerRules, consumerStep}
-use Rattle.rules.specs.Request.{Request, startEnqueue, startDequeue, step, startingEnqueue, startingDequeue, phaseStep, countKept, counted, stepping, effect, sizesOf, admitted}
+use Rattle.rules.specs.Consumer.{byState, endsEmpty, repliesItem, goesOn, front, readTail, scan, readEntry, rescan, readItem, drainedAt, marks, keepItem, markHandled, retireHead, consumerRules, consumerStep}
+use Rattle.rules.specs.Request.{Request, startEnqueue, startDequeue, startDrain, step, startingEnqueue, startingDequeue, startingDrain, phaseStep, countKept, counted, stepping, effect, sizesOf, admitted}
 use Rattle.rules.specs.Update.{countOf, count-is, both, neither}
 use Rattle.rules.specs.Readback.{WriteThere}
 use Rattle.rules.specs.InRange.{InRange, range-has}
+use Rattle.simulation.specs.DrainWords.{drain-in}
 use Rattle.memory.specs.NextFree.{RightChoice, next-free-right}
 use Rattle.refinement.specs.RecordNumbers.{isLink, links, consumer-link, producer-link, content-link, last-claimed-link, part-link}
 
@@ -33,14 +35,16 @@ kindOf going = 2
 kindOf ended = 2
 kindOf empty = 2
 kindOf (item n v) = 2
+kindOf (drained xs) = 2
 
 abbrev pub kindFor : Request → ℕ
 kindFor (startEnqueue t v) = 1
 kindFor startDequeue = 0
+kindFor (startDrain n) = 0
 kindFor (step t) = 2
 
 abbrev pub Sound : Sizes → Request → Effect → Type 0
-Sound z q (refuse n) = (1 ≤ n) × (n ≤ 9)
+Sound z q (refuse n) = (1 ≤ n) × (n ≤ 14)
 Sound z q (reply r ws) = (kindOf r ≡ kindFor q) × All (WriteThere z) ws
 
 -- To show that an answer is sound, show it at each leaf.
@@ -61,6 +65,9 @@ module _ (z : Sizes) (σ : Reader) (range : InRange z σ) (t : ℕ) where
 
   up-to : (limit x : ℕ) (a : Effect) → S a → S (upTo limit x a)
   up-to limit x a s = either (leb x limit) a (refuse 9) s (omega arith)
+
+  up-to-with : (limit x : ℕ) (a : Effect) → (x ≤ limit → S a) → S (upTo limit x a)
+  up-to-with limit x a f = by-cond z (step t) (leb x limit) a (refuse 9) (λ e. f (leb-true x limit e)) (λ _. omega arith)
 
   in-record : (r p : ℕ) (a : Effect) → (index z σ r p < z .B → S a) → S (cond (within z σ r p) a (refuse 9))
   in-record r p a f =
@@ -94,15 +101,25 @@ module _ (z : Sizes) (σ : Reader) (range : InRange z σ) (t : ℕ) where
   unfolding links isLink
   found-most = consumer-link range 2 refl
 
+  -- Where a dequeue answers empty, and where a drain goes on.
+  empty-sound : S (endsEmpty z σ)
+  empty-sound = either (eqb (σ drainLimit) 0) _ _ (omega arith) (omega arith)
+
+  on-sound : (n : ℕ) (items : List Item) (ws : List Write) → All (WriteThere z) ws → S (goesOn z σ n items ws)
+  on-sound n items ws a =
+      either (eqb n (σ drainLimit) || eqb (σ scanned) 1) _ _
+      (refl, all-append (WriteThere z) ws (clearConsumer ∷ clearDrain ∷ []) a (omega arith))
+      (refl, all-append (WriteThere z) ws _ a (omega arith))
+
   -- The consumer's phases.
   front-sound : S (front z σ)
   unfolding front
   front-sound =
       needs (σ headRecord) _ head-most
       λ h l. either (atEnd z σ h (σ headPosition)) _ _
-      (either (eqb (σ tailRecord) (suc h)) _ _ (omega arith) (needs (σ (next h)) _ (next-most h l) λ n k. places (σ (place n)) _ λ y. up-to (z .M) (z .B * y) _ (omega arith)))
+      (either (eqb (σ tailRecord) (suc h)) _ _ empty-sound (needs (σ (next h)) _ (next-most h l) λ n k. places (σ (place n)) _ λ y. up-to (z .M) (z .B * y) _ (omega arith)))
       (in-record h (σ headPosition) _
-      λ b. by-state (σ (state h (index z σ h (σ headPosition)))) _ _ _ (omega arith) (omega arith) (up-to (z .M) (suc (σ headPosition)) _ (omega arith)))
+      λ b. by-state (σ (state h (index z σ h (σ headPosition)))) _ _ _ (either (eqb (σ drainCount) 0) _ _ (omega arith) empty-sound) (omega arith) (up-to (z .M) (suc (σ headPosition)) _ (omega arith)))
     where
       by-state : (x : ℕ) (a b c : Effect) → S a → S b → S c → S (byState x a b c)
       by-state zero a b c f g h = f
@@ -111,15 +128,15 @@ module _ (z : Sizes) (σ : Reader) (range : InRange z σ) (t : ℕ) where
 
   read-tail-sound : S (readTail z σ)
   unfolding readTail
-  read-tail-sound = either (eqb (σ tail) (σ headPosition)) _ _ (omega arith) (up-to (z .M) (suc (σ headPosition)) _ (omega arith))
+  read-tail-sound = either (eqb (σ tail) (σ headPosition)) _ _ empty-sound (up-to (z .M) (suc (σ headPosition)) _ (omega arith))
 
   scan-sound : S (scan z σ)
   unfolding scan
   scan-sound =
       needs (σ cursorRecord) _ cursor-most
       λ r l. either (atEnd z σ r (σ cursorPosition)) _ _
-      (either (eqb (σ tailRecord) (suc r)) _ _ (omega arith) (needs (σ (next r)) _ (next-most r l) λ n k. places (σ (place n)) _ λ y. up-to (z .M) (z .B * y) _ (omega arith)))
-      (either (eqb (σ cursorPosition) (σ tail)) _ _ (omega arith) (omega arith))
+      (either (eqb (σ tailRecord) (suc r)) _ _ empty-sound (needs (σ (next r)) _ (next-most r l) λ n k. places (σ (place n)) _ λ y. up-to (z .M) (z .B * y) _ (omega arith)))
+      (either (eqb (σ cursorPosition) (σ tail)) _ _ empty-sound (omega arith))
 
   read-entry-sound : S (readEntry z σ)
   unfolding readEntry
@@ -144,20 +161,36 @@ module _ (z : Sizes) (σ : Reader) (range : InRange z σ) (t : ℕ) where
   unfolding readItem
   read-item-sound = needs (σ foundRecord) _ found-most λ r l. in-record r (σ foundPosition) _ λ b. omega arith
 
+  marks-sound : (r i : ℕ) → r < z .N → i < z .B → (kept : List Write) → All (WriteThere z) kept → (f : List Write → Effect)
+      → ((ws : List Write) → All (WriteThere z) ws → S (f ws)) → S (marks z σ r i kept f)
+  marks-sound r i l b kept a f each =
+      either (eqb (σ foundPosition) (σ headPosition)) _ _
+      (up-to (z .M) (suc (σ headPosition)) _
+      (needs (σ headRecord) _ head-most
+      λ h k. either (drainedAt z σ h (suc (σ headPosition))) _ _
+      (refl, ((l, b, omega arith), (omega arith, (omega arith, (omega arith, (omega arith, a))))))
+      (each _ ((l, b, omega arith), (omega arith, a)))))
+      (each _ ((l, b, omega arith), a))
+
   mark-sound : S (markHandled z σ)
   unfolding markHandled
   mark-sound =
       needs (σ foundRecord) _ found-most
       λ r l. in-record r (σ foundPosition) _
-      λ b. either (eqb (σ foundPosition) (σ headPosition)) _ _
-      (up-to (z .M) (suc (σ headPosition)) _ (needs (σ headRecord) _ head-most λ h k. either (drainedAt z σ h (suc (σ headPosition))) _ _ (omega arith) (omega arith)))
-      (omega arith)
+      λ b. either (eqb (σ drainLimit) 0) _ _
+      (marks-sound r (index z σ r (σ foundPosition)) l b [] tt (repliesItem z σ) λ ws a. (refl, all-append (WriteThere z) ws (clearConsumer ∷ []) a (omega arith)))
+      (up-to-with (σ drainLimit) (suc (σ drainCount)) _
+      λ more. marks-sound r (index z σ r (σ foundPosition)) l b (keepItem z σ) (omega (arith, drain-in z σ (range .draining) .most)) (goesOn z σ (suc (σ drainCount)) _)
+      λ ws a. on-sound (suc (σ drainCount)) _ ws a)
 
   retire-sound : S (retireHead z σ)
   unfolding retireHead
   retire-sound =
       needs (σ headRecord) _ head-most
-      λ h l. needs (σ (next h)) _ (next-most h l) λ n k. places (σ (place n)) _ λ y. up-to (z .M) (z .B * y) _ (omega arith)
+      λ h l. needs (σ (next h)) _ (next-most h l)
+      λ n k. places (σ (place n)) _
+      λ y. up-to (z .M) (z .B * y) _ (either (eqb (σ drainLimit) 0) _ _ (omega arith)
+      (on-sound (σ drainCount) _ (headRecord := suc n ∷ headPosition := z .B * y ∷ used h := 3 ∷ []) (omega arith)))
 
   consumer-sound : S (consumerStep z σ)
   unfolding consumerStep
@@ -283,6 +316,12 @@ module _ (z : Sizes) (σ : Reader) (range : InRange z σ) where
   unfolding startingDequeue
   start-dequeue-sound = by-cond z startDequeue (not (eqb (σ consumerPhase) 0)) _ _ (λ _. omega arith) (λ _. omega arith)
 
+  start-drain-sound : (n : ℕ) → Sound z (startDrain n) (startingDrain n z σ)
+  unfolding startingDrain
+  start-drain-sound n =
+      by-cond z (startDrain n) (not (eqb (σ consumerPhase) 0)) _ _ (λ _. omega arith)
+      λ _. by-cond z (startDrain n) (not (between 1 mostDrained n)) _ _ (λ _. omega arith) (λ _. omega arith)
+
   -- the record that a claim takes is one of the N
   choice-most : nextFree z σ ≤ z .N
   choice-most = go (nextFree z σ) (next-free-right z σ (last-claimed-link range))
@@ -318,6 +357,7 @@ module _ (z : Sizes) (σ : Reader) (range : InRange z σ) where
       kept ended = tt
       kept empty = tt
       kept (item n v) = tt
+      kept (drained xs) = tt
 
   step-sound : (t : ℕ) → Sound z (step t) (stepping (nextFree z σ) t z σ)
   unfolding stepping phaseStep counted
@@ -331,6 +371,7 @@ module _ (z : Sizes) (σ : Reader) (range : InRange z σ) where
   unfolding effect
   answer-sound (startEnqueue t v) = start-enqueue-sound t v
   answer-sound startDequeue = start-dequeue-sound
+  answer-sound (startDrain n) = start-drain-sound n
   answer-sound (step t) = step-sound t
 
 -- The same of a call on any words.

@@ -5,7 +5,7 @@ use mathlib.Core.Logic.{_⊎_, ⊎-elim}
 use mathlib.Core.Bool.{Bool, true, false, cond}
 use mathlib.Core.List.{List, [], _∷_}
 use Prim.Native.Nat.{ℕ, zero, suc}
-use Rattle.rules.specs.Cell.{Cell, content, lastClaimed, spare, consumer, producer, part, entry, Reader, Area, contents, ofConsumer, ofProducer, ofRecord, Write, _:=_, clear, place, next, used, held}
+use Rattle.rules.specs.Cell.{Cell, content, lastClaimed, spare, consumer, producer, part, entry, drain, pair, Reader, Area, contents, ofConsumer, ofProducer, ofRecord, ofDrain, Write, _:=_, clear, place, next, used, held}
 use Rattle.rules.specs.Update.{areaOf, sameArea, same, update, after, same-eq, same-cell, same-area, same-area-eq}
 use Rattle.renaming.specs.Renaming.{Renaming, renamed, isLink, seen, cellTo, areaTo, writeTo, writesTo}
 
@@ -18,6 +18,8 @@ NoRecord (consumer k) = Unit
 NoRecord (producer u k) = Unit
 NoRecord (part r k) = ⊥
 NoRecord (entry r i k) = ⊥
+NoRecord (drain k) = Unit
+NoRecord (pair i k) = Unit
 
 -- A use, where 0 and 3 are not told apart: which of them a record is of that nobody holds depends on what was claimed before.
 abbrev pub kind : ℕ → ℕ
@@ -75,6 +77,8 @@ alike-itself σ =
     same-word (producer t k) n = same-seen (isLink (producer t k)) (σ (producer t k))
     same-word (part r k) n = absurd n
     same-word (entry r i k) n = absurd n
+    same-word (drain k) n = refl
+    same-word (pair i k) n = refl
 
 module _ {N : ℕ} (ρ : Renaming N) where
   abbrev f : ℕ → ℕ
@@ -89,12 +93,15 @@ module _ {N : ℕ} (ρ : Renaming N) where
   cell-back (producer t k) = refl
   cell-back (part r k) = ap (λ (x : ℕ). part x k) (ρ .from-to r)
   cell-back (entry r i k) = ap (λ (x : ℕ). entry x i k) (ρ .from-to r)
+  cell-back (drain k) = refl
+  cell-back (pair i k) = refl
 
   area-back : (a : Area) → areaTo (ρ .from) (areaTo f a) ≡ a
   area-back contents = refl
   area-back ofConsumer = refl
   area-back (ofProducer t) = refl
   area-back (ofRecord r) = ap ofRecord (ρ .from-to r)
+  area-back ofDrain = refl
 
   area-to : (d : Cell) → areaOf (cellTo f d) ≡ areaTo f (areaOf d)
   area-to (content k) = refl
@@ -104,6 +111,8 @@ module _ {N : ℕ} (ρ : Renaming N) where
   area-to (producer t k) = refl
   area-to (part r k) = refl
   area-to (entry r i k) = refl
+  area-to (drain k) = refl
+  area-to (pair i k) = refl
 
   -- two tests that come out alike
   tests-alike : (a b : Bool) → (a ≡ true → b ≡ true) → (b ≡ true → a ≡ true) → a ≡ b

@@ -8,7 +8,7 @@ use native.Mathlib.Omega.{arith}
 use lib.Dec.{eqb}
 use borrow.Author.Tests.{eqb-true}
 use Rattle.rules.specs.Sizes.{Sizes}
-use Rattle.rules.specs.Cell.{Cell, content, lastClaimed, spare, consumer, producer, part, entry, Reader, clearProducer, place, next, used, held, claimed}
+use Rattle.rules.specs.Cell.{Cell, content, lastClaimed, spare, consumer, producer, part, entry, drain, pair, Reader, clearProducer, place, next, used, held, claimed}
 use Rattle.rules.specs.Rule.{going, ended}
 use Rattle.rules.specs.Producer.{claim, claimRecord, claimAhead}
 use Rattle.memory.specs.Memory.{ChainShape, Memory}
@@ -49,6 +49,8 @@ link-words {z} {σ} m (content k) n l r e loose =
     (either k 7 8 l)
 link-words m lastClaimed n l r e loose = absurd n
 link-words m (spare k) n l r e loose = let z : _≡_ {A = ℕ} 0 1 = cc in omega arith
+link-words m (drain k) n l r e loose = let z : _≡_ {A = ℕ} 0 1 = cc in omega arith
+link-words m (pair i k) n l r e loose = let z : _≡_ {A = ℕ} 0 1 = cc in omega arith
 link-words {z} {σ} m (consumer k) n l r e loose =
     ⊎-elim
     (λ q. loose .not-linked (cursor-linked m r (ap (λ (x : ℕ). σ (consumer x)) (sym q) ∙ e)))
@@ -157,6 +159,8 @@ module _ {z : Sizes} {σ τ : Reader} (pair : Twins z σ τ) where
     words-kept (producer t k) n = a .words (producer t k) n ∙ seen-kept (producer t k) n
     words-kept (part x k) n = absurd n
     words-kept (entry x i k) n = absurd n
+    words-kept (drain k) n = a .words (drain k) n
+    words-kept (Cell.pair i k) n = a .words (Cell.pair i k) n
 
     body-kept : (x : ℕ) → σ (used x) ≡ 2 → Body f′ σ τ x
     body-kept x u =

@@ -1,20 +1,21 @@
 -- The consumer's step on two stores alike, phases 1 to 8: answers alike. From what the stores share of linked records, the only
 -- ones that the consumer comes to.
 use mathlib.Core.Path.{_≡_, refl, ap}
-use mathlib.Core.Bool.{cond}
+use mathlib.Core.Bool.{_||_, cond}
 use mathlib.Core.List.{List, [], _∷_, _++_}
 use Prim.Native.Nat.{ℕ, zero, suc}
 use native.Mathlib.Omega.{arith}
-use lib.Dec.{eqb}
+use lib.Dec.{leb, eqb}
+use Rattle.history.specs.Linearization.{Item}
 use Rattle.rules.specs.Sizes.{Sizes}
-use Rattle.rules.specs.Cell.{Reader, Write, _:=_, clearConsumer, held, tail, tailRecord, headRecord, headPosition, consumerPhase, cursorRecord, cursorPosition, foundRecord, foundPosition, itemNumber, itemValue, place, used, state, entryNumber, entryValue}
+use Rattle.rules.specs.Cell.{Reader, Write, _:=_, clearConsumer, clearDrain, scanned, drainLimit, drainCount, pairNumber, pairValue, held, tail, tailRecord, headRecord, headPosition, consumerPhase, cursorRecord, cursorPosition, foundRecord, foundPosition, itemNumber, itemValue, place, used, state, entryNumber, entryValue}
 use Rattle.rules.specs.Update.{after}
-use Rattle.rules.specs.Rule.{Effect, going, empty, item, reply, goes, atEnd, cross, need}
-use Rattle.rules.specs.Consumer.{moveHead, byState, endsEmpty, front, readTail, scan, readEntry, rescanned, rescan, readItem, drainedAt, markHandled, retireHead}
+use Rattle.rules.specs.Rule.{Effect, going, empty, item, drained, reply, goes, atEnd, cross, need, upTo}
+use Rattle.rules.specs.Consumer.{itemsMarked, byCall, moveHead, byState, endsEmpty, repliesItem, goesOn, front, readTail, scan, readEntry, throughScan, rescanned, rescan, readItem, drainedAt, marks, keepItem, markHandled, retireHead}
 use Rattle.memory.specs.Memory.{Memory}
 use Rattle.renaming.specs.Renaming.{renamed, writesTo}
 use Rattle.renaming.specs.Alike.{Alike}
-use Rattle.renaming.specs.AlikeEffects.{Like, not-relinked, by-cond, by-up-to, by-inside, by-need, by-cross, by-plain}
+use Rattle.renaming.specs.AlikeEffects.{Like, not-relinked, by-refusal, by-cond, by-up-to, by-inside, by-need, by-cross, by-plain}
 use Rattle.renaming.specs.AlikeRecords.{Twins, head-linked, cursor-linked, found-linked, next-linked, tail-test}
 
 module _ {z : Sizes} {σ τ : Reader} (pair : Twins z σ τ) where
@@ -33,8 +34,41 @@ module _ {z : Sizes} {σ τ : Reader} (pair : Twins z σ τ) where
   by-state (suc zero) y e blank set handled = rw e set
   by-state (suc (suc x)) y e blank set handled = rw e handled
 
-  ends-empty : Like z σ τ endsEmpty endsEmpty
-  ends-empty = by-plain (pair .stores) empty (clearConsumer ∷ []) _ refl (λ s u. u) (λ t s e. e)
+  -- the drain area is the same
+  limit-same : τ drainLimit ≡ σ drainLimit
+  limit-same = a .words drainLimit tt
+
+  count-same : τ drainCount ≡ σ drainCount
+  count-same = a .words drainCount tt
+
+  items-same : (n : ℕ) → itemsMarked τ n ≡ itemsMarked σ n
+  items-same zero = refl
+  items-same (suc n) = rw (items-same n, a .words (pairNumber n) tt, a .words (pairValue n) tt) refl
+
+  all-same : itemsMarked τ (τ drainCount) ≡ itemsMarked σ (σ drainCount)
+  all-same = rw count-same (items-same (σ drainCount))
+
+  -- by the call that is under way
+  by-call : {x y x′ y′ : Effect} → Like z σ τ x x′ → Like z σ τ y y′ → Like z σ τ (byCall z σ x y) (byCall z τ x′ y′)
+  by-call of-dequeue of-drain = by-cond (eqb (σ drainLimit) 0) (eqb (τ drainLimit) 0) (rw limit-same refl) (λ b. of-dequeue) (λ b. of-drain)
+
+  -- the same items are handed over
+  hands : (xs ys : List Item) → ys ≡ xs → (ws vs : List Write) → vs ≡ writesTo f ws
+      → ((s : ℕ) → after σ ws (used s) ≡ 2 → σ (used s) ≡ 2)
+      → ((t s : ℕ) → after σ ws (held t) ≡ suc s → σ (held t) ≡ suc s)
+      → Like z σ τ (reply (drained xs) ws) (reply (drained ys) vs)
+  hands xs ys same ws vs e links holds = rw same (by-plain (pair .stores) (drained xs) ws vs e links holds)
+
+  abbrev cleared : List Write
+  cleared = clearConsumer ∷ clearDrain ∷ []
+
+  abbrev back : List Write
+  back = foundRecord := 0 ∷ foundPosition := 0 ∷ itemNumber := 0 ∷ itemValue := 0 ∷ consumerPhase := 1 ∷ []
+
+  ends-empty : Like z σ τ (endsEmpty z σ) (endsEmpty z τ)
+  ends-empty =
+      by-call (by-plain (pair .stores) empty (clearConsumer ∷ []) _ refl (λ s u. u) (λ t s e. e))
+      (hands _ _ all-same cleared cleared refl (λ s u. u) (λ t s e. e))
 
   tail-same : τ tail ≡ σ tail
   tail-same = a .words tail tt
@@ -105,7 +139,9 @@ module _ {z : Sizes} {σ τ : Reader} (pair : Twins z σ τ) where
       by-inside h (f h) (σ headPosition) (τ headPosition) (place-same h u) position-same
       (λ i.
       by-state (σ (state h i)) (τ (state (f h) i)) (state-same h u i)
-      (by-plain (pair .stores) going (consumerPhase := 2 ∷ []) _ refl (λ s w. w) (λ t s e. e))
+      (by-cond (eqb (σ drainCount) 0) (eqb (τ drainCount) 0) (rw count-same refl)
+      (λ c. by-plain (pair .stores) going (consumerPhase := 2 ∷ []) _ refl (λ s w. w) (λ t s e. e))
+      (λ c. ends-empty))
       (by-plain (pair .stores) going (foundRecord := suc h ∷ foundPosition := σ headPosition ∷ consumerPhase := 6 ∷ [])
       (foundRecord := suc (f h) ∷ foundPosition := τ headPosition ∷ consumerPhase := 6 ∷ []) (rw position-same refl) (λ s w. w) (λ t s e. e))
       (by-up-to (z .M) (suc (σ headPosition)) (suc (τ headPosition)) (ap suc position-same)
@@ -164,8 +200,11 @@ module _ {z : Sizes} {σ τ : Reader} (pair : Twins z σ τ) where
   abbrev toHead : Reader → List Write
   toHead κ = cursorRecord := κ headRecord ∷ cursorPosition := κ headPosition ∷ []
 
-  abbrev toItem : List Write
-  toItem = cursorRecord := 0 ∷ cursorPosition := 0 ∷ consumerPhase := 6 ∷ []
+  abbrev toItem : Reader → List Write
+  toItem κ = cursorRecord := 0 ∷ scanned := throughScan z κ ∷ consumerPhase := 6 ∷ []
+
+  flag-same : throughScan z τ ≡ throughScan z σ
+  flag-same = rw limit-same refl
 
   pub rescan-alike : Like z σ τ (rescan z σ) (rescan z τ)
   unfolding rescan
@@ -177,7 +216,7 @@ module _ {z : Sizes} {σ τ : Reader} (pair : Twins z σ τ) where
       (λ n p. rescanned z τ p (τ foundPosition) (cursorRecord := suc n ∷ cursorPosition := p ∷ []) []) u
       (λ n p l.
       by-cond (eqb p (σ foundPosition)) (eqb p (τ foundPosition)) (rw found-same refl)
-      (λ c. by-plain (pair .stores) going toItem _ refl (λ s w. w) (λ t s e. e))
+      (λ c. by-plain (pair .stores) going (toItem σ) (toItem τ) (rw flag-same refl) (λ s w. w) (λ t s e. e))
       (λ c. by-plain (pair .stores) going (cursorRecord := suc n ∷ cursorPosition := p ∷ []) _ refl (λ s w. w) (λ t s e. e))))
       (λ r u.
       by-inside r (f r) (σ cursorPosition) (τ cursorPosition) (place-same r u) cursor-same
@@ -185,12 +224,12 @@ module _ {z : Sizes} {σ τ : Reader} (pair : Twins z σ τ) where
       by-cond (eqb (σ (state r i)) 1) (eqb (τ (state (f r) i)) 1) (rw (state-same r u i) refl)
       (λ c.
       by-cond (eqb (σ headPosition) (σ cursorPosition)) (eqb (τ headPosition) (τ cursorPosition)) (rw (position-same, cursor-same) refl)
-      (λ d. by-plain (pair .stores) going (refound σ r toItem) (refound τ (f r) toItem) (rw cursor-same refl) (λ s w. w) (λ t s e. e))
+      (λ d. by-plain (pair .stores) going (refound σ r (toItem σ)) (refound τ (f r) (toItem τ)) (rw (cursor-same, flag-same) refl) (λ s w. w) (λ t s e. e))
       (λ d. by-plain (pair .stores) going (refound σ r (toHead σ)) (refound τ (f r) (toHead τ)) (rw (cursor-same, head-same, position-same) refl) (λ s w. w) (λ t s e. e)))
       (λ c.
       by-up-to (z .M) (suc (σ cursorPosition)) (suc (τ cursorPosition)) (ap suc cursor-same)
       (by-cond (eqb (suc (σ cursorPosition)) (σ foundPosition)) (eqb (suc (τ cursorPosition)) (τ foundPosition)) (rw (cursor-same, found-same) refl)
-      (λ d. by-plain (pair .stores) going toItem toItem refl (λ s w. w) (λ t s e. e))
+      (λ d. by-plain (pair .stores) going (toItem σ) (toItem τ) (rw flag-same refl) (λ s w. w) (λ t s e. e))
       (λ d.
       by-plain (pair .stores) going (cursorPosition := suc (σ cursorPosition) ∷ []) (cursorPosition := suc (τ cursorPosition) ∷ []) (rw cursor-same refl) (λ s w. w) (λ t s e. e))))))
 
@@ -207,27 +246,76 @@ module _ {z : Sizes} {σ τ : Reader} (pair : Twins z σ τ) where
       by-plain (pair .stores) going (itemNumber := σ (entryNumber r i) ∷ itemValue := σ (entryValue r i) ∷ consumerPhase := 7 ∷ [])
       (itemNumber := τ (entryNumber (f r) i) ∷ itemValue := τ (entryValue (f r) i) ∷ consumerPhase := 7 ∷ []) (rw (number, what) refl) (λ s w. w) (λ t s e. e)))
 
+  number-same : τ itemNumber ≡ σ itemNumber
+  number-same = a .words itemNumber tt
+
+  value-same : τ itemValue ≡ σ itemValue
+  value-same = a .words itemValue tt
+
   -- where the item is replied
   gives : (ws vs : List Write) → vs ≡ writesTo f ws
       → ((s : ℕ) → after σ ws (used s) ≡ 2 → σ (used s) ≡ 2)
       → ((t s : ℕ) → after σ ws (held t) ≡ suc s → σ (held t) ≡ suc s)
       → Like z σ τ (reply (item (σ itemNumber) (σ itemValue)) ws) (reply (item (τ itemNumber) (τ itemValue)) vs)
-  gives ws vs e links holds =
-      let number : τ itemNumber ≡ σ itemNumber = a .words itemNumber tt in
-      let what : τ itemValue ≡ σ itemValue = a .words itemValue tt in
-      rw (number, what) (by-plain (pair .stores) (item (σ itemNumber) (σ itemValue)) ws vs e links holds)
+  gives ws vs e links holds = rw (number-same, value-same) (by-plain (pair .stores) (item (σ itemNumber) (σ itemValue)) ws vs e links holds)
 
-  -- 7. Mark handled. To 8, or reply item.
-  abbrev marked : Reader → (r i : ℕ) → List Write → List Write
-  marked κ r i rest = state r i := 2 ∷ headPosition := suc (κ headPosition) ∷ rest
+  -- where a drain goes on, or ends
+  goes-on : (n n′ : ℕ) (xs ys : List Item) (ws vs : List Write) → n′ ≡ n → ys ≡ xs
+      → Like z σ τ (reply (drained xs) (ws ++ cleared)) (reply (drained xs) (vs ++ cleared))
+      → Like z σ τ (goes (ws ++ back)) (goes (vs ++ back))
+      → Like z σ τ (goesOn z σ n xs ws) (goesOn z τ n′ ys vs)
+  goes-on n n′ xs ys ws vs e same ends on =
+      rw (e, same)
+      (by-cond (eqb n (σ drainLimit) || eqb (σ scanned) 1) (eqb n (τ drainLimit) || eqb (τ scanned) 1) (rw (limit-same, a .words scanned tt) refl)
+      (λ b. ends) (λ b. on))
 
-  abbrev toRetire : List Write
-  toRetire = foundRecord := 0 ∷ foundPosition := 0 ∷ consumerPhase := 8 ∷ []
+  -- 7. Mark handled: at each leaf of the rule.
+  abbrev toRetire : List Write → List Write
+  toRetire kept = foundRecord := 0 ∷ foundPosition := 0 ∷ consumerPhase := 8 ∷ kept
 
-  abbrev drains : Reader → (r i h : ℕ) → Effect
-  drains κ r i h =
-      cond (drainedAt z κ h (suc (κ headPosition))) (goes (marked κ r i toRetire))
-      (reply (item (κ itemNumber) (κ itemValue)) (marked κ r i (clearConsumer ∷ [])))
+  marks-alike : (r i : ℕ) (kept kept′ : List Write) (k k′ : List Write → Effect)
+      → Like z σ τ (k (state r i := 2 ∷ kept)) (k′ (state (f r) i := 2 ∷ kept′))
+      → Like z σ τ (k (state r i := 2 ∷ headPosition := suc (σ headPosition) ∷ kept)) (k′ (state (f r) i := 2 ∷ headPosition := suc (τ headPosition) ∷ kept′))
+      → Like z σ τ (goes (state r i := 2 ∷ headPosition := suc (σ headPosition) ∷ toRetire kept)) (goes (state (f r) i := 2 ∷ headPosition := suc (τ headPosition) ∷ toRetire kept′))
+      → Like z σ τ (marks z σ r i kept k) (marks z τ (f r) i kept′ k′)
+  marks-alike r i kept kept′ k k′ of-item of-front to-8 =
+      by-cond (eqb (σ foundPosition) (σ headPosition)) (eqb (τ foundPosition) (τ headPosition)) (rw (found-same, position-same) refl)
+      (λ b.
+      by-up-to (z .M) (suc (σ headPosition)) (suc (τ headPosition)) (ap suc position-same)
+      (at-head _ _
+      (λ h l.
+      by-cond (drainedAt z σ h (suc (σ headPosition))) (drainedAt z τ (f h) (suc (τ headPosition)))
+      (rw (end-same h l (suc (σ headPosition)) (suc (τ headPosition)) (ap suc position-same), tail-test pair h) refl)
+      (λ c. to-8)
+      (λ c. of-front))))
+      (λ b. of-item)
+
+  abbrev now : Reader → List Item
+  now κ = itemsMarked κ (κ drainCount) ++ (record { number = κ itemNumber; value = κ itemValue } ∷ [])
+
+  now-same : now τ ≡ now σ
+  now-same = rw (all-same, number-same, value-same) refl
+
+  abbrev onward : Reader → (r i : ℕ) → List Write
+  onward κ r i = state r i := 2 ∷ headPosition := suc (κ headPosition) ∷ keepItem z κ
+
+  -- a drain's mark
+  drain-marks : (r i : ℕ)
+      → Like z σ τ (upTo (σ drainLimit) (suc (σ drainCount)) (marks z σ r i (keepItem z σ) (goesOn z σ (suc (σ drainCount)) (now σ))))
+      (upTo (τ drainLimit) (suc (τ drainCount)) (marks z τ (f r) i (keepItem z τ) (goesOn z τ (suc (τ drainCount)) (now τ))))
+  drain-marks r i =
+      by-cond (leb (suc (σ drainCount)) (σ drainLimit)) (leb (suc (τ drainCount)) (τ drainLimit)) (rw (limit-same, count-same) refl)
+      (λ b.
+      marks-alike r i (keepItem z σ) (keepItem z τ) (goesOn z σ (suc (σ drainCount)) (now σ)) (goesOn z τ (suc (τ drainCount)) (now τ))
+      (goes-on _ _ _ _ (state r i := 2 ∷ keepItem z σ) (state (f r) i := 2 ∷ keepItem z τ) (ap suc count-same) now-same
+      (by-plain (pair .stores) (drained (now σ)) ((state r i := 2 ∷ keepItem z σ) ++ cleared) ((state (f r) i := 2 ∷ keepItem z τ) ++ cleared) (rw (count-same, number-same, value-same) refl) (λ s w. w) (λ t s e. e))
+      (by-plain (pair .stores) going ((state r i := 2 ∷ keepItem z σ) ++ back) ((state (f r) i := 2 ∷ keepItem z τ) ++ back) (rw (count-same, number-same, value-same) refl) (λ s w. w) (λ t s e. e)))
+      (goes-on _ _ _ _ (onward σ r i) (onward τ (f r) i) (ap suc count-same) now-same
+      (by-plain (pair .stores) (drained (now σ)) (onward σ r i ++ cleared) (onward τ (f r) i ++ cleared) (rw (count-same, number-same, value-same, position-same) refl) (λ s w. w) (λ t s e. e))
+      (by-plain (pair .stores) going (onward σ r i ++ back) (onward τ (f r) i ++ back) (rw (count-same, number-same, value-same, position-same) refl) (λ s w. w) (λ t s e. e)))
+      (by-plain (pair .stores) going (state r i := 2 ∷ headPosition := suc (σ headPosition) ∷ toRetire (keepItem z σ))
+      (state (f r) i := 2 ∷ headPosition := suc (τ headPosition) ∷ toRetire (keepItem z τ)) (rw (count-same, number-same, value-same, position-same) refl) (λ s w. w) (λ t s e. e)))
+      (λ b. by-refusal 9)
 
   pub mark-handled-alike : Like z σ τ (markHandled z σ) (markHandled z τ)
   unfolding markHandled
@@ -236,24 +324,25 @@ module _ {z : Sizes} {σ τ : Reader} (pair : Twins z σ τ) where
       (λ r u.
       by-inside r (f r) (σ foundPosition) (τ foundPosition) (place-same r u) found-same
       (λ i.
-      by-cond (eqb (σ foundPosition) (σ headPosition)) (eqb (τ foundPosition) (τ headPosition)) (rw (found-same, position-same) refl)
-      (λ b.
-      by-up-to (z .M) (suc (σ headPosition)) (suc (τ headPosition)) (ap suc position-same)
-      (at-head (drains σ r i) (drains τ (f r) i)
-      (λ h l.
-      by-cond (drainedAt z σ h (suc (σ headPosition))) (drainedAt z τ (f h) (suc (τ headPosition)))
-      (rw (end-same h l (suc (σ headPosition)) (suc (τ headPosition)) (ap suc position-same), tail-test pair h) refl)
-      (λ c. by-plain (pair .stores) going (marked σ r i toRetire) (marked τ (f r) i toRetire) (rw position-same refl) (λ s w. w) (λ t s e. e))
-      (λ c.
-      gives (marked σ r i (clearConsumer ∷ [])) (marked τ (f r) i (clearConsumer ∷ [])) (rw position-same refl) (λ s w. w) (λ t s e. e)))))
-      (λ b. gives (state r i := 2 ∷ clearConsumer ∷ []) (state (f r) i := 2 ∷ clearConsumer ∷ []) refl (λ s w. w) (λ t s e. e))))
+      by-call
+      (marks-alike r i [] [] (repliesItem z σ) (repliesItem z τ)
+      (gives (state r i := 2 ∷ clearConsumer ∷ []) (state (f r) i := 2 ∷ clearConsumer ∷ []) refl (λ s w. w) (λ t s e. e))
+      (gives (state r i := 2 ∷ headPosition := suc (σ headPosition) ∷ clearConsumer ∷ []) (state (f r) i := 2 ∷ headPosition := suc (τ headPosition) ∷ clearConsumer ∷ []) (rw position-same refl) (λ s w. w) (λ t s e. e))
+      (by-plain (pair .stores) going (state r i := 2 ∷ headPosition := suc (σ headPosition) ∷ toRetire []) (state (f r) i := 2 ∷ headPosition := suc (τ headPosition) ∷ toRetire []) (rw position-same refl) (λ s w. w) (λ t s e. e)))
+      (drain-marks r i)))
 
-  -- 8. The move past the end of the head record. Reply item.
+  -- 8. The move past the end of the head record. Reply item, or as a drain goes on.
   pub retire-head-alike : Like z σ τ (retireHead z σ) (retireHead z τ)
   unfolding retireHead
   retire-head-alike =
       at-head _ _
       (λ h u.
-      moves h u (λ ws. reply (item (σ itemNumber) (σ itemValue)) (ws ++ (clearConsumer ∷ []))) (λ ws. reply (item (τ itemNumber) (τ itemValue)) (ws ++ (clearConsumer ∷ [])))
-      (λ n p. gives (moved h n p ++ (clearConsumer ∷ [])) (moved (f h) (f n) p ++ (clearConsumer ∷ [])) refl
-      (λ s w. not-relinked (eqb h s) 3 (σ (used s)) (λ x. omega arith) w) (λ t s e. e)))
+      moves h u
+      (λ ws. byCall z σ (repliesItem z σ ws) (goesOn z σ (σ drainCount) (itemsMarked σ (σ drainCount)) ws))
+      (λ ws. byCall z τ (repliesItem z τ ws) (goesOn z τ (τ drainCount) (itemsMarked τ (τ drainCount)) ws))
+      (λ n p.
+      let unlinked : (s : ℕ) → cond (eqb h s) 3 (σ (used s)) ≡ 2 → σ (used s) ≡ 2 = λ s w. not-relinked (eqb h s) 3 (σ (used s)) (λ x. omega arith) w in
+      by-call (gives (moved h n p ++ (clearConsumer ∷ [])) (moved (f h) (f n) p ++ (clearConsumer ∷ [])) refl unlinked (λ t s e. e))
+      (goes-on _ _ _ _ (moved h n p) (moved (f h) (f n) p) count-same all-same
+      (by-plain (pair .stores) (drained (itemsMarked σ (σ drainCount))) (moved h n p ++ cleared) (moved (f h) (f n) p ++ cleared) refl unlinked (λ t s e. e))
+      (by-plain (pair .stores) going (moved h n p ++ back) (moved (f h) (f n) p ++ back) refl unlinked (λ t s e. e)))))

@@ -9,13 +9,13 @@ use native.Mathlib.Omega.{arith}
 use lib.Dec.{eqb, ltb}
 use lib.ListN.{getD}
 use borrow.Author.Tests.{eqb-false, ltb-false}
-use Rattle.rules.specs.Sizes.{Sizes, mostSteps}
-use Rattle.rules.specs.Cell.{Reader, Write, _:=_, consumer, producer, starts, consumerPhase, phase, call, value, stepCount}
+use Rattle.rules.specs.Sizes.{Sizes, between, mostSteps, mostDrained}
+use Rattle.rules.specs.Cell.{Reader, Write, _:=_, consumer, producer, starts, consumerPhase, drainLimit, phase, call, value, stepCount}
 use Rattle.rules.specs.Update.{update, after, after-more, countOf, count-is}
-use Rattle.rules.specs.Rule.{Effect, Reply, refuse, reply, ok, started, going, ended, empty, item}
+use Rattle.rules.specs.Rule.{Effect, Reply, refuse, reply, ok, started, going, ended, empty, item, drained}
 use Rattle.rules.specs.Producer.{producerRules, producerStep}
 use Rattle.rules.specs.Consumer.{consumerRules, consumerStep}
-use Rattle.rules.specs.Request.{Request, countKept, startEnqueue, startDequeue, step, startingEnqueue, startingDequeue, phaseStep, counted, stepping, stepsSoFar}
+use Rattle.rules.specs.Request.{Request, countKept, startEnqueue, startDequeue, startDrain, step, startingEnqueue, startingDequeue, startingDrain, phaseStep, counted, stepping, stepsSoFar}
 use Rattle.simulation.specs.Every.{effectTaking}
 use Rattle.renaming.specs.AlikeEffects.{Stores, Like, by-refusal, by-cond, by-up-to, by-plain}
 use Rattle.renaming.specs.AlikeRecords.{Twins}
@@ -38,6 +38,7 @@ module _ (z : Sizes) (σ τ : Reader) (t k : ℕ) where
   kept-alike ended ws vs s = rw (append-nil ws, append-nil vs) s
   kept-alike empty ws vs s = rw (append-nil ws, append-nil vs) s
   kept-alike (item n v) ws vs s = rw (append-nil ws, append-nil vs) s
+  kept-alike (drained xs) ws vs s = rw (append-nil ws, append-nil vs) s
 
   counted-alike : (a b : Effect) → Like z σ τ a b → Like z σ τ (counted (stepCount t) k a) (counted (stepCount t) k b)
   unfolding counted
@@ -69,6 +70,7 @@ module _ {z : Sizes} {σ τ : Reader} (pair : Twins z σ τ) where
   pub steps-same : (q : Request) → stepsSoFar q τ ≡ stepsSoFar q σ
   steps-same (startEnqueue t v) = refl
   steps-same startDequeue = refl
+  steps-same (startDrain n) = refl
   steps-same (step t) = ap suc (count-same t)
 
   consumer-alike : Like z σ τ (consumerStep z σ) (consumerStep z τ)
@@ -152,7 +154,18 @@ module _ {z : Sizes} {σ τ : Reader} (pair : Twins z σ τ) where
       (λ b. by-refusal 5)
       (λ b. by-plain (pair .stores) ok (consumerPhase := 1 ∷ []) _ refl (λ s u. u) (λ u s e. e))
 
+  start-drain-alike : (n : ℕ) → Like z σ τ (startingDrain n z σ) (startingDrain n z τ)
+  unfolding startingDrain
+  start-drain-alike n =
+      by-cond (not (eqb (σ consumerPhase) 0)) (not (eqb (τ consumerPhase) 0)) (rw consumer-phase refl)
+      (λ b. by-refusal 5)
+      (λ b.
+      by-cond (not (between 1 mostDrained n)) (not (between 1 mostDrained n)) refl
+      (λ c. by-refusal 14)
+      (λ c. by-plain (pair .stores) ok (drainLimit := n ∷ consumerPhase := 1 ∷ []) _ refl (λ s u. u) (λ u s e. e)))
+
   pub answer-alike : (c d : ℕ) → BothChoose z σ τ c d → (q : Request) → Like z σ τ (effectTaking c q z σ) (effectTaking d q z τ)
   answer-alike c d both (startEnqueue t v) = start-enqueue-alike t v
   answer-alike c d both startDequeue = start-dequeue-alike
+  answer-alike c d both (startDrain n) = start-drain-alike n
   answer-alike c d both (step t) = step-alike c d both t

@@ -9,7 +9,7 @@ use native.Mathlib.Decide.{ℕ-discrete}
 use native.Mathlib.Omega.{arith}
 use lib.Dec.{eqb}
 use borrow.Author.Tests.{eq-eqb, ne-eqb}
-use Rattle.rules.specs.Cell.{Cell, content, lastClaimed, spare, consumer, producer, part, entry, Area, contents, ofConsumer, ofProducer, ofRecord, Write, _:=_, clear}
+use Rattle.rules.specs.Cell.{Cell, content, lastClaimed, spare, consumer, producer, part, entry, drain, pair, Area, contents, ofConsumer, ofProducer, ofRecord, ofDrain, Write, _:=_, clear}
 
 -- One number for each record, another for each, and the way back.
 pub record Renaming (N : ℕ) : Type 0 where
@@ -60,6 +60,8 @@ isLink (consumer k) = eqb k 1 || eqb k 3
 isLink (producer t k) = eqb k 4 || eqb k 5
 isLink (part r k) = eqb k 1 || eqb k 2
 isLink (entry r i k) = false
+isLink (drain k) = false
+isLink (pair i k) = false
 
 -- what cell c holds, with records renamed
 abbrev pub seen : (ℕ → ℕ) → Cell → ℕ → ℕ
@@ -73,12 +75,15 @@ cellTo f (consumer k) = consumer k
 cellTo f (producer t k) = producer t k
 cellTo f (part r k) = part (f r) k
 cellTo f (entry r i k) = entry (f r) i k
+cellTo f (drain k) = drain k
+cellTo f (pair i k) = pair i k
 
 abbrev pub areaTo : (ℕ → ℕ) → Area → Area
 areaTo f contents = contents
 areaTo f ofConsumer = ofConsumer
 areaTo f (ofProducer t) = ofProducer t
 areaTo f (ofRecord r) = ofRecord (f r)
+areaTo f ofDrain = ofDrain
 
 abbrev pub writeTo : (ℕ → ℕ) → Write → Write
 writeTo f (c := v) = cellTo f c := seen f c v

@@ -1,9 +1,9 @@
 // The consumer's phase 5 (document 01, "Calls"). The words are admitted.
 ghost use mathlib.Core.Path.{_≡_};
 ghost use Prim.Native.Nat.{_<_};
-ghost use Rattle.rules.specs.Cell.{writes};
+ghost use Rattle.rules.specs.Cell.{reader, writes};
 ghost use Rattle.rules.specs.Rule.{cross};
-ghost use Rattle.rules.specs.Consumer.{rescan};
+ghost use Rattle.rules.specs.Consumer.{throughScan, rescan};
 ghost use Rattle.store.specs.Shape.{sizes};
 ghost use Rattle.store.specs.Outcome.{left, does};
 ghost use Rattle.store.specs.Store.{Room, Admitted};
@@ -20,27 +20,37 @@ use store::put_cursor;
 use store::put_found;
 use store::read_consumer;
 use store::read_contents;
+use store::read_drain;
+use store::select;
 use store::slot_in;
 use store::state;
 use store::word;
 
-// The entry found is the one to take; the cursor is not in use any more; to 6.
-fn settle(s: &mut [u32], z: Shape)
-    requires { ⌜ Room (sizes z) (now s) ⌝ }
-    ensures { λ _. ⌜ now (s .exit) ≡ writes (sizes z) (now (s .entry)) settles ⌝ }
+// Whether a drain came through the scan: 1, or 0 where the call is a dequeue (document 02, U5).
+fn through_scan(s: &[u32], z: Shape) -> u32
+    requires { ⌜ Admitted (sizes z) (now s) ⌝ }
+    ensures { λ x. ⌜ throughScan (sizes z) (reader (sizes z) (now (s .entry))) ≡ x ⌝ }
 {
-    put_cursor(s, z, 0, 0);
+    select(read_drain(s, z).limit == 0, 0, 1)
+}
+
+// The entry found is the one to take; the cursor is not in use any more, and its position says how the call came here; to 6.
+fn settle(s: &mut [u32], z: Shape, through: u32)
+    requires { ⌜ Room (sizes z) (now s) ⌝ }
+    ensures { λ _. ⌜ now (s .exit) ≡ writes (sizes z) (now (s .entry)) (settles through) ⌝ }
+{
+    put_cursor(s, z, 0, through);
     put_consumer(s, z, word::PHASE, phase::READ_ITEM);
 }
 
 // The cursor moves to a link and a position. When its position then equals that of found, the same step goes to 6; otherwise
 // stay.
-fn move_cursor(s: &mut [u32], z: Shape, link: u32, position: u32, found: u32)
+fn move_cursor(s: &mut [u32], z: Shape, link: u32, position: u32, found: u32, through: u32)
     requires { ⌜ Room (sizes z) (now s) ⌝ }
-    ensures { λ _. ⌜ now (s .exit) ≡ writes (sizes z) (now (s .entry)) (moves link position found) ⌝ }
+    ensures { λ _. ⌜ now (s .exit) ≡ writes (sizes z) (now (s .entry)) (moves link position found through) ⌝ }
 {
     if position == found {
-        settle(s, z);
+        settle(s, z, through);
         return;
     }
     put_cursor(s, z, link, position);
@@ -56,7 +66,8 @@ fn rescan_end(s: &mut [u32], z: Shape, r: u32) -> Reply
         return Reply::Refused(9);
     };
     let found = read_consumer(s, z).found_position;
-    move_cursor(s, z, link, position, found);
+    let through = through_scan(s, z);
+    move_cursor(s, z, link, position, found, through);
     Reply::Going
 }
 
@@ -67,8 +78,16 @@ fn rescan_found(s: &mut [u32], z: Shape) -> Reply
 {
     let c = read_consumer(s, z);
     let q = read_contents(s, z);
+    let through = through_scan(s, z);
     put_found(s, z, c.cursor_record, c.cursor_position);
-    move_cursor(s, z, q.head_record, q.head_position, c.cursor_position);
+    move_cursor(
+        s,
+        z,
+        q.head_record,
+        q.head_position,
+        c.cursor_position,
+        through,
+    );
     Reply::Going
 }
 
@@ -95,7 +114,7 @@ pub fn rescan_on(s: &mut [u32], z: Shape) -> Reply
         return Reply::Refused(9);
     }
     if c.cursor_position + 1 == c.found_position {
-        settle(s, z);
+        settle(s, z, through_scan(s, z));
         return Reply::Going;
     }
     put_consumer(s, z, word::CURSOR_POSITION, c.cursor_position + 1);

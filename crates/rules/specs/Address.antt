@@ -7,8 +7,8 @@ use native.Mathlib.Omega.{arith}
 use lib.Arith.{digits-div, digits-mod}
 use lib.Dec.{leb, ltb}
 use borrow.Author.Tests.{lt-ltb, le-ltb, ltb-true, le-leb, leb-true}
-use Rattle.rules.specs.Sizes.{Sizes, contentWords, lastClaimedWord, firstSpare, threadWords, recordWords, firstRecord, storeWords}
-use Rattle.rules.specs.Cell.{Cell, content, lastClaimed, spare, consumer, producer, part, entry, address, there, Area, contents, ofConsumer, ofProducer, ofRecord, areaStart, areaWords}
+use Rattle.rules.specs.Sizes.{Sizes, contentWords, lastClaimedWord, firstSpare, threadWords, recordWords, firstRecord, mostDrained, drainWords, firstDrain, storeWords}
+use Rattle.rules.specs.Cell.{Cell, content, lastClaimed, spare, consumer, producer, part, entry, drain, pair, address, there, Area, contents, ofConsumer, ofProducer, ofRecord, ofDrain, areaStart, areaWords}
 use Rattle.rules.specs.Update.{areaOf, both, and-true}
 
 -- A store of these sizes has the cell.
@@ -20,6 +20,8 @@ There z (consumer k) = k < threadWords
 There z (producer t k) = (1 ≤ t) × (t ≤ z .P) × (k < threadWords)
 There z (part r k) = (r < z .N) × (k < 4)
 There z (entry r i k) = (r < z .N) × (i < z .B) × (k < 3)
+There z (drain k) = k < 2
+There z (pair i k) = (i < mostDrained) × (k < 2)
 
 pub there-is : (z : Sizes) (c : Cell) → There z c → there z c ≡ true
 there-is z (content k) h = lt-ltb k lastClaimedWord h
@@ -29,6 +31,8 @@ there-is z (consumer k) h = lt-ltb k threadWords h
 there-is z (producer t k) h = and-true (and-true (le-leb 1 t (h .0)) (le-leb t (z .P) (h .1))) (lt-ltb k threadWords (h .2))
 there-is z (part r k) h = and-true (lt-ltb r (z .N) (h .0)) (lt-ltb k 4 (h .1))
 there-is z (entry r i k) h = and-true (and-true (lt-ltb r (z .N) (h .0)) (lt-ltb i (z .B) (h .1))) (lt-ltb k 3 (h .2))
+there-is z (drain k) h = lt-ltb k 2 h
+there-is z (pair i k) h = and-true (lt-ltb i mostDrained (h .0)) (lt-ltb k 2 (h .1))
 
 pub there-has : (z : Sizes) (c : Cell) → there z c ≡ true → There z c
 there-has z (content k) e = ltb-true k lastClaimedWord e
@@ -44,6 +48,8 @@ there-has z (entry r i k) e =
     let p = both (ltb r (z .N) && ltb i (z .B)) (ltb k 3) e in
     let q = both (ltb r (z .N)) (ltb i (z .B)) (p .0) in
     (ltb-true r (z .N) (q .0), ltb-true i (z .B) (q .1), ltb-true k 3 (p .1))
+there-has z (drain k) e = ltb-true k 2 e
+there-has z (pair i k) e = let p = both (ltb i mostDrained) (ltb k 2) e in (ltb-true i mostDrained (p .0), ltb-true k 2 (p .1))
 
 -- A store of these sizes has the area.
 abbrev pub AreaThere : Sizes → Area → Type 0
@@ -51,6 +57,7 @@ AreaThere z contents = Unit
 AreaThere z ofConsumer = Unit
 AreaThere z (ofProducer t) = (1 ≤ t) × (t ≤ z .P)
 AreaThere z (ofRecord r) = r < z .N
+AreaThere z ofDrain = Unit
 
 pub area-there : (z : Sizes) (c : Cell) → There z c → AreaThere z (areaOf c)
 area-there z (content k) h = tt
@@ -60,6 +67,8 @@ area-there z (consumer k) h = tt
 area-there z (producer t k) h = (h .0, h .1)
 area-there z (part r k) h = h .0
 area-there z (entry r i k) h = h .0
+area-there z (drain k) h = tt
+area-there z (pair i k) h = tt
 
 -- A cell is in its area, and an area in the store.
 pub address-in : (z : Sizes) (c : Cell) → There z c
@@ -71,12 +80,15 @@ address-in z (consumer k) h = omega arith
 address-in z (producer t k) h = omega arith
 address-in z (part r k) h = omega arith
 address-in z (entry r i k) h = omega arith
+address-in z (drain k) h = omega arith
+address-in z (pair i k) h = omega arith
 
 pub area-below : (z : Sizes) (a : Area) → AreaThere z a → areaStart z a + areaWords z a ≤ storeWords z
 area-below z contents h = omega arith
 area-below z ofConsumer h = omega arith
 area-below z (ofProducer t) h = omega arith
 area-below z (ofRecord r) h = omega (arith, mul-le-mul-right (recordWords z) h)
+area-below z ofDrain h = omega arith
 
 pub address-below : (z : Sizes) (c : Cell) → There z c → address z c < storeWords z
 address-below z c h = omega (arith, address-in z c h, area-below z (areaOf c) (area-there z c h))
@@ -84,6 +96,9 @@ address-below z c h = omega (arith, address-in z c h, area-below z (areaOf c) (a
 -- The cell at an address: the areas follow one another.
 unfoldable pub inRecord : (r offset : ℕ) → Cell
 inRecord r o = cond (ltb o 4) (part r o) (entry r ((o - 4) / 3) ((o - 4) % 3))
+
+unfoldable pub inDrain : (offset : ℕ) → Cell
+inDrain o = cond (ltb o 2) (drain o) (pair ((o - 2) / 2) ((o - 2) % 2))
 
 unfoldable pub inContents : (offset : ℕ) → Cell
 inContents o = cond (ltb o lastClaimedWord) (content o) (cond (ltb o firstSpare) lastClaimed (spare (o - firstSpare)))
@@ -93,7 +108,8 @@ cellAt z n =
     cond (ltb n contentWords) (inContents n)
     (cond (ltb n (contentWords + threadWords)) (consumer (n - contentWords))
     (cond (ltb n (firstRecord z)) (producer ((n - contentWords) / threadWords) ((n - contentWords) % threadWords))
-    (inRecord ((n - firstRecord z) / recordWords z) ((n - firstRecord z) % recordWords z))))
+    (cond (ltb n (firstDrain z)) (inRecord ((n - firstRecord z) / recordWords z) ((n - firstRecord z) % recordWords z))
+    (inDrain (n - firstDrain z)))))
 
 module _ (z : Sizes) where
   -- the cell k words into an area
@@ -115,17 +131,24 @@ module _ (z : Sizes) where
       rw (le-ltb n contentWords (omega arith), le-ltb n (contentWords + threadWords) (omega arith), lt-ltb n (firstRecord z) (omega arith))
       (ap₂ producer (ap (λ (x : ℕ). x / threadWords) e ∙ digits-div t h) (ap (λ (x : ℕ). x % threadWords) e ∙ digits-mod t h))
 
-  at-record : (r o : ℕ) → o < recordWords z → cellAt z (firstRecord z + r * recordWords z + o) ≡ inRecord r o
+  at-record : (r o : ℕ) → r < z .N → o < recordWords z → cellAt z (firstRecord z + r * recordWords z + o) ≡ inRecord r o
   unfolding cellAt
-  at-record r o h =
+  at-record r o fits h =
       let n : ℕ = firstRecord z + r * recordWords z + o in
       let e : n - firstRecord z ≡ r * recordWords z + o = omega arith in
-      rw (le-ltb n contentWords (omega arith), le-ltb n (contentWords + threadWords) (omega arith), le-ltb n (firstRecord z) (omega arith))
+      rw (le-ltb n contentWords (omega arith), le-ltb n (contentWords + threadWords) (omega arith), le-ltb n (firstRecord z) (omega arith), lt-ltb n (firstDrain z) (omega (arith, mul-le-mul-right (recordWords z) fits)))
       (ap₂ inRecord (ap (λ (x : ℕ). x / recordWords z) e ∙ digits-div r h) (ap (λ (x : ℕ). x % recordWords z) e ∙ digits-mod r h))
+
+  at-drain : (o : ℕ) → cellAt z (firstDrain z + o) ≡ inDrain o
+  unfolding cellAt
+  at-drain o =
+      let n : ℕ = firstDrain z + o in
+      rw (le-ltb n contentWords (omega arith), le-ltb n (contentWords + threadWords) (omega arith), le-ltb n (firstRecord z) (omega arith), le-ltb n (firstDrain z) (omega arith))
+      (ap inDrain (omega arith))
 
   -- Every cell that is there is the cell at its address.
   cell-at : (c : Cell) → There z c → cellAt z (address z c) ≡ c
-  unfolding inRecord inContents
+  unfolding inRecord inContents inDrain
   cell-at (content k) h = at-contents k (omega arith) ∙ rw (lt-ltb k lastClaimedWord h) refl
   cell-at lastClaimed h = at-contents lastClaimedWord (omega arith)
   cell-at (spare k) h =
@@ -134,12 +157,18 @@ module _ (z : Sizes) where
       (ap spare (omega arith))
   cell-at (consumer k) h = at-consumer k h
   cell-at (producer t k) h = at-producer t k (h .0) (h .1) (h .2)
-  cell-at (part r k) h = at-record r k (omega arith) ∙ rw (lt-ltb k 4 (h .1)) refl
+  cell-at (part r k) h = at-record r k (h .0) (omega arith) ∙ rw (lt-ltb k 4 (h .1)) refl
   cell-at (entry r i k) h =
       let e : 4 + 3 * i + k - 4 ≡ i * 3 + k = omega arith in
-      at-record r (4 + 3 * i + k) (omega arith)
+      at-record r (4 + 3 * i + k) (h .0) (omega arith)
       ∙ rw (le-ltb (4 + 3 * i + k) 4 (omega arith))
       (ap₂ (entry r) (ap (λ (x : ℕ). x / 3) e ∙ digits-div i (h .2)) (ap (λ (x : ℕ). x % 3) e ∙ digits-mod i (h .2)))
+  cell-at (drain k) h = at-drain k ∙ rw (lt-ltb k 2 h) refl
+  cell-at (pair i k) h =
+      let e : 2 + 2 * i + k - 2 ≡ i * 2 + k = omega arith in
+      at-drain (2 + 2 * i + k)
+      ∙ rw (le-ltb (2 + 2 * i + k) 2 (omega arith))
+      (ap₂ pair (ap (λ (x : ℕ). x / 2) e ∙ digits-div i (h .1)) (ap (λ (x : ℕ). x % 2) e ∙ digits-mod i (h .1)))
 
   -- Address injectivity: two cells at one address are the same.
   pub address-apart : (c d : Cell) → There z c → There z d → address z c ≡ address z d → c ≡ d
@@ -149,6 +178,10 @@ module _ (z : Sizes) where
   in-record-area r o true = refl
   in-record-area r o false = refl
 
+  in-drain-area : (o : ℕ) (b : Bool) → areaOf (cond b (drain o) (pair ((o - 2) / 2) ((o - 2) % 2))) ≡ ofDrain
+  in-drain-area o true = refl
+  in-drain-area o false = refl
+
   in-contents-area : (o : ℕ) (b c : Bool) → areaOf (cond b (content o) (cond c lastClaimed (spare (o - firstSpare)))) ≡ contents
   in-contents-area o true c = refl
   in-contents-area o false true = refl
@@ -156,14 +189,15 @@ module _ (z : Sizes) where
 
   -- Every address in an area is that of one of its cells.
   area-at : (a : Area) → AreaThere z a → (o : ℕ) → o < areaWords z a → areaOf (cellAt z (areaStart z a + o)) ≡ a
-  unfolding inRecord inContents
+  unfolding inRecord inContents inDrain
   area-at contents h o l =
       ap (λ (x : ℕ). areaOf (cellAt z x)) (omega arith)
       ∙ ap areaOf (at-contents o l)
       ∙ in-contents-area o (ltb o lastClaimedWord) (ltb o firstSpare)
   area-at ofConsumer h o l = ap areaOf (at-consumer o l)
   area-at (ofProducer t) h o l = ap areaOf (at-producer t o (h .0) (h .1) l)
-  area-at (ofRecord r) h o l = ap areaOf (at-record r o l) ∙ in-record-area r o (ltb o 4)
+  area-at (ofRecord r) h o l = ap areaOf (at-record r o h l) ∙ in-record-area r o (ltb o 4)
+  area-at ofDrain h o l = ap areaOf (at-drain o) ∙ in-drain-area o (ltb o 2)
 
   -- A cell whose address is in an area belongs to it.
   pub in-area : (a : Area) (c : Cell) → AreaThere z a → There z c → areaStart z a ≤ address z c → address z c < areaStart z a + areaWords z a → a ≡ areaOf c

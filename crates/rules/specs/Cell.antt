@@ -5,10 +5,11 @@ use Prim.Native.Nat.{ℕ, _+_, _*_}
 use lib.Dec.{leb, ltb, eqb}
 use lib.ListN.{getD, set, replicate}
 use lib.Seq.{sets}
-use Rattle.rules.specs.Sizes.{Sizes, contentWords, lastClaimedWord, firstSpare, threadWords, recordWords, firstRecord}
+use Rattle.rules.specs.Sizes.{Sizes, contentWords, lastClaimedWord, firstSpare, threadWords, recordWords, firstRecord, mostDrained, drainWords, firstDrain}
 
 -- A cell is a word with a name: a word of the contents (0 to 10), the record claimed last (word 11), a spare word (12 to 15), a word
--- of the consumer (thread 0), of a producer (threads 1 to P), of a record before its entries, of an entry.
+-- of the consumer (thread 0), of a producer (threads 1 to P), of a record before its entries, of an entry, of the drain area before its
+-- pairs, of a pair.
 pub data Cell : Type 0 where
   content : (k : ℕ) → Cell
   lastClaimed : Cell
@@ -17,6 +18,8 @@ pub data Cell : Type 0 where
   producer : (t k : ℕ) → Cell
   part : (r k : ℕ) → Cell
   entry : (r i k : ℕ) → Cell
+  drain : (k : ℕ) → Cell
+  pair : (i k : ℕ) → Cell
 
 -- Words 6 to 10: tail (positions taken), tail record, head record, head position, enqueue starts.
 abbrev pub tail : Cell
@@ -79,6 +82,10 @@ itemNumber = consumer 5
 abbrev pub itemValue : Cell
 itemValue = consumer 6
 
+-- In phases 6 to 8 the cursor is not in use, and its position's word says whether a drain came there through the scan (document 02, U5).
+abbrev pub scanned : Cell
+scanned = consumer 2
+
 -- Thread t's phase, and the accepted steps of the call that it has under way (document 02, U3).
 abbrev pub threadPhase : (t : ℕ) → Cell
 threadPhase t = cond (eqb t 0) consumerPhase (phase t)
@@ -109,6 +116,19 @@ entryNumber r i = entry r i 1
 abbrev pub entryValue : ℕ → ℕ → Cell
 entryValue r i = entry r i 2
 
+-- The drain area: the limit, 0 where no drain is under way; how many items it has marked; each of them, call number and value.
+abbrev pub drainLimit : Cell
+drainLimit = drain 0
+
+abbrev pub drainCount : Cell
+drainCount = drain 1
+
+abbrev pub pairNumber : ℕ → Cell
+pairNumber i = pair i 0
+
+abbrev pub pairValue : ℕ → Cell
+pairValue i = pair i 1
+
 -- Where a cell is.
 abbrev pub address : Sizes → Cell → ℕ
 address z (content k) = k
@@ -118,6 +138,8 @@ address z (consumer k) = contentWords + k
 address z (producer t k) = contentWords + threadWords * t + k
 address z (part r k) = firstRecord z + r * recordWords z + k
 address z (entry r i k) = firstRecord z + r * recordWords z + (4 + 3 * i + k)
+address z (drain k) = firstDrain z + k
+address z (pair i k) = firstDrain z + (2 + 2 * i + k)
 
 -- Whether a store of these sizes has the cell.
 abbrev pub there : Sizes → Cell → Bool
@@ -128,6 +150,8 @@ there z (consumer k) = ltb k threadWords
 there z (producer t k) = leb 1 t && leb t (z .P) && ltb k threadWords
 there z (part r k) = ltb r (z .N) && ltb k 4
 there z (entry r i k) = ltb r (z .N) && ltb i (z .B) && ltb k 3
+there z (drain k) = ltb k 2
+there z (pair i k) = ltb i mostDrained && ltb k 2
 
 -- A reader says what each cell holds.
 abbrev pub Reader : Type 0
@@ -137,12 +161,13 @@ Reader = Cell → ℕ
 unfoldable pub reader : Sizes → List ℕ → Reader
 reader z m c = cond (there z c) (getD m (address z c) 0) 0
 
--- The words that belong together: the contents (words 0 to 15), the consumer's, a producer's, a record's.
+-- The words that belong together: the contents (words 0 to 15), the consumer's, a producer's, a record's, the drain area's.
 pub data Area : Type 0 where
   contents : Area
   ofConsumer : Area
   ofProducer : (t : ℕ) → Area
   ofRecord : (r : ℕ) → Area
+  ofDrain : Area
 
 -- its first word, and how many it has
 abbrev pub areaStart : Sizes → Area → ℕ
@@ -150,12 +175,14 @@ areaStart z contents = 0
 areaStart z ofConsumer = contentWords
 areaStart z (ofProducer t) = contentWords + threadWords * t
 areaStart z (ofRecord r) = firstRecord z + r * recordWords z
+areaStart z ofDrain = firstDrain z
 
 abbrev pub areaWords : Sizes → Area → ℕ
 areaWords z contents = contentWords
 areaWords z ofConsumer = threadWords
 areaWords z (ofProducer t) = threadWords
 areaWords z (ofRecord r) = recordWords z
+areaWords z ofDrain = drainWords
 
 -- A write: a value into a cell, or zero into every word of an area.
 infix 68 _:=_
@@ -163,7 +190,7 @@ pub data Write : Type 0 where
   _:=_ : Cell → ℕ → Write
   clear : Area → Write
 
--- Zero into the eight words of a thread, zero into every word of a record.
+-- Zero into the eight words of a thread, into every word of a record, into every word of the drain area.
 abbrev pub clearConsumer : Write
 clearConsumer = clear ofConsumer
 
@@ -172,6 +199,9 @@ clearProducer t = clear (ofProducer t)
 
 abbrev pub wipe : ℕ → Write
 wipe r = clear (ofRecord r)
+
+abbrev pub clearDrain : Write
+clearDrain = clear ofDrain
 
 -- A write, and a list of them in order, on the lent words.
 abbrev pub write : Sizes → List ℕ → Write → List ℕ

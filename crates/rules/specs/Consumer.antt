@@ -1,12 +1,14 @@
--- The consumer's phases 1 to 8 (document 01, "Calls"; document 02, U2). Each rule stands under the sentence that it renders.
-use mathlib.Core.Bool.{Bool, _&&_, not, cond}
+-- The consumer's phases 1 to 8 (document 01, "Calls"; document 02, U2 and U5). Each rule stands under the sentence that it renders.
+-- A drain runs the phases of a dequeue.
+use mathlib.Core.Bool.{Bool, _&&_, _||_, not, cond}
 use mathlib.Core.List.{List, [], _∷_, _++_}
 use Prim.Native.Nat.{ℕ, zero, suc, _+_}
 use lib.Dec.{eqb}
 use lib.ListN.{getD}
+use Rattle.history.specs.Linearization.{Item}
 use Rattle.rules.specs.Sizes.{Sizes}
-use Rattle.rules.specs.Cell.{Reader, Write, _:=_, clearConsumer, tail, tailRecord, headRecord, headPosition, consumerPhase, cursorRecord, cursorPosition, foundRecord, foundPosition, itemNumber, itemValue, used, state, entryNumber, entryValue}
-use Rattle.rules.specs.Rule.{Effect, refuse, reply, empty, item, goes, need, upTo, atEnd, inside, cross}
+use Rattle.rules.specs.Cell.{Reader, Write, _:=_, clearConsumer, clearDrain, tail, tailRecord, headRecord, headPosition, consumerPhase, cursorRecord, cursorPosition, foundRecord, foundPosition, itemNumber, itemValue, scanned, drainLimit, drainCount, pairNumber, pairValue, used, state, entryNumber, entryValue}
+use Rattle.rules.specs.Rule.{Effect, refuse, reply, empty, item, drained, goes, need, upTo, atEnd, inside, cross}
 
 -- an entry's state by cases: empty, set, handled
 abbrev pub byState : ℕ → Effect → Effect → Effect → Effect
@@ -14,18 +16,51 @@ byState zero blank set handled = blank
 byState (suc zero) blank set handled = set
 byState (suc (suc s)) blank set handled = handled
 
--- The dequeue ends and answers empty.
-abbrev pub endsEmpty : Effect
-endsEmpty = reply empty (clearConsumer ∷ [])
+-- The items that a drain has marked: its first n pairs, in order.
+abbrev pub pairAt : Reader → ℕ → Item
+pairAt σ i = record { number = σ (pairNumber i); value = σ (pairValue i) }
+
+abbrev pub itemsMarked : Reader → (n : ℕ) → List Item
+itemsMarked σ zero = []
+itemsMarked σ (suc n) = itemsMarked σ n ++ (pairAt σ n ∷ [])
 
 module _ (z : Sizes) (σ : Reader) where
+  -- By the call that is under way: a drain has a limit, a dequeue none.
+  abbrev pub byCall : (dequeue drain : Effect) → Effect
+  byCall dequeue drain = cond (eqb (σ drainLimit) 0) dequeue drain
+
+  -- The dequeue ends and answers empty. A drain ends with the items that it has marked, 0 for none; what it used is zero.
+  abbrev pub endsEmpty : Effect
+  endsEmpty =
+      byCall (reply empty (clearConsumer ∷ []))
+      (reply (drained (itemsMarked σ (σ drainCount))) (clearConsumer ∷ clearDrain ∷ []))
+
+  -- A dequeue replies its item. Its writes come after these.
+  abbrev pub repliesItem : List Write → Effect
+  repliesItem ws = reply (item (σ itemNumber) (σ itemValue)) (ws ++ (clearConsumer ∷ []))
+
+  -- Where a dequeue replies its item, a drain that has marked n items goes back to phase 1, replying going, or ends if the limit is reached,
+  -- or if its first front was not set: then it acts as one dequeue and ends with it.
+  abbrev pub goesOn : (n : ℕ) → List Item → List Write → Effect
+  goesOn n items ws =
+      cond (eqb n (σ drainLimit) || eqb (σ scanned) 1)
+      (reply (drained items) (ws ++ (clearConsumer ∷ clearDrain ∷ [])))
+      (goes
+      (ws
+      ++ (foundRecord := 0
+      ∷ foundPosition := 0
+      ∷ itemNumber := 0
+      ∷ itemValue := 0
+      ∷ consumerPhase := 1
+      ∷ [])))
+
   -- The move past the end of the head record h: next becomes head record, head position its first, the old one is retired.
   abbrev pub moveHead : (h : ℕ) → (List Write → Effect) → Effect
   moveHead h f = cross z σ h λ n p. f (headRecord := suc n ∷ headPosition := p ∷ used h := 3 ∷ [])
 
   -- 1. Front. At the end of the head record: empty if it is also the tail record; otherwise next becomes head record, head
   -- position its first, the old one is retired; stay. Else read the entry: handled advances the head; set goes to 6 with found
-  -- the head; empty goes to 2.
+  -- the head; empty goes to 2. A drain that has marked an item ends there: it goes on while the front entry is set.
   unfoldable pub front : Effect
   front =
       need (σ headRecord)
@@ -33,7 +68,7 @@ module _ (z : Sizes) (σ : Reader) where
       (cond (eqb (σ tailRecord) (suc h)) endsEmpty (moveHead h goes))
       (inside z σ h (σ headPosition)
       λ i. byState (σ (state h i))
-      (goes (consumerPhase := 2 ∷ []))
+      (cond (eqb (σ drainCount) 0) (goes (consumerPhase := 2 ∷ [])) endsEmpty)
       (goes (foundRecord := suc h ∷ foundPosition := σ headPosition ∷ consumerPhase := 6 ∷ []))
       (upTo (z .M) (suc (σ headPosition)) (goes (headPosition := suc (σ headPosition) ∷ []))))
 
@@ -70,10 +105,13 @@ module _ (z : Sizes) (σ : Reader) where
       (upTo (z .M) (suc (σ cursorPosition)) (goes (cursorPosition := suc (σ cursorPosition) ∷ consumerPhase := 3 ∷ [])))
 
   -- When the cursor's position then equals that of found, the same step goes to 6; otherwise stay. (What moved is written
-  -- first; in 6 the cursor is not in use.)
+  -- first; in 6 the cursor is not in use, and a drain notes that it came through the scan.)
+  abbrev pub throughScan : ℕ
+  throughScan = cond (eqb (σ drainLimit) 0) 0 1
+
   abbrev pub rescanned : (cursor found : ℕ) → List Write → List Write → Effect
   rescanned cursor found stays moved =
-      cond (eqb cursor found) (goes (moved ++ (cursorRecord := 0 ∷ cursorPosition := 0 ∷ consumerPhase := 6 ∷ []))) (goes (moved ++ stays))
+      cond (eqb cursor found) (goes (moved ++ (cursorRecord := 0 ∷ scanned := throughScan ∷ consumerPhase := 6 ∷ []))) (goes (moved ++ stays))
 
   -- 5. Rescan from the head, head included, to the position before found, that one included. One step either crosses, when the
   -- cursor stands at a record's end, or reads one entry. A set entry becomes found and the cursor returns to the head; any
@@ -102,11 +140,12 @@ module _ (z : Sizes) (σ : Reader) where
   abbrev pub drainedAt : (h p : ℕ) → Bool
   drainedAt h p = atEnd z σ h p && not (eqb (σ tailRecord) (suc h))
 
-  -- Found, entry i of record r, is the head position. If its advance brings the head to the head record's end and the head record is not
-  -- the tail record, to 8; otherwise reply item.
-  abbrev pub markFront : (r i : ℕ) → Effect
-  markFront r i =
-      upTo (z .M) (suc (σ headPosition))
+  -- Mark handled entry i of record r, which is found; if found is the head position, it advances. If that brings the head to the head record's
+  -- end and the head record is not the tail record, to 8; otherwise what follows gets these writes. The item is kept by these.
+  abbrev pub marks : (r i : ℕ) (kept : List Write) → (List Write → Effect) → Effect
+  marks r i kept f =
+      cond (eqb (σ foundPosition) (σ headPosition))
+      (upTo (z .M) (suc (σ headPosition))
       (need (σ headRecord)
       λ h. cond (drainedAt h (suc (σ headPosition)))
       (goes
@@ -115,22 +154,33 @@ module _ (z : Sizes) (σ : Reader) where
       ∷ foundRecord := 0
       ∷ foundPosition := 0
       ∷ consumerPhase := 8
-      ∷ []))
-      (reply (item (σ itemNumber) (σ itemValue)) (state r i := 2 ∷ headPosition := suc (σ headPosition) ∷ clearConsumer ∷ [])))
+      ∷ kept))
+      (f (state r i := 2 ∷ headPosition := suc (σ headPosition) ∷ kept))))
+      (f (state r i := 2 ∷ kept))
 
-  -- 7. Mark handled; if found is the head position, it advances. Reply item, or to 8.
+  -- A drain keeps the item from its mark: the next pair, and the count one more.
+  abbrev pub keepItem : List Write
+  keepItem =
+      pairNumber (σ drainCount) := σ itemNumber
+      ∷ pairValue (σ drainCount) := σ itemValue
+      ∷ drainCount := suc (σ drainCount)
+      ∷ []
+
+  -- 7. Mark handled; if found is the head position, it advances. Reply item, or to 8. Refusal 9 of a drain: the count would pass the limit.
   unfoldable pub markHandled : Effect
   markHandled =
       need (σ foundRecord)
       λ r. inside z σ r (σ foundPosition)
-      λ i. cond (eqb (σ foundPosition) (σ headPosition)) (markFront r i)
-      (reply (item (σ itemNumber) (σ itemValue)) (state r i := 2 ∷ clearConsumer ∷ []))
+      λ i. byCall (marks r i [] repliesItem)
+      (upTo (σ drainLimit) (suc (σ drainCount))
+      (marks r i keepItem
+      (goesOn (suc (σ drainCount)) (itemsMarked σ (σ drainCount) ++ (record { number = σ itemNumber; value = σ itemValue } ∷ [])))))
 
   -- 8. The move and retirement of phase 1. Reply item.
   unfoldable pub retireHead : Effect
   retireHead =
       need (σ headRecord)
-      λ h. moveHead h λ moved. reply (item (σ itemNumber) (σ itemValue)) (moved ++ (clearConsumer ∷ []))
+      λ h. moveHead h λ moved. byCall (repliesItem moved) (goesOn (σ drainCount) (itemsMarked σ (σ drainCount)) moved)
 
 -- The consumer's rule in each phase; refusal 7 while it is idle.
 abbrev pub consumerRules : List (Sizes → Reader → Effect)

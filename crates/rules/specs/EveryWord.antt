@@ -9,9 +9,9 @@ use lib.Dec.{ltb}
 use lib.ListN.{length, getD, take, length-take}
 use lib.Seq.{ext-getD, getD-take}
 use borrow.Author.Tests.{ltb-true, ltb-false}
-use Rattle.rules.specs.Sizes.{Sizes, contentWords, lastClaimedWord, firstSpare, threadWords, recordWords, firstRecord, storeWords}
-use Rattle.rules.specs.Cell.{Cell, content, lastClaimed, spare, consumer, producer, part, entry, address, Reader, reader}
-use Rattle.rules.specs.Address.{There, there-is, inContents, inRecord, cellAt}
+use Rattle.rules.specs.Sizes.{Sizes, contentWords, lastClaimedWord, firstSpare, threadWords, recordWords, firstRecord, firstDrain, storeWords}
+use Rattle.rules.specs.Cell.{Cell, content, lastClaimed, spare, consumer, producer, part, entry, drain, pair, address, Reader, reader}
+use Rattle.rules.specs.Address.{There, there-is, inContents, inRecord, inDrain, cellAt}
 
 -- The cell is there, at word n.
 pub record Names (z : Sizes) (n : ℕ) (c : Cell) : Type 0 where
@@ -42,7 +42,20 @@ module _ (z : Sizes) where
           let k : (o - 4) % 3 < 3 = mod-lt (o - 4) (omega arith) in
           record { there = (hr, omega arith, k); at = omega arith }
 
-  behind-named : (n : ℕ) → firstRecord z ≤ n → n < storeWords z
+  -- a word of the drain area
+  drain-named : (n o : ℕ) → firstDrain z + o ≡ n → n < storeWords z → Names z n (inDrain o)
+  unfolding inDrain
+  drain-named n o e h = go (ltb o 2) refl
+    where
+      go : (b : Bool) → ltb o 2 ≡ b → Names z n (cond b (drain o) (pair ((o - 2) / 2) ((o - 2) % 2)))
+      go true f = record { there = ltb-true o 2 f; at = e }
+      go false f =
+          let l = ltb-false o 2 f in
+          let d : (o - 2) / 2 * 2 + (o - 2) % 2 ≡ o - 2 = div-add-mod' (o - 2) 2 in
+          let k : (o - 2) % 2 < 2 = mod-lt (o - 2) (omega arith) in
+          record { there = (omega arith, k); at = omega arith }
+
+  behind-named : (n : ℕ) → firstRecord z ≤ n → n < firstDrain z
       → Names z n (inRecord ((n - firstRecord z) / recordWords z) ((n - firstRecord z) % recordWords z))
   behind-named n l h =
       let o : ℕ = n - firstRecord z in
@@ -53,26 +66,27 @@ module _ (z : Sizes) where
 
   pub every-word : (n : ℕ) → n < storeWords z → Names z n (cellAt z n)
   unfolding cellAt
-  every-word n h = go (ltb n contentWords) refl (ltb n (contentWords + threadWords)) refl (ltb n (firstRecord z)) refl
+  every-word n h = go (ltb n contentWords) refl (ltb n (contentWords + threadWords)) refl (ltb n (firstRecord z)) refl (ltb n (firstDrain z)) refl
     where
       go : (b : Bool) → ltb n contentWords ≡ b → (c : Bool) → ltb n (contentWords + threadWords) ≡ c → (d : Bool) → ltb n (firstRecord z) ≡ d
-          → Names z n
+          → (a : Bool) → ltb n (firstDrain z) ≡ a → Names z n
           (cond b (inContents n)
           (cond c (consumer (n - contentWords))
           (cond d (producer ((n - contentWords) / threadWords) ((n - contentWords) % threadWords))
-          (inRecord ((n - firstRecord z) / recordWords z) ((n - firstRecord z) % recordWords z)))))
-      go true e c f d g = contents-named n (ltb-true n contentWords e)
-      go false e true f d g =
+          (cond a (inRecord ((n - firstRecord z) / recordWords z) ((n - firstRecord z) % recordWords z)) (inDrain (n - firstDrain z))))))
+      go true e c f d g a i = contents-named n (ltb-true n contentWords e)
+      go false e true f d g a i =
           let a = ltb-false n contentWords e in
           let b = ltb-true n (contentWords + threadWords) f in
           record { there = omega arith; at = omega arith }
-      go false e false f true g =
+      go false e false f true g a i =
           let a = ltb-false n (contentWords + threadWords) f in
           let b = ltb-true n (firstRecord z) g in
           let d : (n - contentWords) / threadWords * threadWords + (n - contentWords) % threadWords ≡ n - contentWords = div-add-mod' (n - contentWords) threadWords in
           let k : (n - contentWords) % threadWords < threadWords = mod-lt (n - contentWords) (omega arith) in
           record { there = (omega arith, omega arith, k); at = omega arith }
-      go false e false f false g = behind-named n (ltb-false n (firstRecord z) g) h
+      go false e false f false g true i = behind-named n (ltb-false n (firstRecord z) g) (ltb-true n (firstDrain z) i)
+      go false e false f false g false i = drain-named n (n - firstDrain z) (omega (arith, ltb-false n (firstDrain z) i)) h
 
 -- The store's words are those of its cells.
 pub same-cells-same-words : (z : Sizes) (m n : List ℕ) → storeWords z ≤ length m → storeWords z ≤ length n → reader z m ≡ reader z n

@@ -10,8 +10,8 @@ use lib.ListN.{length, getD}
 use borrow.Author.Tests.{le-leb}
 use Rattle.history.specs.Lists.{All}
 use Rattle.rules.specs.Sizes.{Sizes}
-use Rattle.rules.specs.Cell.{Cell, content, lastClaimed, spare, consumer, producer, part, entry, Reader, Area, contents, ofConsumer, ofProducer, ofRecord, Write, _:=_, clear}
-use Rattle.rules.specs.Range.{Sort, any, ofSort, contentSorts, lastClaimedSort, spareSorts, partSorts, entrySorts, consumerSorts, producerSorts, lastConsumerPhase, lastProducerPhase, ofSorts, every, threadInRange, consumerInRange, producerInRange, recordInRange, inRange}
+use Rattle.rules.specs.Cell.{Cell, content, lastClaimed, spare, consumer, producer, part, entry, drain, pair, Reader, Area, contents, ofConsumer, ofProducer, ofRecord, ofDrain, Write, _:=_, clear}
+use Rattle.rules.specs.Range.{Sort, any, ofSort, contentSorts, lastClaimedSort, spareSorts, partSorts, entrySorts, consumerSorts, producerSorts, lastConsumerPhase, lastProducerPhase, ofSorts, every, threadInRange, consumerInRange, producerInRange, recordInRange, areaInRange, drainInRange, inRange}
 use Rattle.rules.specs.Update.{areaOf, touches, valueLeft, update, after, areaTouched, same-eq, same-area-eq, other-area, both, and-true}
 use Rattle.rules.specs.Address.{There}
 
@@ -54,7 +54,7 @@ pub row-of : (z : Sizes) (row : ℕ → ℕ) (ss : List Sort) → ((j : ℕ) →
 row-of z row ss h =
     sorts-of z row 0 ss (λ j i l q. subst (λ (n : ℕ). ofSort z (getD ss j any) (row n) ≡ true) (sym (zero-add j) ∙ q) (h j l))
 
--- The sort of a word outside the threads; a thread's words go by its phase.
+-- The sort of a word outside the threads and the drain area; a thread's words go by its phase, the drain area's by the count.
 abbrev pub sortOf : Sizes → Cell → Sort
 sortOf z (content k) = getD (contentSorts z) k any
 sortOf z lastClaimed = lastClaimedSort
@@ -63,12 +63,15 @@ sortOf z (consumer k) = any
 sortOf z (producer t k) = any
 sortOf z (part r k) = getD partSorts k any
 sortOf z (entry r i k) = getD entrySorts k any
+sortOf z (drain k) = any
+sortOf z (pair i k) = any
 
 -- Every word is in its range.
 pub record InRange (z : Sizes) (σ : Reader) : Type 0 where
   pub words : (c : Cell) → There z c → ofSort z (sortOf z c) (σ c) ≡ true
   pub consuming : consumerInRange z σ ≡ true
   pub producing : (t : ℕ) → 1 ≤ t → t ≤ z .P → producerInRange z σ t ≡ true
+  pub draining : drainInRange z σ ≡ true
 
 module _ (z : Sizes) (σ : Reader) where
   -- the parts of the test
@@ -98,12 +101,13 @@ module _ (z : Sizes) (σ : Reader) where
   pub range-has : inRange z σ ≡ true → InRange z σ
   unfolding inRange contentsTest lastTest spareTest partsTest entryTest producersTest
   range-has e =
-      let p = both (contentsTest && (lastTest && spareTest) && consumerInRange z σ && producersTest) (every (z .N) (recordInRange z σ)) e in
+      let a = both (contentsTest && (lastTest && spareTest) && consumerInRange z σ && producersTest && every (z .N) (recordInRange z σ)) (drainInRange z σ) e in
+      let p = both (contentsTest && (lastTest && spareTest) && consumerInRange z σ && producersTest) (every (z .N) (recordInRange z σ)) (a .0) in
       let q = both (contentsTest && (lastTest && spareTest) && consumerInRange z σ) producersTest (p .0) in
       let c = both (contentsTest && (lastTest && spareTest)) (consumerInRange z σ) (q .0) in
       let d = both contentsTest (lastTest && spareTest) (c .0) in
       let l = both lastTest spareTest (d .1) in
-      record { words = words (d .0) (l .0) (l .1) (every-at (z .N) (recordInRange z σ) (p .1)); consuming = c .1; producing = one-producer (q .1) }
+      record { words = words (d .0) (l .0) (l .1) (every-at (z .N) (recordInRange z σ) (p .1)); consuming = c .1; producing = one-producer (q .1); draining = a .1 }
     where
       words : contentsTest ≡ true → lastTest ≡ true → spareTest ≡ true → ((r : ℕ) → r < z .N → recordInRange z σ r ≡ true)
           → (c : Cell) → There z c → ofSort z (sortOf z c) (σ c) ≡ true
@@ -112,6 +116,8 @@ module _ (z : Sizes) (σ : Reader) where
       words q l s p (spare k) h = row-at z (λ j. σ (spare j)) spareSorts s k (omega arith)
       words q l s p (consumer k) h = refl
       words q l s p (producer t k) h = refl
+      words q l s p (drain k) h = refl
+      words q l s p (pair i k) h = refl
       words q l s p (part r k) h =
           row-at z (λ j. σ (part r j)) partSorts (both (partsTest r) (every (z .B) (entryTest r)) (p r (h .0)) .0) k (h .1)
       words q l s p (entry r i k) h =
@@ -124,6 +130,7 @@ module _ (z : Sizes) (σ : Reader) where
       and-true
       (and-true
       (and-true
+      (and-true
       (and-true (row-of z (λ k. σ (content k)) (contentSorts z) (λ k h. i .words (content k) h))
       (and-true (i .words lastClaimed tt) (row-of z (λ k. σ (spare k)) spareSorts (λ k h. i .words (spare k) (omega arith)))))
       (i .consuming))
@@ -131,9 +138,18 @@ module _ (z : Sizes) (σ : Reader) where
       (every-of (z .N) (recordInRange z σ)
       (λ r h.
       and-true (row-of z (λ k. σ (part r k)) partSorts (λ k g. i .words (part r k) (h, g)))
-      (every-of (z .B) (entryTest r) (λ e l. row-of z (λ k. σ (entry r e k)) entrySorts (λ k g. i .words (entry r e k) (h, l, g))))))
+      (every-of (z .B) (entryTest r) (λ e l. row-of z (λ k. σ (entry r e k)) entrySorts (λ k g. i .words (entry r e k) (h, l, g)))))))
+      (i .draining)
 
--- A write in range of a call of thread t: that thread's words, which go by its phase, and any other word within its sort.
+-- The drain area's range goes by its words and the consumer's phase.
+pub same-drain : (z : Sizes) (τ σ : Reader) → τ (consumer 0) ≡ σ (consumer 0) → ((k : ℕ) → τ (drain k) ≡ σ (drain k)) → ((i k : ℕ) → τ (pair i k) ≡ σ (pair i k))
+    → drainInRange z τ ≡ drainInRange z σ
+same-drain z τ σ phase counts pairs =
+    let same : _≡_ {A = ℕ → ℕ → ℕ} (λ i k. τ (pair i k)) (λ i k. σ (pair i k)) = fun-ext (λ i. fun-ext (λ k. pairs i k)) in
+    λ x. areaInRange z (phase x) (counts 0 x) (counts 1 x) (same x)
+
+-- A write in range of a call of thread t: that thread's words, which go by its phase, the drain area's by the consumer, and any other word within
+-- its sort.
 abbrev pub InSort : Sizes → ℕ → Write → Type 0
 InSort z t (content k := v) = ofSort z (sortOf z (content k)) v ≡ true
 InSort z t (lastClaimed := v) = ofSort z lastClaimedSort v ≡ true
@@ -142,17 +158,21 @@ InSort z t (consumer k := v) = t ≡ 0
 InSort z t (producer u k := v) = t ≡ u
 InSort z t (part r k := v) = ofSort z (sortOf z (part r k)) v ≡ true
 InSort z t (entry r i k := v) = ofSort z (sortOf z (entry r i k)) v ≡ true
+InSort z t (drain k := v) = t ≡ 0
+InSort z t (pair i k := v) = t ≡ 0
 InSort z t (clear contents) = ⊥
 InSort z t (clear ofConsumer) = t ≡ 0
 InSort z t (clear (ofProducer u)) = t ≡ u
 InSort z t (clear (ofRecord r)) = Unit
+InSort z t (clear ofDrain) = t ≡ 0
 
--- The words of a thread but t.
+-- The words of a thread but t. The drain area is the consumer's.
 abbrev pub OtherThread : ℕ → Area → Type 0
 OtherThread t contents = ⊥
 OtherThread t ofConsumer = t ≡ 0 → ⊥
 OtherThread t (ofProducer u) = t ≡ u → ⊥
 OtherThread t (ofRecord r) = ⊥
+OtherThread t ofDrain = t ≡ 0 → ⊥
 
 -- zero is of every sort that a record's words have
 zero-part : (z : Sizes) (k : ℕ) → ofSort z (getD partSorts k any) 0 ≡ true
@@ -181,6 +201,8 @@ module _ (z : Sizes) (t : ℕ) where
   put-in-sort (producer u k) v h = refl
   put-in-sort (part r k) v h = h
   put-in-sort (entry r i k) v h = h
+  put-in-sort (drain k) v h = refl
+  put-in-sort (pair i k) v h = refl
 
   zero-in-sort : (a : Area) → InSort z t (clear a) → (d : Cell) → a ≡ areaOf d → ofSort z (sortOf z d) 0 ≡ true
   zero-in-sort a h (content k) e = absurd (subst (λ (b : Area). InSort z t (clear b)) e h)
@@ -190,6 +212,8 @@ module _ (z : Sizes) (t : ℕ) where
   zero-in-sort a h (producer u k) e = refl
   zero-in-sort a h (part r k) e = zero-part z k
   zero-in-sort a h (entry r i k) e = zero-entry z k
+  zero-in-sort a h (drain k) e = refl
+  zero-in-sort a h (pair i k) e = refl
 
   written-in-sort : (w : Write) → InSort z t w → (d : Cell) → touches w d ≡ true → ofSort z (sortOf z d) (valueLeft w) ≡ true
   written-in-sort (c := v) h d e = subst (λ (x : Cell). ofSort z (sortOf z x) v ≡ true) (same-eq c d e) (put-in-sort c v h)
@@ -215,10 +239,13 @@ module _ (z : Sizes) (t : ℕ) where
   writes-own (producer u k := v) h o = o h
   writes-own (part r k := v) h o = o
   writes-own (entry r i k := v) h o = o
+  writes-own (drain k := v) h o = o h
+  writes-own (pair i k := v) h o = o h
   writes-own (clear contents) h o = o
   writes-own (clear ofConsumer) h o = o h
   writes-own (clear (ofProducer u)) h o = o h
   writes-own (clear (ofRecord r)) h o = o
+  writes-own (clear ofDrain) h o = o h
 
   pub others-untouched : (σ : Reader) (ws : List Write) → All (InSort z t) ws → (d : Cell) → OtherThread t (areaOf d) → after σ ws d ≡ σ d
   others-untouched σ [] h d o = refl
@@ -228,13 +255,25 @@ module _ (z : Sizes) (t : ℕ) where
 
   -- Writes in range keep the store in range: those of a call of thread t, if its words are then in range for its phase.
   pub writes-keep-range : (σ : Reader) (ws : List Write) → All (InSort z t) ws → InRange z σ
-      → (t ≡ 0 → consumerInRange z (after σ ws) ≡ true) → (1 ≤ t → producerInRange z (after σ ws) t ≡ true) → InRange z (after σ ws)
+      → (t ≡ 0 → (consumerInRange z (after σ ws) ≡ true) × (drainInRange z (after σ ws) ≡ true)) → (1 ≤ t → producerInRange z (after σ ws) t ≡ true) → InRange z (after σ ws)
   writes-keep-range σ ws h i as-consumer as-producer =
-      record { words = writes-in-sort σ ws h (i .words); consuming = of-consumer (ℕ-discrete t 0); producing = λ u l g. of-producer (ℕ-discrete t u) l g }
+      record {
+        words = writes-in-sort σ ws h (i .words);
+        consuming = of-consumer (ℕ-discrete t 0);
+        producing = λ u l g. of-producer (ℕ-discrete t u) l g;
+        draining = of-drain (ℕ-discrete t 0);
+      }
     where
       of-consumer : Dec (t ≡ 0) → consumerInRange z (after σ ws) ≡ true
-      of-consumer (yes e) = as-consumer e
+      of-consumer (yes e) = as-consumer e .0
       of-consumer (no n) = ap (threadInRange z lastConsumerPhase consumerSorts) (fun-ext (λ k. others-untouched σ ws h (consumer k) n)) ∙ i .consuming
+
+      of-drain : Dec (t ≡ 0) → drainInRange z (after σ ws) ≡ true
+      of-drain (yes e) = as-consumer e .1
+      of-drain (no n) =
+          same-drain z (after σ ws) σ (others-untouched σ ws h (consumer 0) n) (λ k. others-untouched σ ws h (drain k) n)
+          (λ j k. others-untouched σ ws h (pair j k) n)
+          ∙ i .draining
 
       of-producer : {u : ℕ} → Dec (t ≡ u) → 1 ≤ u → u ≤ z .P → producerInRange z (after σ ws) u ≡ true
       of-producer {u} (yes e) l g = subst (λ (x : ℕ). producerInRange z (after σ ws) x ≡ true) e (as-producer (omega arith))

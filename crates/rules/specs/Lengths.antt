@@ -1,17 +1,17 @@
 -- How many steps an enqueue makes (document 02, U4), computed: runs in which its producer is stepped more often than it can make steps.
-use mathlib.Core.Path.{_≡_, refl}
+use mathlib.Core.Path.{_≡_}
 use mathlib.Core.List.{List, [], _∷_, _++_, map}
 use Prim.Native.Nat.{ℕ, _+_, _*_}
 use lib.ListN.{replicate}
 use Rattle.rules.specs.Sizes.{Sizes, storeWords}
 use Rattle.rules.specs.Cell.{reader, writes}
-use Rattle.rules.specs.Range.{inRange}
 use Rattle.rules.specs.Free.{free, nextFree}
 use Rattle.rules.specs.Producer.{takePosition, loadTail, lookNext, claimRecord, linkClaimed, shiftTail, goBack, writeEntry, setEntry, claimAhead, linkAhead, producerStep}
 use Rattle.rules.specs.Consumer.{front, readTail, scan, readEntry, rescan, readItem, markHandled, retireHead, consumerStep}
-use Rattle.rules.specs.Request.{Request, startEnqueue, startDequeue, step, applied, opened, startingEnqueue, startingDequeue, phaseStep, counted, stepping, effect, admitted, result}
-use Rattle.rules.specs.Play.{stepsMade}
-use Rattle.rules.specs.Runs.{sized, times}
+use Rattle.rules.specs.Request.{Request, startEnqueue, startDequeue, step, Invocation, applied, opened, startingEnqueue, startingDequeue, startingDrain, phaseStep, counted, stepping, effect}
+use Rattle.rules.specs.Play.{Played, stepsMade}
+use Rattle.rules.specs.Quick.{quickSteps, steps-are}
+use Rattle.rules.specs.Runs.{sized, times, plain, map-same}
 
 -- Calls after an open, and the accepted steps of the enqueue that a producer has under way, if it is then stepped 5 × P + N + 7 times.
 pub record Length : Type 0 where
@@ -20,13 +20,24 @@ pub record Length : Type 0 where
   pub thread : ℕ
   pub made : ℕ
 
+-- the calls, and what stands before them
+abbrev calls : Length → List Invocation
+calls l = let z = l .sizes in map plain (l .requests ++ times (5 * z .P + z .N + 7) (step (l .thread)))
+
+abbrev openedAs : Length → Played
+openedAs l = record { words = opened (l .sizes) (replicate (storeWords (l .sizes)) 0); replies = []; history = [] }
+
 unfoldable pub acceptedSteps : Length → ℕ
-unfolding stepsMade result admitted applied effect startingEnqueue startingDequeue phaseStep counted stepping opened reader writes inRange free nextFree takePosition loadTail lookNext claimRecord linkClaimed shiftTail goBack writeEntry setEntry claimAhead linkAhead producerStep front readTail scan readEntry rescan readItem markHandled retireHead consumerStep
-acceptedSteps l =
-    let z = l .sizes in
-    stepsMade (l .thread) (l .requests ++ times (5 * z .P + z .N + 7) (step (l .thread)))
-    (record { words = opened z (replicate (storeWords z) 0); replies = []; history = [] })
-    0
+acceptedSteps l = stepsMade (l .thread) (calls l) (openedAs l) 0
+
+-- The same, quicker to compute.
+unfoldable quickLength : Length → ℕ
+unfolding applied effect startingEnqueue startingDequeue startingDrain phaseStep counted stepping opened reader writes free nextFree takePosition loadTail lookNext claimRecord linkClaimed shiftTail goBack writeEntry setEntry claimAhead linkAhead producerStep front readTail scan readEntry rescan readItem markHandled retireHead consumerStep
+quickLength l = quickSteps (l .thread) (calls l) (openedAs l) 0
+
+length-is : (l : Length) → acceptedSteps l ≡ quickLength l
+unfolding acceptedSteps quickLength
+length-is l = steps-are (l .thread) (calls l) (openedAs l) 0
 
 -- Producer 1 fills two records of two entries.
 abbrev filled : List Request
@@ -91,5 +102,5 @@ lengths =
     ∷ []
 
 pub lengths-as-written : map acceptedSteps lengths ≡ map (λ l. l .made) lengths
-unfolding acceptedSteps
-lengths-as-written = refl
+unfolding quickLength
+lengths-as-written = map-same acceptedSteps quickLength length-is lengths

@@ -7,9 +7,11 @@ pub mod Producer
 pub mod Consumer
 pub mod Request
 pub mod Play
+pub mod Quick
 pub mod Runs
 pub mod Witnesses
 pub mod Lengths
+pub mod DrainRuns
 pub mod Update
 pub mod Address
 pub mod Readback

@@ -1,11 +1,11 @@
 -- The range of every word of a store: refusal 3 (document 01, "Where a call is turned down", Ranges).
-use mathlib.Core.Bool.{Bool, true, _&&_}
+use mathlib.Core.Bool.{Bool, true, _&&_, cond}
 use mathlib.Core.List.{List, [], _∷_}
 use Prim.Native.Nat.{ℕ, zero, suc}
-use lib.Dec.{leb, eqb}
+use lib.Dec.{leb, ltb, eqb}
 use lib.ListN.{getD}
-use Rattle.rules.specs.Sizes.{Sizes, between, mostPlace, mostSteps, contentWords, firstRecord}
-use Rattle.rules.specs.Cell.{Reader, content, lastClaimed, spare, consumer, producer, part, entry}
+use Rattle.rules.specs.Sizes.{Sizes, between, mostPlace, mostSteps, contentWords, firstRecord, mostDrained}
+use Rattle.rules.specs.Cell.{Reader, content, lastClaimed, spare, consumer, producer, part, entry, pair, consumerPhase, drainLimit, drainCount}
 
 -- What a word may hold: zero alone (a spare word, or one not in use); one number; a position, call number or count, 0 to M; a
 -- record number, 0 to N; the same with none left out, 1 to N; a number up to another; anything.
@@ -104,7 +104,8 @@ producerSorts =
     ∷ linkingAheadSorts
     ∷ []
 
--- The consumer's: cursor record and position, found record and position, the item's call number and value, accepted steps.
+-- The consumer's: cursor record and position, found record and position, the item's call number and value, accepted steps. In phases 6 to 8
+-- the second is a flag.
 abbrev pub frontSorts : List Sort
 frontSorts = unused ∷ unused ∷ unused ∷ unused ∷ unused ∷ unused ∷ steps ∷ []
 
@@ -115,13 +116,13 @@ abbrev pub rescanSorts : List Sort
 rescanSorts = link ∷ number ∷ link ∷ number ∷ unused ∷ unused ∷ steps ∷ []
 
 abbrev pub foundSorts : List Sort
-foundSorts = unused ∷ unused ∷ link ∷ number ∷ unused ∷ unused ∷ steps ∷ []
+foundSorts = unused ∷ most 1 ∷ link ∷ number ∷ unused ∷ unused ∷ steps ∷ []
 
 abbrev pub itemSorts : List Sort
-itemSorts = unused ∷ unused ∷ link ∷ number ∷ number ∷ any ∷ steps ∷ []
+itemSorts = unused ∷ most 1 ∷ link ∷ number ∷ number ∷ any ∷ steps ∷ []
 
 abbrev pub retiringSorts : List Sort
-retiringSorts = unused ∷ unused ∷ unused ∷ unused ∷ number ∷ any ∷ steps ∷ []
+retiringSorts = unused ∷ most 1 ∷ unused ∷ unused ∷ number ∷ any ∷ steps ∷ []
 
 -- phases 0 to 8
 abbrev pub lastConsumerPhase : ℕ
@@ -155,12 +156,29 @@ abbrev pub recordInRange : Sizes → Reader → ℕ → Bool
 recordInRange z σ r =
     ofSorts z (λ k. σ (part r k)) 0 partSorts && every (z .B) (λ i. ofSorts z (λ k. σ (entry r i k)) 0 entrySorts)
 
+-- The drain area (document 02, U5): limit 0 to 64, and 0 while the consumer is idle; count 0 to the limit; a pair below the count as an
+-- entry's number and value, the others zero.
+abbrev pub pairSorts : List Sort
+pairSorts = number ∷ any ∷ []
+
+abbrev pub noPairSorts : List Sort
+noPairSorts = unused ∷ unused ∷ []
+
+abbrev pub pairInRange : Sizes → (count : ℕ) (pairs : ℕ → ℕ → ℕ) → ℕ → Bool
+pairInRange z c pairs i = ofSorts z (pairs i) 0 (cond (ltb i c) pairSorts noPairSorts)
+
+abbrev pub areaInRange : Sizes → (phase limit count : ℕ) (pairs : ℕ → ℕ → ℕ) → Bool
+areaInRange z p l c pairs = leb l (cond (eqb p 0) 0 mostDrained) && (leb c l && every mostDrained (pairInRange z c pairs))
+
+abbrev pub drainInRange : Sizes → Reader → Bool
+drainInRange z σ = areaInRange z (σ consumerPhase) (σ drainLimit) (σ drainCount) (λ i k. σ (pair i k))
+
 -- Words 0 to 15.
 abbrev pub contentsInRange : Sizes → Reader → Bool
 contentsInRange z σ =
     ofSorts z (λ k. σ (content k)) 0 (contentSorts z) && (ofSort z lastClaimedSort (σ lastClaimed) && ofSorts z (λ k. σ (spare k)) 0 spareSorts)
 
--- Every word is in its range: those of the contents and threads, and those of the records.
+-- Every word is in its range: those of the contents and threads, those of the records, and those of the drain area.
 abbrev pub threadsInRange : Sizes → Reader → Bool
 threadsInRange z σ = contentsInRange z σ && consumerInRange z σ && every (z .P) (λ p. producerInRange z σ (suc p))
 
@@ -168,4 +186,4 @@ abbrev pub recordsInRange : Sizes → Reader → Bool
 recordsInRange z σ = every (z .N) (recordInRange z σ)
 
 unfoldable pub inRange : Sizes → Reader → Bool
-inRange z σ = threadsInRange z σ && recordsInRange z σ
+inRange z σ = threadsInRange z σ && recordsInRange z σ && drainInRange z σ

@@ -3,10 +3,12 @@ use mathlib.Core.Bool.{Bool, _&&_, cond}
 use mathlib.Core.List.{List}
 use Prim.Native.Nat.{ℕ, zero, suc, _+_, _-_, _*_}
 use lib.Dec.{leb, ltb, eqb}
+use Rattle.history.specs.Linearization.{Item}
 use Rattle.rules.specs.Sizes.{Sizes}
 use Rattle.rules.specs.Cell.{Reader, Write, place, next}
 
--- What an accepted call replies: *open* and *start dequeue* ok, *start enqueue* its call number, *step* the others.
+-- What an accepted call replies: *open*, *start dequeue* and *start drain* ok, *start enqueue* its call number, *step* the others. (Drained
+-- says how many; the items go into the buffer.)
 pub data Reply : Type 0 where
   ok : Reply
   started : (number : ℕ) → Reply
@@ -14,6 +16,7 @@ pub data Reply : Type 0 where
   ended : Reply
   empty : Reply
   item : (number value : ℕ) → Reply
+  drained : (items : List Item) → Reply
 
 -- What any call replies: a refusal with its number, or a reply with the number of accepted steps of its call so far, a step's own
 -- included (document 02, U3). An open and a start are no steps: 0.

@@ -1,18 +1,18 @@
 -- The runs of the store that document 01 marks (P), as one table and one statement that the checker computes ("Runs to hold it
 -- to").
-use mathlib.Core.Path.{_≡_, refl}
+use mathlib.Core.Path.{_≡_, refl, ap, ap₂}
 use mathlib.Core.List.{List, [], _∷_, _++_, map, reverse}
 use Prim.Native.Nat.{ℕ, zero, suc, _+_}
 use lib.ListN.{replicate}
 use Rattle.rules.specs.Sizes.{Sizes}
 use Rattle.rules.specs.Cell.{reader, writes}
-use Rattle.rules.specs.Range.{inRange}
 use Rattle.rules.specs.Free.{free, nextFree}
 use Rattle.rules.specs.Rule.{Reply, Response, refused, accepted, ok, started, going, ended, empty, item}
 use Rattle.rules.specs.Producer.{takePosition, loadTail, lookNext, claimRecord, linkClaimed, shiftTail, goBack, writeEntry, setEntry, claimAhead, linkAhead, producerStep}
 use Rattle.rules.specs.Consumer.{front, readTail, scan, readEntry, rescan, readItem, markHandled, retireHead, consumerStep}
-use Rattle.rules.specs.Request.{Request, startEnqueue, startDequeue, step, applied, opened, open-store, startingEnqueue, startingDequeue, phaseStep, counted, stepping, effect, admitted, result}
+use Rattle.rules.specs.Request.{Request, startEnqueue, startDequeue, step, Invocation, lending, applied, opened, open-store, startingEnqueue, startingDequeue, startingDrain, phaseStep, counted, stepping, effect}
 use Rattle.rules.specs.Play.{Played, play}
+use Rattle.rules.specs.Quick.{quickPlay, play-is}
 
 -- An open of a store of so many zero words, the calls after it, and the replies of all of them, in order.
 pub record Trial : Type 0 where
@@ -28,6 +28,10 @@ sized B N P M = record { B = B; N = N; P = P; M = M }
 abbrev pub times : ℕ → Request → List Request
 times zero q = []
 times (suc n) q = q ∷ times n q
+
+-- A call whose step is lent no words.
+abbrev pub plain : Request → Invocation
+plain q = lending [] 0 q
 
 -- The reply of an open or a start; of the n steps after a call's first k, all going; of those and the one that ends it.
 abbrev pub first : Reply → Response
@@ -48,23 +52,52 @@ abbrev pub call : Reply → ℕ → Reply → List Response
 call r n e = first r ∷ ends 0 n e
 
 -- What the rules make of some calls on these words, the replies that they give to them, and to an open and the calls after it.
-unfoldable pub playedOn : List Request → List ℕ → Played
-unfolding play result admitted applied effect startingEnqueue startingDequeue phaseStep counted stepping reader writes inRange free nextFree takePosition loadTail lookNext claimRecord linkClaimed shiftTail goBack writeEntry setEntry claimAhead linkAhead producerStep front readTail scan readEntry rescan readItem markHandled retireHead consumerStep
-playedOn qs m = play qs (record { words = m; replies = []; history = [] })
+unfoldable pub playedOn : List Invocation → List ℕ → Played
+playedOn vs m = play vs (record { words = m; replies = []; history = [] })
 
-unfoldable pub repliesTo : List Request → List ℕ → List Response
-unfolding playedOn
-repliesTo qs m = reverse (playedOn qs m .replies)
+unfoldable pub repliesTo : List Invocation → List ℕ → List Response
+repliesTo vs m = reverse (playedOn vs m .replies)
 
 unfoldable pub replay : Trial → List Response
-unfolding repliesTo open-store opened writes
-replay t = let o = open-store (t .sizes) (replicate (t .words) 0) in o .reply ∷ repliesTo (t .requests) (o .words)
+replay t = let o = open-store (t .sizes) (replicate (t .words) 0) in o .reply ∷ repliesTo (map plain (t .requests)) (o .words)
+
+-- The same, quicker to compute.
+unfoldable pub quickOn : List Invocation → List ℕ → Played
+unfolding applied effect startingEnqueue startingDequeue startingDrain phaseStep counted stepping reader writes free nextFree takePosition loadTail lookNext claimRecord linkClaimed shiftTail goBack writeEntry setEntry claimAhead linkAhead producerStep front readTail scan readEntry rescan readItem markHandled retireHead consumerStep
+quickOn vs m = quickPlay vs (record { words = m; replies = []; history = [] })
+
+pub played-on : (vs : List Invocation) (m : List ℕ) → playedOn vs m ≡ quickOn vs m
+unfolding playedOn quickOn
+played-on vs m = play-is vs (record { words = m; replies = []; history = [] })
+
+unfoldable pub quickReplies : List Invocation → List ℕ → List Response
+unfolding quickOn
+quickReplies vs m = reverse (quickOn vs m .replies)
+
+pub replies-to : (vs : List Invocation) (m : List ℕ) → repliesTo vs m ≡ quickReplies vs m
+unfolding repliesTo quickReplies
+replies-to vs m = ap (λ (p : Played). reverse (p .replies)) (played-on vs m)
+
+unfoldable pub quickReplay : Trial → List Response
+unfolding quickReplies open-store opened writes
+quickReplay t = let o = open-store (t .sizes) (replicate (t .words) 0) in o .reply ∷ quickReplies (map plain (t .requests)) (o .words)
+
+pub replay-is : (t : Trial) → replay t ≡ quickReplay t
+unfolding replay quickReplay
+replay-is t =
+    let o = open-store (t .sizes) (replicate (t .words) 0) in
+    ap (λ (rs : List Response). o .reply ∷ rs) (replies-to (map plain (t .requests)) (o .words))
+
+-- to compute a table of runs, compute it so
+pub map-same : {A B : Type 0} (f g : A → B) → ((x : A) → f x ≡ g x) → (xs : List A) → map f xs ≡ map g xs
+map-same f g h [] = refl
+map-same f g h (x ∷ xs) = ap₂ (λ y ys. y ∷ ys) (h x) (map-same f g h xs)
 
 abbrev pub table : List Trial
 table =
     -- the printed run, with the step counts of document 02, U3; then `d` and three steps give going, going, item 1 7
     record {
-      words = 12696;
+      words = 12826;
       sizes = sized 2 2 1 9;
       requests = startDequeue ∷ times 2 (step 0) ++ (startEnqueue 1 7 ∷ times 4 (step 1)) ++ (startDequeue ∷ times 3 (step 0));
       replies = first ok ∷ call ok 1 empty ++ call (started 1) 3 ended ++ call ok 2 (item 1 7);
@@ -72,7 +105,7 @@ table =
     -- B = 2, N = 2: the enqueue at position 1 takes 6 steps, at position 2 takes 7, at 3 takes 5; the one at position 4, nothing
     -- dequeued, meets 8 on its fourth
     ∷ record {
-      words = 52;
+      words = 182;
       sizes = sized 2 2 1 9;
       requests =
           startEnqueue 1 10
@@ -93,7 +126,7 @@ table =
     -- B = 4. Producer 1 takes 0 and stops before phase 9. The dequeue steps twice. Producer 1 ends; producer 2 enqueues and
     -- ends. Five more steps give item 1
     ∷ record {
-      words = 72;
+      words = 202;
       sizes = sized 4 2 2 9;
       requests =
           startEnqueue 1 10
@@ -104,17 +137,17 @@ table =
       replies =
           first ok ∷ begun (started 1) 3 ++ begun ok 2 ++ ends 3 0 ended ++ call (started 2) 5 ended ++ ends 2 4 (item 1 10);
     }
-    -- B = 1, N = 65, P = 0, P = 17, M = 0 give 1; B = 64, N = 64, P = 16 needs 12,696 words
-    ∷ record { words = 52; sizes = sized 1 2 1 9; requests = []; replies = refused 1 ∷ [] }
-    ∷ record { words = 52; sizes = sized 2 65 1 9; requests = []; replies = refused 1 ∷ [] }
-    ∷ record { words = 52; sizes = sized 2 2 0 9; requests = []; replies = refused 1 ∷ [] }
-    ∷ record { words = 52; sizes = sized 2 2 17 9; requests = []; replies = refused 1 ∷ [] }
-    ∷ record { words = 52; sizes = sized 2 2 1 0; requests = []; replies = refused 1 ∷ [] }
-    ∷ record { words = 12696; sizes = sized 64 64 16 9; requests = []; replies = first ok ∷ [] }
-    ∷ record { words = 12695; sizes = sized 64 64 16 9; requests = []; replies = refused 2 ∷ [] }
+    -- B = 1, N = 65, P = 0, P = 17, M = 0 give 1; B = 64, N = 64, P = 16 needs 12,826 words
+    ∷ record { words = 182; sizes = sized 1 2 1 9; requests = []; replies = refused 1 ∷ [] }
+    ∷ record { words = 182; sizes = sized 2 65 1 9; requests = []; replies = refused 1 ∷ [] }
+    ∷ record { words = 182; sizes = sized 2 2 0 9; requests = []; replies = refused 1 ∷ [] }
+    ∷ record { words = 182; sizes = sized 2 2 17 9; requests = []; replies = refused 1 ∷ [] }
+    ∷ record { words = 182; sizes = sized 2 2 1 0; requests = []; replies = refused 1 ∷ [] }
+    ∷ record { words = 12826; sizes = sized 64 64 16 9; requests = []; replies = first ok ∷ [] }
+    ∷ record { words = 12825; sizes = sized 64 64 16 9; requests = []; replies = refused 2 ∷ [] }
     -- M = 1: once enqueue 1 has ended, a second enqueue start gives 6
     ∷ record {
-      words = 52;
+      words = 182;
       sizes = sized 2 2 1 1;
       requests = startEnqueue 1 7 ∷ times 4 (step 1) ++ (startEnqueue 1 8 ∷ []);
       replies = first ok ∷ call (started 1) 3 ended ++ (refused 6 ∷ []);
@@ -123,5 +156,5 @@ table =
 
 -- Every run of the table goes as the table says.
 pub runs-as-written : map replay table ≡ map (λ t. t .replies) table
-unfolding replay
-runs-as-written = refl
+unfolding quickReplay
+runs-as-written = map-same replay quickReplay replay-is table

@@ -57,9 +57,20 @@ recordWords z = 3 * z .B + 4
 abbrev pub firstRecord : Sizes → ℕ
 firstRecord z = contentWords + threadWords * suc (z .P)
 
--- The store takes 16 + 8 × (P + 1) + N × (3 × B + 4) words.
+-- The most items that one drain may hand over (document 02, U5), and the words of the drain area: limit, count, and a pair for each.
+abbrev pub mostDrained : ℕ
+mostDrained = 64
+
+abbrev pub drainWords : ℕ
+drainWords = 2 + 2 * mostDrained
+
+-- its first word, behind the records
+abbrev pub firstDrain : Sizes → ℕ
+firstDrain z = firstRecord z + z .N * recordWords z
+
+-- The store takes 16 + 8 × (P + 1) + N × (3 × B + 4) + 130 words.
 abbrev pub storeWords : Sizes → ℕ
-storeWords z = firstRecord z + z .N * recordWords z
+storeWords z = firstDrain z + drainWords
 
 -- The most words that a store takes.
 abbrev pub mostWords : ℕ

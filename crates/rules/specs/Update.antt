@@ -10,7 +10,7 @@ use lib.ListN.{getD}
 use borrow.Author.Tests.{eq-eqb, ne-eqb, eqb-true}
 use Rattle.history.specs.Lists.{All}
 use Rattle.rules.specs.Sizes.{threadWords}
-use Rattle.rules.specs.Cell.{Cell, content, lastClaimed, spare, consumer, producer, part, entry, Reader, Area, contents, ofConsumer, ofProducer, ofRecord, Write, _:=_, clear, stepCount}
+use Rattle.rules.specs.Cell.{Cell, content, lastClaimed, spare, consumer, producer, part, entry, drain, pair, Reader, Area, contents, ofConsumer, ofProducer, ofRecord, ofDrain, Write, _:=_, clear, stepCount}
 
 -- The area of a cell.
 abbrev pub areaOf : Cell → Area
@@ -21,6 +21,8 @@ areaOf (consumer k) = ofConsumer
 areaOf (producer t k) = ofProducer t
 areaOf (part r k) = ofRecord r
 areaOf (entry r i k) = ofRecord r
+areaOf (drain k) = ofDrain
+areaOf (pair i k) = ofDrain
 
 -- An area by its kind, and by its number among those of its kind.
 abbrev pub areaKind : Area → ℕ
@@ -28,17 +30,19 @@ areaKind contents = 0
 areaKind ofConsumer = 1
 areaKind (ofProducer t) = 2
 areaKind (ofRecord r) = 3
+areaKind ofDrain = 4
 
 abbrev pub areaNumber : Area → ℕ
 areaNumber contents = 0
 areaNumber ofConsumer = 0
 areaNumber (ofProducer t) = t
 areaNumber (ofRecord r) = r
+areaNumber ofDrain = 0
 
 abbrev pub sameArea : Area → Area → Bool
 sameArea a b = eqb (areaKind a) (areaKind b) && eqb (areaNumber a) (areaNumber b)
 
--- A cell by its kind, its field, the entry that it belongs to, and its area's number.
+-- A cell by its kind, its field, the entry or pair that it belongs to, and its area's number.
 abbrev pub cellKind : Cell → ℕ
 cellKind (content k) = 0
 cellKind (consumer k) = 1
@@ -47,6 +51,8 @@ cellKind (part r k) = 3
 cellKind (entry r i k) = 4
 cellKind lastClaimed = 5
 cellKind (spare k) = 6
+cellKind (drain k) = 7
+cellKind (pair i k) = 8
 
 abbrev pub cellField : Cell → ℕ
 cellField (content k) = k
@@ -56,6 +62,8 @@ cellField (consumer k) = k
 cellField (producer t k) = k
 cellField (part r k) = k
 cellField (entry r i k) = k
+cellField (drain k) = k
+cellField (pair i k) = k
 
 abbrev pub cellEntry : Cell → ℕ
 cellEntry (content k) = 0
@@ -65,6 +73,8 @@ cellEntry (consumer k) = 0
 cellEntry (producer t k) = 0
 cellEntry (part r k) = 0
 cellEntry (entry r i k) = i
+cellEntry (drain k) = 0
+cellEntry (pair i k) = i
 
 abbrev pub same : Cell → Cell → Bool
 same c d = eqb (cellKind c) (cellKind d) && (eqb (cellField c) (cellField d) && (eqb (cellEntry c) (cellEntry d) && eqb (areaNumber (areaOf c)) (areaNumber (areaOf d))))
@@ -119,7 +129,7 @@ true-false p q = let z : _≡_ {A = ℕ} 0 1 = cc in omega arith
 
 -- an area and a cell are known by their numbers
 areaFrom : (cellKind number : ℕ) → Area
-areaFrom k n = getD (contents ∷ ofConsumer ∷ ofProducer n ∷ ofRecord n ∷ []) k contents
+areaFrom k n = getD (contents ∷ ofConsumer ∷ ofProducer n ∷ ofRecord n ∷ ofDrain ∷ []) k contents
 
 area-from : (a : Area) → areaFrom (areaKind a) (areaNumber a) ≡ a
 unfolding areaFrom
@@ -127,9 +137,11 @@ area-from contents = refl
 area-from ofConsumer = refl
 area-from (ofProducer t) = refl
 area-from (ofRecord r) = refl
+area-from ofDrain = refl
 
 cellFrom : (cellKind cellField cellEntry number : ℕ) → Cell
-cellFrom x k i n = getD (content k ∷ consumer k ∷ producer n k ∷ part n k ∷ entry n i k ∷ lastClaimed ∷ spare k ∷ []) x (content k)
+cellFrom x k i n =
+    getD (content k ∷ consumer k ∷ producer n k ∷ part n k ∷ entry n i k ∷ lastClaimed ∷ spare k ∷ drain k ∷ pair i k ∷ []) x (content k)
 
 cell-from : (c : Cell) → cellFrom (cellKind c) (cellField c) (cellEntry c) (areaNumber (areaOf c)) ≡ c
 unfolding cellFrom
@@ -140,6 +152,8 @@ cell-from (consumer k) = refl
 cell-from (producer t k) = refl
 cell-from (part r k) = refl
 cell-from (entry r i k) = refl
+cell-from (drain k) = refl
+cell-from (pair i k) = refl
 
 pub same-area-eq : (a b : Area) → sameArea a b ≡ true → a ≡ b
 same-area-eq a b e =

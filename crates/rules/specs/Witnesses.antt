@@ -1,5 +1,5 @@
 -- Further runs, computed: that the rules do all that the theorems speak of, and what the traps of document 01 would get wrong.
-use mathlib.Core.Path.{_≡_, refl}
+use mathlib.Core.Path.{_≡_, ap}
 use mathlib.Core.List.{List, [], _∷_, _++_, map}
 use Prim.Native.Nat.{ℕ, suc}
 use lib.ListN.{replicate}
@@ -7,14 +7,15 @@ use Rattle.rules.specs.Sizes.{Sizes, storeWords}
 use Rattle.rules.specs.Cell.{Write, reader, writes, _:=_, lastClaimed, tailRecord, headPosition, consumerPhase, foundRecord, foundPosition, itemNumber, itemValue, phase, held, claimed, stepCount, place, next, used}
 use Rattle.rules.specs.Rule.{Response, refused, accepted, ok, started, going, ended, empty, item}
 use Rattle.rules.specs.Request.{Request, startEnqueue, startDequeue, step, opened}
-use Rattle.rules.specs.Runs.{Trial, sized, times, first, goings, ends, begun, call, playedOn, repliesTo, replay}
+use Rattle.rules.specs.Play.{Played}
+use Rattle.rules.specs.Runs.{Trial, sized, times, plain, first, goings, ends, begun, call, playedOn, quickOn, played-on, repliesTo, quickReplies, replies-to, replay, quickReplay, replay-is, map-same}
 
 abbrev pub witnesses : List Trial
 witnesses =
     -- Items, an empty answer, a retired record that a stopped producer holds (so none is free: 8), and its reuse once it is let
     -- go. Producer 1 stops in phase 3 holding record 0; that record is drained and retired.
     record {
-      words = 60;
+      words = 190;
       sizes = sized 2 2 2 9;
       requests =
           startEnqueue 2 10
@@ -47,7 +48,7 @@ witnesses =
     -- A producer stopped between phases 5 and 6 stalls nobody: producer 1 has linked a record and not moved the tail record;
     -- producer 3 moves it, and ends.
     ∷ record {
-      words = 78;
+      words = 208;
       sizes = sized 2 3 3 9;
       requests =
           startEnqueue 1 10
@@ -59,7 +60,7 @@ witnesses =
     }
     -- The scan passes an empty and a handled entry and crosses into the next record.
     ∷ record {
-      words = 70;
+      words = 200;
       sizes = sized 2 3 2 9;
       requests =
           startEnqueue 1 10
@@ -79,7 +80,7 @@ witnesses =
     -- Phase 7. Producers 3 and 2 take 0 and 1 and stop; producer 1 takes 2, links a record and moves the tail record. Producers 3 and 2
     -- then load the second record, go back to the first, write and end: producer 2 at index 1, since phase 7 was taken.
     ∷ record {
-      words = 88;
+      words = 218;
       sizes = sized 2 4 3 9;
       requests =
           startEnqueue 3 30
@@ -96,7 +97,7 @@ witnesses =
     -- Phase 5 gives back. Producer 3, at position 2, claims the third record after producer 1 has linked the second, and gives it back;
     -- so producer 1 finds it free in phase 10.
     ∷ record {
-      words = 78;
+      words = 208;
       sizes = sized 2 3 3 9;
       requests =
           startEnqueue 3 30
@@ -117,7 +118,7 @@ witnesses =
     -- Phase 11 gives back. Producer 3 has set position 1 and stands before phase 10 while producer 1 links a record for position 2. What
     -- producer 3 then claims it gives back, and finds free in phase 10 of its next enqueue.
     ∷ record {
-      words = 78;
+      words = 208;
       sizes = sized 2 3 3 9;
       requests =
           startEnqueue 1 10
@@ -132,7 +133,7 @@ witnesses =
     -- Handled advances the head. The item at 1 is taken while 0 is empty, then the one at 0; the next dequeue passes 1 and answers empty
     -- at the record's end.
     ∷ record {
-      words = 70;
+      words = 200;
       sizes = sized 2 3 2 9;
       requests =
           startEnqueue 2 20
@@ -155,13 +156,13 @@ witnesses =
     }
     -- The scan answers empty at the tail, and at the end of the tail record.
     ∷ record {
-      words = 52;
+      words = 182;
       sizes = sized 2 2 1 9;
       requests = startEnqueue 1 10 ∷ step 1 ∷ startDequeue ∷ times 3 (step 0);
       replies = first ok ∷ begun (started 1) 1 ++ call ok 2 empty;
     }
     ∷ record {
-      words = 78;
+      words = 208;
       sizes = sized 2 3 3 9;
       requests = startEnqueue 3 30 ∷ startEnqueue 1 10 ∷ step 1 ∷ step 3 ∷ startDequeue ∷ times 5 (step 0);
       replies = first ok ∷ first (started 1) ∷ first (started 2) ∷ goings 0 1 ++ goings 0 1 ++ call ok 4 empty;
@@ -169,7 +170,7 @@ witnesses =
     -- The rescan returns to the head. The item at 2 is found, 0 is passed while it is empty, 1 is set before it is read and found in
     -- its place, and 0 is set before it is read again: item 1.
     ∷ record {
-      words = 80;
+      words = 210;
       sizes = sized 4 2 3 9;
       requests =
           startEnqueue 1 10
@@ -192,7 +193,7 @@ witnesses =
     -- A drained record is let go (document 02, U2). Two records are full, and the fifth enqueue meets 8. The dequeue that takes the head
     -- record's last item goes to phase 8, which retires it: with no further dequeue the producer claims it and ends.
     ∷ record {
-      words = 52;
+      words = 182;
       sizes = sized 2 2 1 9;
       requests =
           startEnqueue 1 10
@@ -222,7 +223,7 @@ witnesses =
     -- Refusals 4, 5 and 7 in their order: idle threads, threads that are not there, and threads with a call under way, the producer when
     -- no start is left (5, not 6).
     ∷ record {
-      words = 52;
+      words = 182;
       sizes = sized 2 2 1 1;
       requests =
           step 0
@@ -251,8 +252,8 @@ witnesses =
     ∷ []
 
 pub witnesses-as-written : map replay witnesses ≡ map (λ t. t .replies) witnesses
-unfolding replay
-witnesses-as-written = refl
+unfolding quickReplay
+witnesses-as-written = map-same replay quickReplay replay-is witnesses
 
 -- Calls on a store that the engine did not write: an opened one, where some cells were then written.
 pub record Probe : Type 0 where
@@ -262,10 +263,15 @@ pub record Probe : Type 0 where
   pub replies : List Response
 
 unfoldable pub probe : Probe → List Response
-unfolding repliesTo opened writes
-probe p =
-    let z = p .sizes in
-    repliesTo (p .requests) (writes z (opened z (replicate (storeWords z) 0)) (p .cells))
+probe p = repliesTo (map plain (p .requests)) (writes (p .sizes) (opened (p .sizes) (replicate (storeWords (p .sizes)) 0)) (p .cells))
+
+unfoldable quickProbe : Probe → List Response
+unfolding quickReplies opened writes
+quickProbe p = quickReplies (map plain (p .requests)) (writes (p .sizes) (opened (p .sizes) (replicate (storeWords (p .sizes)) 0)) (p .cells))
+
+probe-is : (p : Probe) → probe p ≡ quickProbe p
+unfolding probe quickProbe
+probe-is p = replies-to (map plain (p .requests)) _
 
 -- the consumer in phase 8 with item 3 7, and these cells
 abbrev retiring : List Write → List Write
@@ -356,8 +362,8 @@ probes =
     ∷ []
 
 pub probes-as-written : map probe probes ≡ map (λ p. p .replies) probes
-unfolding probe
-probes-as-written = refl
+unfolding quickProbe
+probes-as-written = map-same probe quickProbe probe-is probes
 
 -- A claim on a store of four records (document 02, U1): the record claimed last (word 11), the use of each record, and what the producer's
 -- claimed word and word 11 hold afterwards. All record numbers as stored, plus one.
@@ -370,13 +376,25 @@ abbrev pub useWrites : (r : ℕ) → List ℕ → List Write
 useWrites r [] = []
 useWrites r (u ∷ us) = used r := u ∷ useWrites (suc r) us
 
-unfoldable pub claimedWords : Claim → List ℕ
-unfolding playedOn opened writes reader
-claimedWords c =
+-- the words before the claim, and what is looked at afterwards
+abbrev beforeClaim : Claim → List ℕ
+beforeClaim c =
     let z = sized 2 4 1 9 in
-    let before = lastClaimed := c .last ∷ phase 1 := 4 ∷ held 1 := 1 ∷ useWrites 0 (c .uses) in
-    let m = playedOn (step 1 ∷ []) (writes z (opened z (replicate (storeWords z) 0)) before) .words in
-    reader z m (claimed 1) ∷ reader z m lastClaimed ∷ []
+    writes z (opened z (replicate (storeWords z) 0)) (lastClaimed := c .last ∷ phase 1 := 4 ∷ held 1 := 1 ∷ useWrites 0 (c .uses))
+
+abbrev afterClaim : Played → List ℕ
+afterClaim p = let σ = reader (sized 2 4 1 9) (p .words) in σ (claimed 1) ∷ σ lastClaimed ∷ []
+
+unfoldable pub claimedWords : Claim → List ℕ
+claimedWords c = afterClaim (playedOn (plain (step 1) ∷ []) (beforeClaim c))
+
+unfoldable quickClaimed : Claim → List ℕ
+unfolding quickOn opened writes reader
+quickClaimed c = afterClaim (quickOn (plain (step 1) ∷ []) (beforeClaim c))
+
+claimed-is : (c : Claim) → claimedWords c ≡ quickClaimed c
+unfolding claimedWords quickClaimed
+claimed-is c = ap afterClaim (played-on (plain (step 1) ∷ []) (beforeClaim c))
 
 -- a claim that takes r, and one that finds no record free
 abbrev pub takes : (last : ℕ) → List ℕ → (r : ℕ) → Claim
@@ -403,5 +421,5 @@ claims =
     ∷ []
 
 pub claims-as-written : map claimedWords claims ≡ map (λ c. c .leaves) claims
-unfolding claimedWords
-claims-as-written = refl
+unfolding quickClaimed
+claims-as-written = map-same claimedWords quickClaimed claimed-is claims

@@ -9,7 +9,7 @@ use Rattle.history.specs.Event.{History}
 use Rattle.criterion.specs.Pass.{explains}
 use Rattle.rules.specs.Sizes.{Sizes, mostWords}
 use Rattle.rules.specs.Rule.{Response, refused, accepted}
-use Rattle.rules.specs.Request.{Result, Request, startEnqueue, startDequeue, step, open-store, result}
+use Rattle.rules.specs.Request.{Result, Request, startEnqueue, startDequeue, step, lending, open-store, result}
 use Rattle.rules.specs.Play.{events}
 use Rattle.protocol.specs.declared.Line.{Line}
 use Rattle.protocol.specs.declared.Line.the-variants.{Open, Enqueue, Dequeue, Step, Bad}
@@ -51,6 +51,7 @@ reopened (accepted r k) h = []
 abbrev pub openTurn : Result → History → Turn
 openTurn r h = record { reply = r .reply; session = record { words = r .words; history = reopened (r .reply) h } }
 
+-- The program starts no drain, so a reply adds its events to the history. Its steps lend no words.
 abbrev pub callTurn : Request → Result → History → Turn
 callTurn q r h = record { reply = r .reply; session = record { words = r .words; history = events q h (r .reply) ++ h } }
 
@@ -58,7 +59,7 @@ unfoldable pub opening : Sizes → Session → Turn
 opening z x = openTurn (open-store z (x .words)) (x .history)
 
 unfoldable pub calling : Request → Session → Turn
-calling q x = callTurn q (result q (x .words)) (x .history)
+calling q x = callTurn q (result (lending [] 0 q) (x .words)) (x .history)
 
 -- The call that a line asks for; a bad line asks for none.
 abbrev pub callOf : Line → Option (Session → Turn)

@@ -1,12 +1,12 @@
 -- What a line leaves in the program's buffers: the words of the store, the words of the history and the printed bytes.
 use mathlib.Core.Path.{_≡_}
 use mathlib.Core.Bool.{true, false}
-use mathlib.Core.List.{List, _++_}
+use mathlib.Core.List.{List, [], _++_}
 use mathlib.Core.Option.{Option, none, some}
 use Prim.Native.Nat.{ℕ, _+_, _*_, _≤_}
 use lib.ListN.{length}
 use Rattle.history.specs.Form.{mostEvents}
-use Rattle.rules.specs.Request.{Request, result}
+use Rattle.rules.specs.Request.{Request, lending, result}
 use Rattle.rules.specs.Play.{threadOf, valueOf}
 use Rattle.store.specs.declared.Reply.{Reply}
 use Rattle.store.specs.Outcome.{leftAfter}
@@ -36,7 +36,8 @@ pub record Turned (call : Session → Turn) (store history out : List ℕ) (at :
 -- A call of thread t with value v was recorded and its reply printed: a turn, where the store changed as the call says.
 pub record Finished (t v : ℕ) (reply : Reply) (steps : ℕ) (history out : List ℕ) (at : Place) (history′ out′ : List ℕ) (next : Place) : Type 0 where
   pub turned :
-      (q : Request) → threadOf q ≡ t → valueOf q ≡ v → (store store′ : List ℕ) → leftAfter (record { reply = reply; steps = steps }) store′ ≡ result q store
+      (q : Request) → threadOf q ≡ t → valueOf q ≡ v → (store store′ buffer : List ℕ)
+      → leftAfter (record { reply = reply; steps = steps }) store′ buffer 0 ≡ result (lending [] 0 q) store
       → Turned (calling q) store history out at store′ history′ out′ next
 
 -- What a line does, by the call that it asks for: a bad one prints `bad line` and stops the run, any other turns as its call does.

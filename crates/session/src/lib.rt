@@ -61,6 +61,7 @@ fn note(t: u32, v: u32, reply: Reply) -> Noted
         Reply::Ended => Noted::Ended(t),
         Reply::Empty => Noted::Empty,
         Reply::Item(n, v) => Noted::Item(n, v),
+        Reply::Drained(_) => Noted::Nothing,
     }
 }
 
@@ -176,6 +177,7 @@ fn reopen(k: usize, reply: Reply) -> usize
         Reply::Ended => 0,
         Reply::Empty => 0,
         Reply::Item(_, _) => 0,
+        Reply::Drained(_) => 0,
     }
 }
 
@@ -214,7 +216,8 @@ fn take_turn(store: &mut [u32], history: &mut [u32], out: &mut [u8], at: Place, 
             return Next::On(finish(history, out, at, 0, 0, reply, 0));
         }
         Line::Step(t) => {
-            let counted = engine::step(store, t);
+            let mut none = [0u32; 0];
+            let counted = engine::step(store, t, &mut none, 0);
             let reply = counted.reply;
             return Next::On(finish(history, out, at, t, 0, reply, counted.steps));
         }

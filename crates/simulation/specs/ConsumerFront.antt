@@ -1,16 +1,17 @@
 -- Consumer phases 1 and 2, at the front.
 use mathlib.Core.Path.{_≡_, refl, ap, sym, _∙_, subst⁻¹}
 use mathlib.Core.Logic.{_≢_}
+use mathlib.Core.Bool.{cond}
 use mathlib.Core.List.{[], _∷_}
 use Prim.Native.Nat.{ℕ, suc, _*_, _≤_, _<_}
 use native.Mathlib.Omega.{arith}
 use lib.Dec.{eqb}
 use borrow.Author.Tests.{eqb-true, eqb-false}
 use Rattle.rules.specs.Sizes.{Sizes}
-use Rattle.rules.specs.Cell.{Reader, _:=_, tail, tailRecord, headRecord, headPosition, consumer, consumerPhase, cursorRecord, cursorPosition, foundRecord, foundPosition, place, used, state}
+use Rattle.rules.specs.Cell.{Reader, _:=_, tail, tailRecord, headRecord, headPosition, consumer, consumerPhase, cursorRecord, cursorPosition, foundRecord, foundPosition, drainCount, place, used, state}
 use Rattle.rules.specs.Range.{number, record-number, frontSorts}
 use Rattle.rules.specs.Rule.{Effect, going, goes, upTo, atEnd, index, inside}
-use Rattle.rules.specs.Consumer.{moveHead, byState, front, readTail}
+use Rattle.rules.specs.Consumer.{endsEmpty, moveHead, byState, front, readTail}
 use Rattle.rules.specs.Request.{step}
 use Rattle.rules.specs.Update.{after}
 use Rattle.model.specs.State.{gone, State}
@@ -23,7 +24,7 @@ use Rattle.model.specs.Bounds.{head-inside, gone-head-below-tail, read-head-bel
 use Rattle.memory.specs.Memory.{Memory}
 use Rattle.simulation.specs.View.{Ghost, view}
 use Rattle.simulation.specs.Good.{Good, Fine, by-need, by-cond, by-up-to}
-use Rattle.simulation.specs.Told.{tells-kept, not-yet}
+use Rattle.simulation.specs.Told.{early, tells-going}
 use Rattle.simulation.specs.Rows.{ConsumerWords, of-sort, has-sort}
 use Rattle.simulation.specs.Entries.{by-inside, slot, slot-state}
 use Rattle.simulation.specs.ConsumerRetire.{by-move-head, retires}
@@ -38,12 +39,12 @@ module _ (z : Sizes) (σ : Reader) (γ : Ghost) (good : Good z σ γ) where
   unfolding readTail
   read-tail-fine e =
       by-cond (Fine z σ γ (step 0)) (eqb (σ tail) (σ headPosition)) _ _
-      (λ b. answers-empty z σ γ good (not-yet σ e (omega arith)) (ap isBusy seen) (empty-at-tail (z .B) (view σ γ) (good .model) (eqb-true (σ tail) (σ headPosition) b)))
+      (λ b. answers-empty z σ γ good (early σ e (omega arith)) (ap isBusy seen) (λ none. empty-at-tail (z .B) (view σ γ) (good .model) (eqb-true (σ tail) (σ headPosition) b)))
       (λ b.
       let n : σ tail ≢ σ headPosition = eqb-false (σ tail) (σ headPosition) b in
       let room : suc (σ headPosition) ≤ z .M = omega (arith, read-head-below-tail (z .B) (view σ γ) (good .model) n, tail-fits z σ γ good) in
       by-up-to (Fine z σ γ (step 0)) (z .M) (suc (σ headPosition)) _ room
-      (consumer-goes z σ γ good (not-yet σ e (omega arith)) (cursorRecord := σ headRecord ∷ cursorPosition := suc (σ headPosition) ∷ consumerPhase := 3 ∷ []) 3 _
+      (consumer-goes z σ γ good (early σ e (omega arith)) (cursorRecord := σ headRecord ∷ cursorPosition := suc (σ headPosition) ∷ consumerPhase := 3 ∷ []) 3 _
       ((refl, omega arith), ((refl, omega arith), ((refl, omega arith), tt)))
       refl
       (omega arith)
@@ -76,7 +77,7 @@ module _ (z : Sizes) (σ : Reader) (γ : Ghost) (good : Good z σ γ) where
     abbrev readFront : ℕ → Effect
     readFront i =
         byState (σ (state h i))
-        (goes (consumerPhase := 2 ∷ []))
+        (cond (eqb (σ drainCount) 0) (goes (consumerPhase := 2 ∷ [])) (endsEmpty z σ))
         (goes (foundRecord := suc h ∷ foundPosition := σ headPosition ∷ consumerPhase := 6 ∷ []))
         (upTo (z .M) (suc (σ headPosition)) (goes (headPosition := suc (σ headPosition) ∷ [])))
 
@@ -91,18 +92,18 @@ module _ (z : Sizes) (σ : Reader) (γ : Ghost) (good : Good z σ γ) where
     advances n g =
         let room : suc (σ headPosition) ≤ z .M = omega (arith, gone-head-below-tail (z .B) (view σ γ) (good .model) g, tail-fits z σ γ good) in
         by-up-to (Fine z σ γ (step 0)) (z .M) (suc (σ headPosition)) _ room
-        (consumer-light z σ γ good going (headPosition := suc (σ headPosition) ∷ []) (γ .entry) (γ .history)
+        (consumer-light z σ γ good (step 0) refl going (headPosition := suc (σ headPosition) ∷ []) (γ .entry) (γ .history)
         (of-sort z number (suc (σ headPosition)) room, tt)
         (omega arith, tt)
         (record { parts = λ x k. refl; entries = λ x u i k. refl })
         (λ u k. refl)
         (refl, refl)
-        (good .range .consuming)
+        (good .range .consuming, good .range .draining)
         (m .cursor, m .found)
         (good .agrees)
         (advance-head (z .B) (view σ γ) (good .model) seen-front n g)
         (good .formed)
-        (tells-kept σ (after σ (headPosition := suc (σ headPosition) ∷ [])) (step 0) going (γ .history) (γ .history) (not-yet σ e (omega arith)) (not-yet σ e (omega arith)) refl)
+        (tells-going σ (after σ (headPosition := suc (σ headPosition) ∷ [])) (step 0) (γ .history) (early σ e (omega arith)) (early σ e (omega arith)) (λ k. refl) (λ x k. refl) (good .pending))
         (omega arith))
 
     reads : σ headPosition ≢ z .B * γ .shape .lo → Fine z σ γ (step 0) (inside z σ h (σ headPosition) readFront)
@@ -111,19 +112,22 @@ module _ (z : Sizes) (σ : Reader) (γ : Ghost) (good : Good z σ γ) where
         let s = slot z σ (γ .shape) (m .chain) h (σ headPosition) linked inner in
         by-inside z σ h (σ headPosition) inner (Fine z σ γ (step 0)) readFront
         (by-state (Fine z σ γ (step 0)) (σ (state h (index z σ h (σ headPosition)))) (γ .entry (σ headPosition))
-        (goes (consumerPhase := 2 ∷ []))
+        (cond (eqb (σ drainCount) 0) (goes (consumerPhase := 2 ∷ [])) (endsEmpty z σ))
         (goes (foundRecord := suc h ∷ foundPosition := σ headPosition ∷ consumerPhase := 6 ∷ []))
         (upTo (z .M) (suc (σ headPosition)) (goes (headPosition := suc (σ headPosition) ∷ [])))
         (slot-state z σ γ h (σ headPosition) s (good .agrees))
         (λ b.
-        consumer-goes z σ γ good (not-yet σ e (omega arith)) (consumerPhase := 2 ∷ []) 2 _ ((refl, omega arith), tt) refl (omega arith) (record { cursor-record = front-words .cursor-record; cursor-position = front-words .cursor-position; found-record = front-words .found-record; found-position = front-words .found-position; item-number = front-words .item-number; item-value = front-words .item-value; steps = front-words .steps }) (m .cursor, m .found) refl
+        by-cond (Fine z σ γ (step 0)) (eqb (σ drainCount) 0) _ _
+        (λ c.
+        consumer-goes z σ γ good (early σ e (omega arith)) (consumerPhase := 2 ∷ []) 2 _ ((refl, omega arith), tt) refl (omega arith) (record { cursor-record = front-words .cursor-record; cursor-position = front-words .cursor-position; found-record = front-words .found-record; found-position = front-words .found-position; item-number = front-words .item-number; item-value = front-words .item-value; steps = front-words .steps }) (m .cursor, m .found) refl
         (front-blank (z .B) (view σ γ) (good .model) seen-front n b))
+        (λ c. answers-empty z σ γ good (early σ e (omega arith)) (ap isBusy seen-front) (λ none. absurd (eqb-false (σ drainCount) 0 c none))))
         (λ b.
-        consumer-goes z σ γ good (not-yet σ e (omega arith)) (foundRecord := suc h ∷ foundPosition := σ headPosition ∷ consumerPhase := 6 ∷ []) 6 _
+        consumer-goes z σ γ good (early σ e (omega arith)) (foundRecord := suc h ∷ foundPosition := σ headPosition ∷ consumerPhase := 6 ∷ []) 6 _
         ((refl, omega arith), ((refl, omega arith), ((refl, omega arith), tt)))
         refl
         (omega arith)
-        (record { cursor-record = front-words .cursor-record; cursor-position = front-words .cursor-position; found-record = head-fits; found-position = position-fits; item-number = front-words .item-number; item-value = front-words .item-value; steps = front-words .steps })
+        (record { cursor-record = front-words .cursor-record; cursor-position = omega (arith, front-words .cursor-position); found-record = head-fits; found-position = position-fits; item-number = front-words .item-number; item-value = front-words .item-value; steps = front-words .steps })
         (m .cursor, linked)
         (ap (State.found (σ headPosition)) placed)
         (front-found (z .B) (view σ γ) (good .model) seen-front n b))
@@ -145,8 +149,9 @@ module _ (z : Sizes) (σ : Reader) (γ : Ghost) (good : Good z σ γ) where
       let at-end : σ headPosition ≡ z .B * γ .shape .lo = eqb-true (σ headPosition) (z .B * σ (place h)) b ∙ ap (λ (x : ℕ). z .B * x) (placed e h q) in
       by-cond (Fine z σ γ (step 0)) (eqb (σ tailRecord) (suc h)) _ _
       (λ c.
-      answers-empty z σ γ good (not-yet σ e (omega arith)) (ap isBusy (seen-front e h q))
-      (empty-at-head-end (z .B) (view σ γ) (good .model) at-end
+      answers-empty z σ γ good (early σ e (omega arith)) (ap isBusy (seen-front e h q))
+      (λ none.
+      empty-at-head-end (z .B) (view σ γ) (good .model) at-end
       (sym (placed e h q) ∙ tail-record-is z σ γ good h (linked e h q) (eqb-true (σ tailRecord) (suc h) c))))
       (λ c.
       let not-tail : σ (place h) ≢ γ .shape .tp = not-tail-record z σ γ good h (linked e h q) (eqb-false (σ tailRecord) (suc h) c) in

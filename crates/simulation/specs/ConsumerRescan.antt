@@ -1,17 +1,17 @@
 -- Consumer phase 5, the rescan from the head.
 use mathlib.Core.Path.{_≡_, refl, ap, ap₂, sym, _∙_}
 use mathlib.Core.Logic.{_≢_}
-use mathlib.Core.Bool.{cond}
+use mathlib.Core.Bool.{Bool, true, false, cond}
 use mathlib.Core.List.{[], _∷_}
 use Prim.Native.Nat.{ℕ, suc, _*_, _≤_}
 use native.Mathlib.Omega.{arith}
 use lib.Dec.{eqb}
 use borrow.Author.Tests.{eqb-true, eqb-false}
 use Rattle.rules.specs.Sizes.{Sizes}
-use Rattle.rules.specs.Cell.{Reader, _:=_, headRecord, headPosition, consumer, consumerPhase, cursorRecord, cursorPosition, foundRecord, foundPosition, place, state}
+use Rattle.rules.specs.Cell.{Reader, _:=_, headRecord, headPosition, consumer, consumerPhase, cursorRecord, cursorPosition, foundRecord, foundPosition, scanned, drainLimit, place, state}
 use Rattle.rules.specs.Range.{rescanSorts}
 use Rattle.rules.specs.Rule.{goes, upTo, atEnd, index, cross}
-use Rattle.rules.specs.Consumer.{rescanned, rescan}
+use Rattle.rules.specs.Consumer.{throughScan, rescanned, rescan}
 use Rattle.rules.specs.Request.{step}
 use Rattle.model.specs.State
 use Rattle.model.specs.State.{put}
@@ -23,7 +23,7 @@ use Rattle.model.specs.Bounds.{rescanning-crosses, rescanning-inside, rescannin
 use Rattle.memory.specs.Memory.{Memory}
 use Rattle.simulation.specs.View.{Ghost, placesOf, placeOf, view}
 use Rattle.simulation.specs.Good.{Good, Fine, by-need, by-cond, by-up-to}
-use Rattle.simulation.specs.Told.{not-yet}
+use Rattle.simulation.specs.Told.{early}
 use Rattle.simulation.specs.Rows.{ConsumerWords}
 use Rattle.simulation.specs.Entries.{by-inside, slot-state}
 use Rattle.simulation.specs.ConsumerCursor.{head-most, position-most, linked-most, some-record, stays, placed, linked, at-end, entry-slot}
@@ -52,15 +52,23 @@ module _ (z : Sizes) (σ : Reader) (γ : Ghost) (good : Good z σ γ) (e : σ co
   room : suc (σ cursorPosition) ≤ z .M
   room = omega (arith, rescanning-below-tail (z .B) (view σ γ) (good .model) _ _ _ _ seen, tail-fits z σ γ good)
 
+  -- whether a drain came through the scan
+  flag : throughScan z σ ≤ 1
+  flag = go (eqb (σ drainLimit) 0)
+    where
+      go : (b : Bool) → cond b 0 1 ≤ 1
+      go true = omega arith
+      go false = omega arith
+
   -- The cursor comes to found.
   comes-to-found : Invariant (z .B) (withConsumer (view σ γ) (State.found (σ foundPosition) g))
-      → Fine z σ γ (step 0) (goes (cursorRecord := 0 ∷ cursorPosition := 0 ∷ consumerPhase := 6 ∷ []))
+      → Fine z σ γ (step 0) (goes (cursorRecord := 0 ∷ scanned := throughScan z σ ∷ consumerPhase := 6 ∷ []))
   comes-to-found model =
-      consumer-goes z σ γ good (not-yet σ e (omega arith)) (cursorRecord := 0 ∷ cursorPosition := 0 ∷ consumerPhase := 6 ∷ []) 6 _
+      consumer-goes z σ γ good (early σ e (omega arith)) (cursorRecord := 0 ∷ scanned := throughScan z σ ∷ consumerPhase := 6 ∷ []) 6 _
       ((refl, omega arith), ((refl, omega arith), ((refl, omega arith), tt)))
       refl
       (omega arith)
-      (record { cursor-record = refl; cursor-position = refl; found-record = words .found-record; found-position = words .found-position; item-number = words .item-number; item-value = words .item-value; steps = words .steps })
+      (record { cursor-record = refl; cursor-position = flag; found-record = words .found-record; found-position = words .found-position; item-number = words .item-number; item-value = words .item-value; steps = words .steps })
       (tt, m .found)
       refl
       model
@@ -82,7 +90,7 @@ module _ (z : Sizes) (σ : Reader) (γ : Ghost) (good : Good z σ γ) (e : σ co
       (rescan-cross-done (z .B) (view σ γ) (good .model) _ _ _ _ (σ (place r)) seen end′ (omega (arith, placed z σ γ good r q)) (λ p l h. absurd (omega arith))
       (eqb-true (z .B * σ (place r)) (σ foundPosition) b)))
       (λ b.
-      consumer-goes z σ γ good (not-yet σ e (omega arith)) (cursorRecord := suc n ∷ cursorPosition := z .B * σ (place r) ∷ []) 5 _
+      consumer-goes z σ γ good (early σ e (omega arith)) (cursorRecord := suc n ∷ cursorPosition := z .B * σ (place r) ∷ []) 5 _
       ((refl, omega arith), ((refl, omega arith), tt))
       e
       (omega arith)
@@ -102,19 +110,19 @@ module _ (z : Sizes) (σ : Reader) (γ : Ghost) (good : Good z σ γ) (e : σ co
   finds r q n p =
       by-cond (Fine z σ γ (step 0)) (eqb (σ headPosition) (σ cursorPosition)) _ _
       (λ b.
-      consumer-goes z σ γ good (not-yet σ e (omega arith))
-      (foundRecord := suc r ∷ foundPosition := σ cursorPosition ∷ cursorRecord := 0 ∷ cursorPosition := 0 ∷ consumerPhase := 6 ∷ [])
+      consumer-goes z σ γ good (early σ e (omega arith))
+      (foundRecord := suc r ∷ foundPosition := σ cursorPosition ∷ cursorRecord := 0 ∷ scanned := throughScan z σ ∷ consumerPhase := 6 ∷ [])
       6
       _
       ((refl, omega arith), ((refl, omega arith), ((refl, omega arith), ((refl, omega arith), ((refl, omega arith), tt)))))
       refl
       (omega arith)
-      (record { cursor-record = refl; cursor-position = refl; found-record = linked-most z σ γ good r (linked z σ γ good r q); found-position = words .cursor-position; item-number = words .item-number; item-value = words .item-value; steps = words .steps })
+      (record { cursor-record = refl; cursor-position = flag; found-record = linked-most z σ γ good r (linked z σ γ good r q); found-position = words .cursor-position; item-number = words .item-number; item-value = words .item-value; steps = words .steps })
       (tt, linked z σ γ good r q)
       (ap (State.found (σ cursorPosition)) (sym (placed z σ γ good r q)))
       (rescan-front (z .B) (view σ γ) (good .model) _ _ _ _ seen n p (sym (eqb-true (σ headPosition) (σ cursorPosition) b))))
       (λ b.
-      consumer-goes z σ γ good (not-yet σ e (omega arith))
+      consumer-goes z σ γ good (early σ e (omega arith))
       (foundRecord := suc r ∷ foundPosition := σ cursorPosition ∷ cursorRecord := σ headRecord ∷ cursorPosition := σ headPosition ∷ [])
       5
       _
@@ -139,7 +147,7 @@ module _ (z : Sizes) (σ : Reader) (γ : Ghost) (good : Good z σ γ) (e : σ co
       comes-to-found
       (rescan-done (z .B) (view σ γ) (good .model) _ _ _ _ seen n p (eqb-true (suc (σ cursorPosition)) (σ foundPosition) b)))
       (λ b.
-      consumer-goes z σ γ good (not-yet σ e (omega arith)) (cursorPosition := suc (σ cursorPosition) ∷ []) 5 _ ((refl, omega arith), tt) e (omega arith)
+      consumer-goes z σ γ good (early σ e (omega arith)) (cursorPosition := suc (σ cursorPosition) ∷ []) 5 _ ((refl, omega arith), tt) e (omega arith)
       (record { cursor-record = words .cursor-record; cursor-position = room; found-record = words .found-record; found-position = words .found-position; item-number = words .item-number; item-value = words .item-value; steps = words .steps })
       (m .cursor, m .found)
       (stays z σ γ good 5 e (suc (σ cursorPosition)) _ _ _ _)

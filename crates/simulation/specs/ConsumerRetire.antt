@@ -1,21 +1,24 @@
 -- The move past the end of the head record, which phases 1 and 8 share, and phase 8.
-use mathlib.Core.Path.{_≡_, refl, ap, sym, _∙_, subst, fun-ext}
-use mathlib.Core.Bool.{Bool, true, cond, false≢true}
+use mathlib.Core.Path.{_≡_, refl, ap, ap₂, sym, _∙_, subst, fun-ext}
+use mathlib.Core.Logic.{_⊎_, inl, inr, _≢_}
+use mathlib.Core.Bool.{Bool, true, _&&_, _||_, cond, and-false, false≢true}
 use mathlib.Core.List.{List, [], _∷_, _++_}
 use Prim.Native.Nat.{ℕ, zero, suc, _+_, _*_, _≤_, _<_}
 use native.Mathlib.Omega.{arith}
 use lib.Dec.{eqb}
+use borrow.Author.Tests.{ne-eqb, eqb-true, eqb-false}
 use Rattle.history.specs.Lists.{All}
-use Rattle.history.specs.Event.{gaveItem}
-use Rattle.criterion.specs.Late.{Late, withdrawn}
+use Rattle.history.specs.Event.{History, gaveItem, withdrawn}
+use Rattle.criterion.specs.Late.{Late}
 use Rattle.criterion.specs.Settle.{settled-formed}
 use Rattle.rules.specs.Sizes.{Sizes}
-use Rattle.rules.specs.Cell.{Cell, content, lastClaimed, spare, consumer, producer, part, entry, Reader, Write, clearConsumer, headRecord, headPosition, consumerPhase, cursorRecord, foundRecord, itemNumber, itemValue, place, used, state}
-use Rattle.rules.specs.Update.{after}
-use Rattle.rules.specs.Range.{number, record-number}
-use Rattle.rules.specs.Rule.{Effect, going, item, reply}
-use Rattle.rules.specs.Consumer.{moveHead, retireHead}
+use Rattle.rules.specs.Cell.{Cell, content, lastClaimed, spare, consumer, producer, part, entry, drain, pair, Reader, Area, ofConsumer, ofDrain, Write, _:=_, clearConsumer, tail, headRecord, headPosition, consumerPhase, cursorRecord, foundRecord, foundPosition, itemNumber, itemValue, scanned, drainLimit, drainCount, place, used, state}
+use Rattle.rules.specs.Update.{areaOf, update, after, neither, areaTouched, other-area, OtherKind, other-kind, Own}
+use Rattle.rules.specs.Range.{number, record-number, retiringSorts}
+use Rattle.rules.specs.Rule.{Effect, Reply, ok, started, going, ended, empty, item, drained}
+use Rattle.rules.specs.Consumer.{itemsMarked, byCall, repliesItem, goesOn, moveHead, retireHead}
 use Rattle.rules.specs.Request.{step}
+use Rattle.rules.specs.Play.{drainEnded, recorded}
 use Rattle.rules.specs.Readback.{WriteThere}
 use Rattle.rules.specs.InRange.{InSort, writes-keep-range}
 use Rattle.model.specs.State
@@ -23,15 +26,18 @@ use Rattle.model.specs.State.{resting}
 use Rattle.model.specs.Invariant.{ConsumerOk}
 use Rattle.model.specs.Moves
 use Rattle.model.specs.Dequeues.{consumer-clause}
+use Rattle.model.specs.Threads.{consumer-goes-on}
 use Rattle.model.specs.Scanning.{retire-head}
 use Rattle.model.specs.Settling.{settle-keeps}
 use Rattle.memory.specs.Memory.{Memory}
 use Rattle.memory.specs.Retiring.{retireWrites, retire-keeps}
 use Rattle.simulation.specs.View.{Ghost, consumerOf, view, codeOf}
-use Rattle.simulation.specs.Good.{Good, Goes, Fine, untold, places-stay, by-need}
-use Rattle.simulation.specs.Rows.{of-sort, has-sort}
+use Rattle.simulation.specs.Good.{Good, Goes, Fine, untold, told, places-stay, by-need, by-cond}
+use Rattle.simulation.specs.Told.{gone-on, still-pending, none-pending}
+use Rattle.simulation.specs.Rows.{of-sort, has-sort, ConsumerWords, consumer-row-of}
+use Rattle.simulation.specs.DrainWords.{drain-in}
 use Rattle.simulation.specs.OwnWords.{later, consumer-keeps-good}
-use Rattle.simulation.specs.ConsumerSteps.{consumer-at, head-record-linked, head-record-placed, by-cross, resting-in-range}
+use Rattle.simulation.specs.ConsumerSteps.{cleared, consumer-words, consumer-at, head-record-linked, head-record-placed, by-cross, resting-in-range, none-counted, drain-cleared, settledWith, settled-is}
 
 -- what stands beside the store when the head record is retired
 abbrev retired : Ghost → Ghost
@@ -108,7 +114,7 @@ module _ (z : Sizes) (σ : Reader) (γ : Ghost) (good : Good z σ γ) where
       move-keeps =
           record {
             sizes = good .sizes;
-            range = writes-keep-range z 0 σ moved in-sort (good .range) (λ x. good .range .consuming) (λ l. absurd (omega arith));
+            range = writes-keep-range z 0 σ moved in-sort (good .range) (λ x. (good .range .consuming, good .range .draining)) (λ l. absurd (omega arith));
             memory = retire-keeps z σ (γ .shape) m (z .B * lo) more no-cursor no-found handled;
             agrees =
                 record {
@@ -119,7 +125,7 @@ module _ (z : Sizes) (σ : Reader) (γ : Ghost) (good : Good z σ γ) where
                 };
             model = retire-head (z .B) (view σ γ) (good .model) lo (omega arith) more (λ p l b. absurd (omega arith)) ok;
             formed = good .formed;
-            pending = good .pending;
+            pending = still-pending σ (after σ moved) (γ .history) [] tt (record { words = λ k. refl; counts = λ k. refl; pairs = λ x k. refl }) (good .pending);
           }
 
       -- 1 at the record's end. (What was told is as before: the phase stays.)
@@ -129,67 +135,198 @@ module _ (z : Sizes) (σ : Reader) (γ : Ghost) (good : Good z σ γ) where
             there = there;
             next = retired γ;
             good = move-keeps;
-            grown = refl;
+            grown = sym (gone-on σ (after σ moved) (told σ (γ .history)) refl);
             moved = places-stay z 0 σ γ (retired γ) moved in-sort (λ r. refl) (omega arith) (omega arith) (omega arith) (λ l. absurd (omega arith));
           }
 
--- the consumer's words cleared before the move or after it
-cleared-first : (σ : Reader) (h n p : ℕ) → after σ (clearConsumer ∷ retireWrites h n p) ≡ after σ (retireWrites h n p ++ (clearConsumer ∷ []))
-cleared-first σ h n p = fun-ext each
-  where
-    each : (c : Cell) → after σ (clearConsumer ∷ retireWrites h n p) c ≡ after σ (retireWrites h n p ++ (clearConsumer ∷ [])) c
-    each (content k) = refl
-    each lastClaimed = refl
-    each (spare k) = refl
-    each (consumer k) = refl
-    each (producer t k) = refl
-    each (part r k) = refl
-    each (entry r i k) = refl
+-- The move writes neither the consumer's words nor the drain area's: so it does not matter whether it comes before or after writes of those.
+abbrev NotMoved : Write → Type 0
+NotMoved w = (areaTouched w ≡ ofConsumer) ⊎ (areaTouched w ≡ ofDrain)
 
--- 8. The move and retirement of phase 1. Reply item.
-module _ (z : Sizes) (σ : Reader) (γ : Ghost) (good : Good z σ γ) (e : σ consumerPhase ≡ 8) where
-  is-untold : untold σ ≡ true
-  is-untold = ap (λ (p : ℕ). eqb p 8) e
+not-in : (w : Write) → NotMoved w → (a : Area) → OtherKind ofConsumer a → OtherKind ofDrain a → areaTouched w ≡ a → ⊥
+not-in w (inl e) a p q x = other-kind ofConsumer a p (sym e ∙ x)
+not-in w (inr e) a p q x = other-kind ofDrain a q (sym e ∙ x)
 
-  late : Late (σ itemNumber) (σ itemValue) (γ .history) (withdrawn (γ .history))
-  late = good .pending is-untold
+own-leaves-all : (σ : Reader) (ws : List Write) → All NotMoved ws → (c : Cell) → OtherKind ofConsumer (areaOf c) → OtherKind ofDrain (areaOf c) → after σ ws c ≡ σ c
+own-leaves-all σ [] own c p q = refl
+own-leaves-all σ (w ∷ ws) own c p q = own-leaves-all (update σ w) ws (own .1) c p q ∙ other-area σ w c (not-in w (own .0) (areaOf c) p q)
 
-  drained : (σ headPosition ≡ z .B * γ .shape .lo) × (γ .shape .lo < γ .shape .tp)
-  drained = consumer-clause (z .B) (view σ γ) (good .model) State.retiring (consumer-at z σ γ good 8 e)
-
-  -- the item's end is told, and the consumer rests
-  abbrev settled : Ghost
-  settled = later γ (gaveItem (σ itemNumber) (σ itemValue) ∷ withdrawn (γ .history))
-
-  settles : Good z (after σ (clearConsumer ∷ [])) settled
-  settles =
-      consumer-keeps-good z σ γ good (clearConsumer ∷ []) ((refl, omega arith), tt) resting (settled .history)
-      (resting-in-range z σ γ good (after σ (clearConsumer ∷ [])) (λ k. refl))
-      (tt, tt)
-      refl
-      (settle-keeps (z .B) (view σ γ) (good .model) (good .formed) late)
-      (settled-formed late (good .formed))
-      (λ x. absurd (false≢true x))
-
-  leaves : Goes z σ γ (step 0) (item (σ itemNumber) (σ itemValue)) (moved z σ γ good ++ (clearConsumer ∷ []))
-  leaves =
-      record {
-        there = let w = there z σ γ good (drained .0) (drained .1) in (w .0, (w .1 .0, (w .1 .1 .0, (tt, tt))));
-        next = retired settled;
-        good =
-            subst (λ (τ : Reader). Good z τ (retired settled)) (cleared-first σ _ _ _)
-            (move-keeps z (after σ (clearConsumer ∷ [])) settled settles (drained .0) (drained .1) tt refl refl);
-        grown = ap (λ (b : Bool). gaveItem (σ itemNumber) (σ itemValue) ∷ cond b (withdrawn (γ .history)) (γ .history)) (sym is-untold);
-        moved = places-stay z 0 σ γ (retired settled) (moved z σ γ good ++ (clearConsumer ∷ [])) sorted (λ r. refl) (omega arith) (omega arith) (omega arith) (λ l. absurd (omega arith));
-      }
+module _ (h n p : ℕ) where
+  passes-one : (σ : Reader) (w : Write) → NotMoved w → after (update σ w) (retireWrites h n p) ≡ update (after σ (retireWrites h n p)) w
+  passes-one σ w own = fun-ext each
     where
-      sorted : All (InSort z 0) (moved z σ γ good ++ (clearConsumer ∷ []))
-      sorted = let w = in-sort z σ γ good (drained .0) (drained .1) in (w .0, (w .1 .0, (w .1 .1 .0, (refl, tt))))
+      leaves : (τ : Reader) (c : Cell) → OtherKind ofConsumer (areaOf c) → OtherKind ofDrain (areaOf c) → update τ w c ≡ τ c
+      leaves τ c a b = other-area τ w c (not-in w own (areaOf c) a b)
+
+      each : (c : Cell) → after (update σ w) (retireWrites h n p) c ≡ update (after σ (retireWrites h n p)) w c
+      each (content k) = rw (leaves σ (content k) refl refl, leaves (after σ (retireWrites h n p)) (content k) refl refl) refl
+      each lastClaimed = refl
+      each (spare k) = refl
+      each (consumer k) = refl
+      each (producer t k) = refl
+      each (part r k) = rw (leaves σ (part r k) refl refl, leaves (after σ (retireWrites h n p)) (part r k) refl refl) refl
+      each (entry r i k) = refl
+      each (drain k) = refl
+      each (pair i k) = refl
+
+  moved-last : (σ : Reader) (ws : List Write) → All NotMoved ws → after (after σ ws) (retireWrites h n p) ≡ after σ (retireWrites h n p ++ ws)
+  moved-last σ [] own = refl
+  moved-last σ (w ∷ ws) own = moved-last (update σ w) ws (own .1) ∙ ap (λ (τ : Reader). after τ ws) (passes-one σ w (own .0))
+
+-- 8. The move and retirement of phase 1. Reply item, or as a drain goes on.
+module _ (z : Sizes) (σ : Reader) (γ : Ghost) (good : Good z σ γ) (e : σ consumerPhase ≡ 8) where
+  at-end : (σ headPosition ≡ z .B * γ .shape .lo) × (γ .shape .lo < γ .shape .tp)
+  at-end = consumer-clause (z .B) (view σ γ) (good .model) State.retiring (consumer-at z σ γ good 8 e)
+
+  -- The consumer's own writes leave such a store, with this history; then comes the move.
+  module _ (r : Reply) (ws : List Write) (h : History) (good′ : Good z (after σ ws) (later γ h)) (own : All NotMoved ws)
+      (sorted : All (InSort z 0) ws) (are-there : All (WriteThere z) ws) (same : (c : Cell) → OtherKind ofConsumer (areaOf c) → OtherKind ofDrain (areaOf c) → after σ ws c ≡ σ c)
+      (no-cursor : after σ ws cursorRecord ≡ 0) (no-found : after σ ws foundRecord ≡ 0)
+      (as-seen : ConsumerOk (z .B) (Moves.retireHead (z .B) (view (after σ ws) (later γ h)) (γ .shape .lo)) (consumerOf (after σ ws)))
+      (grown : told (after σ ws) h ≡ recorded (step 0) σ (after σ ws) r (told σ (γ .history))) where
+    abbrev last : List Write
+    last = moved z σ γ good ++ ws
+
+    one-way : after (after σ ws) (moved z σ γ good) ≡ after σ last
+    one-way = moved-last _ _ _ σ ws own
+
+    moves-on : Goes z σ γ (step 0) r last
+    moves-on =
+        record {
+          there = let w = there z σ γ good (at-end .0) (at-end .1) in (w .0, (w .1 .0, (w .1 .1 .0, are-there)));
+          next = retired (later γ h);
+          good =
+              subst (λ (τ : Reader). Good z τ (retired (later γ h))) one-way
+              (move-keeps z (after σ ws) (later γ h) good′ (same headPosition refl refl ∙ at-end .0) (at-end .1) as-seen no-cursor no-found);
+          grown = subst (λ (τ : Reader). told τ h ≡ recorded (step 0) σ τ r (told σ (γ .history))) one-way (by-reply r grown);
+          moved =
+              places-stay z 0 σ γ (retired (later γ h)) last sorted-all
+              (λ x. ap (λ (τ : Reader). τ (place x)) (sym one-way) ∙ same (place x) refl refl)
+              (omega (arith, ap (λ (τ : Reader). τ tail) one-way, same tail refl refl))
+              (omega arith)
+              (omega arith)
+              (λ l. absurd (omega arith));
+        }
+      where
+        sorted-all : All (InSort z 0) last
+        sorted-all = let w = in-sort z σ γ good (at-end .0) (at-end .1) in (w .0, (w .1 .0, (w .1 .1 .0, sorted)))
+
+        by-reply : (r : Reply) → told (after σ ws) h ≡ recorded (step 0) σ (after σ ws) r (told σ (γ .history))
+            → told (after (after σ ws) (moved z σ γ good)) h ≡ recorded (step 0) σ (after (after σ ws) (moved z σ γ good)) r (told σ (γ .history))
+        by-reply ok g = g
+        by-reply (started n) g = g
+        by-reply going g = g
+        by-reply ended g = g
+        by-reply empty g = g
+        by-reply (item n v) g = g
+        by-reply (drained xs) g = g
+
+  -- A dequeue: the item's end is told, and the consumer rests.
+  module _ (none : σ drainLimit ≡ 0) where
+    is-untold : untold σ ≡ true
+    is-untold = ap₂ (λ (p l : ℕ). eqb p 8 && eqb l 0) e none
+
+    late : Late (σ itemNumber) (σ itemValue) (γ .history) (withdrawn (γ .history))
+    late = good .pending .of-dequeue is-untold
+
+    abbrev settled : History
+    settled = gaveItem (σ itemNumber) (σ itemValue) ∷ withdrawn (γ .history)
+
+    settles : Good z (after σ (clearConsumer ∷ [])) (later γ settled)
+    settles =
+        consumer-keeps-good z σ γ good (clearConsumer ∷ []) ((refl, omega arith), tt) resting settled
+        (resting-in-range z σ γ good (after σ (clearConsumer ∷ [])) (λ k. refl))
+        (λ idle. none)
+        (tt, tt)
+        refl
+        (settle-keeps (z .B) (view σ γ) (good .model) (good .formed) late)
+        (settled-formed late (good .formed))
+        (none-pending (after σ (clearConsumer ∷ [])) settled (omega arith) none (none-counted z σ γ good none))
+
+    gives : Goes z σ γ (step 0) (item (σ itemNumber) (σ itemValue)) (moved z σ γ good ++ (clearConsumer ∷ []))
+    gives =
+        moves-on (item (σ itemNumber) (σ itemValue)) (clearConsumer ∷ []) settled settles (inl refl, tt) (refl, tt) (tt, tt)
+        (own-leaves-all σ (clearConsumer ∷ []) (inl refl, tt))
+        refl
+        refl
+        tt
+        (ap (λ (b : Bool). gaveItem (σ itemNumber) (σ itemValue) ∷ cond b (withdrawn (γ .history)) (γ .history)) (sym is-untold))
+
+  -- A drain: all is told.
+  module _ (draining : σ drainLimit ≢ 0) where
+    all-told : told σ (γ .history) ≡ γ .history
+    all-told = rw (ne-eqb (σ drainLimit) 0 draining, and-false (eqb (σ consumerPhase) 8)) refl
+
+    -- it ends: the last item's end moves here
+    ends : (c : ℕ) → σ drainCount ≡ suc c → Goes z σ γ (step 0) (drained (itemsMarked σ (suc c))) (moved z σ γ good ++ cleared)
+    ends c count =
+        let late = good .pending .of-drain c count in
+        moves-on (drained (itemsMarked σ (suc c))) cleared (settledWith z σ γ good c)
+        (drain-cleared z σ γ good (settledWith z σ γ good c) (settled-formed late (good .formed)) (settle-keeps (z .B) (view σ γ) (good .model) (good .formed) late))
+        (inl refl, (inr refl, tt))
+        (refl, (refl, tt))
+        (tt, (tt, tt))
+        (own-leaves-all σ cleared (inl refl, (inr refl, tt)))
+        refl
+        refl
+        tt
+        (sym (settled-is z σ γ good c count) ∙ ap (drainEnded (σ drainCount) (itemsMarked σ (suc c))) (sym all-told))
+
+    -- it goes on from the front
+    abbrev back : List Write
+    back = foundRecord := 0 ∷ foundPosition := 0 ∷ itemNumber := 0 ∷ itemValue := 0 ∷ consumerPhase := 1 ∷ []
+
+    goes-back : σ drainCount ≢ σ drainLimit → σ scanned ≢ 1 → Goes z σ γ (step 0) going (moved z σ γ good ++ back)
+    goes-back more not-scanned =
+        moves-on going back (γ .history)
+        (consumer-keeps-good z σ γ good back own State.front (γ .history)
+        (consumer-row-of z (λ k. after σ back (consumer k)) 1 refl (omega arith)
+        (record { cursor-record = words .cursor-record; cursor-position = omega (arith, words .cursor-position); found-record = refl; found-position = refl; item-number = refl; item-value = refl; steps = words .steps }))
+        (λ idle. absurd (omega arith))
+        (good .memory .cursor, tt)
+        refl
+        (consumer-goes-on (z .B) (view σ γ) (good .model) State.retiring State.front (consumer-at z σ γ good 8 e) refl tt)
+        (good .formed)
+        (record {
+          of-dequeue = λ x. absurd (false≢true x);
+          of-drain = good .pending .of-drain;
+          below = λ l n. omega (arith, drain-in z σ (good .range .draining) .counted);
+          some = λ l x. absurd (omega arith);
+        }))
+        (inl refl, (inl refl, (inl refl, (inl refl, (inl refl, tt)))))
+        (refl, (refl, (refl, (refl, (refl, tt)))))
+        (omega arith, (omega arith, (omega arith, (omega arith, (omega arith, tt)))))
+        (own-leaves-all σ back (inl refl, (inl refl, (inl refl, (inl refl, (inl refl, tt))))))
+        (words .cursor-record)
+        refl
+        tt
+        (sym (gone-on σ (after σ back) (told σ (γ .history)) refl ∙ all-told))
+      where
+        words : ConsumerWords z (λ k. σ (consumer k)) retiringSorts
+        words = consumer-words z σ γ good 8 e
+
+        own : All (Own ofConsumer) back
+        own = ((refl, omega arith), ((refl, omega arith), ((refl, omega arith), ((refl, omega arith), ((refl, omega arith), tt)))))
+
+    goes-on : Fine z σ γ (step 0) (goesOn z σ (σ drainCount) (itemsMarked σ (σ drainCount)) (moved z σ γ good))
+    goes-on =
+        by-cond (Fine z σ γ (step 0)) (eqb (σ drainCount) (σ drainLimit) || eqb (σ scanned) 1) _ _
+        (λ b. by-count (σ drainCount) refl)
+        (λ b.
+        let n = neither (eqb (σ drainCount) (σ drainLimit)) (eqb (σ scanned) 1) b in
+        goes-back (eqb-false (σ drainCount) (σ drainLimit) (n .0)) (eqb-false (σ scanned) 1 (n .1)))
+      where
+        by-count : (c : ℕ) → σ drainCount ≡ c → Goes z σ γ (step 0) (drained (itemsMarked σ c)) (moved z σ γ good ++ cleared)
+        by-count zero none = absurd (good .pending .some draining e none)
+        by-count (suc c) count = ends c count
 
   pub retire-head-fine : Fine z σ γ (step 0) (retireHead z σ)
   unfolding retireHead
   retire-head-fine =
       by-need (Fine z σ γ (step 0)) (σ headRecord) _ (λ x. omega (arith, good .memory .head-is))
       (λ h q.
-      by-move-head z σ γ good (drained .0) (drained .1) (Fine z σ γ (step 0)) h q
-      (λ ws. reply (item (σ itemNumber) (σ itemValue)) (ws ++ (clearConsumer ∷ []))) leaves)
+      by-move-head z σ γ good (at-end .0) (at-end .1) (Fine z σ γ (step 0)) h q
+      (λ ws. byCall z σ (repliesItem z σ ws) (goesOn z σ (σ drainCount) (itemsMarked σ (σ drainCount)) ws))
+      (by-cond (Fine z σ γ (step 0)) (eqb (σ drainLimit) 0) _ _
+      (λ b. gives (eqb-true (σ drainLimit) 0 b))
+      (λ b. goes-on (eqb-false (σ drainLimit) 0 b))))

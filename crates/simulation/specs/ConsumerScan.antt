@@ -22,7 +22,7 @@ use Rattle.model.specs.Bounds.{scanning-reached, scanning-crosses, looking-insi
 use Rattle.memory.specs.Memory.{Memory}
 use Rattle.simulation.specs.View.{Ghost, placesOf, placeOf, view}
 use Rattle.simulation.specs.Good.{Good, Fine, by-need, by-cond, by-up-to}
-use Rattle.simulation.specs.Told.{not-yet}
+use Rattle.simulation.specs.Told.{early}
 use Rattle.simulation.specs.Rows.{ConsumerWords}
 use Rattle.simulation.specs.Entries.{by-inside, slot-state}
 use Rattle.simulation.specs.ConsumerCursor.{head-most, position-most, linked-most, some-record, stays, placed, linked, at-end, entry-slot}
@@ -53,7 +53,7 @@ module _ (z : Sizes) (σ : Reader) (γ : Ghost) (good : Good z σ γ) where
         (rw (placed z σ γ good r q) at (scanning-crosses (z .B) (view σ γ) (good .model) _ _ seen-scanning other))
         fits
         (λ n is u w.
-        consumer-goes z σ γ good (not-yet σ e (omega arith)) (cursorRecord := suc n ∷ cursorPosition := z .B * σ (place r) ∷ []) 3 _
+        consumer-goes z σ γ good (early σ e (omega arith)) (cursorRecord := suc n ∷ cursorPosition := z .B * σ (place r) ∷ []) 3 _
         ((refl, omega arith), ((refl, omega arith), tt))
         e
         (omega arith)
@@ -75,18 +75,20 @@ module _ (z : Sizes) (σ : Reader) (γ : Ghost) (good : Good z σ γ) where
       let end : σ cursorPosition ≡ z .B * σ (place r) = eqb-true (σ cursorPosition) (z .B * σ (place r)) b in
       by-cond (Fine z σ γ (step 0)) (eqb (σ tailRecord) (suc r)) _ _
       (λ c.
-      answers-empty z σ γ good (not-yet σ e (omega arith)) (ap isBusy (seen-scanning e))
-      (empty-scanned-records (z .B) (view σ γ) (good .model) _ _ (seen-scanning e) (at-end z σ γ good r q (σ cursorPosition) end)
+      answers-empty z σ γ good (early σ e (omega arith)) (ap isBusy (seen-scanning e))
+      (λ none.
+      empty-scanned-records (z .B) (view σ γ) (good .model) _ _ (seen-scanning e) (at-end z σ γ good r q (σ cursorPosition) end)
       (placed z σ γ good r q ∙ tail-record-is z σ γ good r (linked z σ γ good r q) (eqb-true (σ tailRecord) (suc r) c))))
       (λ c. crosses e r q end (not-tail-record z σ γ good r (linked z σ γ good r q) (eqb-false (σ tailRecord) (suc r) c))))
       (λ b.
       by-cond (Fine z σ γ (step 0)) (eqb (σ cursorPosition) (σ tail)) _ _
       (λ c.
-      answers-empty z σ γ good (not-yet σ e (omega arith)) (ap isBusy (seen-scanning e))
-      (empty-scanned-tail (z .B) (view σ γ) (good .model) _ _ (seen-scanning e) (eqb-true (σ cursorPosition) (σ tail) c)))
+      answers-empty z σ γ good (early σ e (omega arith)) (ap isBusy (seen-scanning e))
+      (λ none.
+      empty-scanned-tail (z .B) (view σ γ) (good .model) _ _ (seen-scanning e) (eqb-true (σ cursorPosition) (σ tail) c)))
       (λ c.
       let w = cursor-words e in
-      consumer-goes z σ γ good (not-yet σ e (omega arith)) (consumerPhase := 4 ∷ []) 4 _ ((refl, omega arith), tt) refl (omega arith) (record { cursor-record = w .cursor-record; cursor-position = w .cursor-position; found-record = w .found-record; found-position = w .found-position; item-number = w .item-number; item-value = w .item-value; steps = w .steps }) (m .cursor, m .found) refl
+      consumer-goes z σ γ good (early σ e (omega arith)) (consumerPhase := 4 ∷ []) 4 _ ((refl, omega arith), tt) refl (omega arith) (record { cursor-record = w .cursor-record; cursor-position = w .cursor-position; found-record = w .found-record; found-position = w .found-position; item-number = w .item-number; item-value = w .item-value; steps = w .steps }) (m .cursor, m .found) refl
       (scan-look (z .B) (view σ γ) (good .model) _ _ (seen-scanning e)
       (λ x. eqb-false (σ cursorPosition) (z .B * σ (place r)) b (x ∙ ap (λ (y : ℕ). z .B * y) (placed z σ γ good r q)))
       (eqb-false (σ cursorPosition) (σ tail) c)))))
@@ -129,7 +131,7 @@ module _ (z : Sizes) (σ : Reader) (γ : Ghost) (good : Good z σ γ) where
 
       finds : (r : ℕ) → σ cursorRecord ≡ suc r → γ .entry (σ cursorPosition) ≡ put → Fine z σ γ (step 0) (goes (found r))
       finds r q p =
-          consumer-goes z σ γ good (not-yet σ e (omega arith)) (found r) 5 _
+          consumer-goes z σ γ good (early σ e (omega arith)) (found r) 5 _
           ((refl, omega arith), ((refl, omega arith), ((refl, omega arith), ((refl, omega arith), ((refl, omega arith), tt)))))
           refl
           (omega arith)
@@ -142,7 +144,7 @@ module _ (z : Sizes) (σ : Reader) (γ : Ghost) (good : Good z σ γ) where
       passes n =
           let room : suc (σ cursorPosition) ≤ z .M = omega (arith, looking-below-tail (z .B) (view σ γ) (good .model) _ _ seen, tail-fits z σ γ good) in
           by-up-to (Fine z σ γ (step 0)) (z .M) (suc (σ cursorPosition)) _ room
-          (consumer-goes z σ γ good (not-yet σ e (omega arith)) (cursorPosition := suc (σ cursorPosition) ∷ consumerPhase := 3 ∷ []) 3 _
+          (consumer-goes z σ γ good (early σ e (omega arith)) (cursorPosition := suc (σ cursorPosition) ∷ consumerPhase := 3 ∷ []) 3 _
           ((refl, omega arith), ((refl, omega arith), tt))
           refl
           (omega arith)

@@ -1,36 +1,41 @@
--- What the consumer's steps share: its words by its phase, the records it stands in, and the empty answer.
-use mathlib.Core.Path.{_≡_, refl, ap, sym, _∙_}
+-- What the consumer's steps share: its words by its phase, the records it stands in, and the empty answer, where a drain ends too.
+use mathlib.Core.Path.{_≡_, refl, ap, sym, _∙_, subst⁻¹}
 use mathlib.Core.Logic.{_≢_}
 use mathlib.Core.Bool.{true, false}
 use mathlib.Core.List.{List, [], _∷_}
-use Prim.Native.Nat.{ℕ, suc, _*_, _≤_, _<_}
+use Prim.Native.Nat.{ℕ, zero, suc, _*_, _≤_, _<_}
 use native.Mathlib.Omega.{arith}
 use lib.Dec.{eqb}
-use lib.ListN.{getD}
-use borrow.Author.Tests.{eqb-true, eqb-false}
+use lib.ListN.{length, getD}
+use borrow.Author.Tests.{eq-eqb, eqb-true, eqb-false}
 use Rattle.history.specs.Lists.{All}
-use Rattle.history.specs.Event.{History, gaveEmpty}
+use Rattle.history.specs.Event.{History, gaveItem, gaveEmpty, withdrawn}
 use Rattle.history.specs.Form.{wellFormed}
+use Rattle.history.specs.Linearization.{Item}
 use Rattle.criterion.specs.Growth.{dequeue-may-be-empty}
+use Rattle.criterion.specs.Settle.{settled-formed}
 use Rattle.rules.specs.Sizes.{Sizes}
-use Rattle.rules.specs.Cell.{Reader, Write, clearConsumer, consumer, consumerPhase, cursorRecord, cursorPosition, foundRecord, foundPosition, itemNumber, itemValue, tail, tailRecord, headRecord, place, next, used, ofConsumer}
-use Rattle.rules.specs.Update.{after, Own}
-use Rattle.rules.specs.Range.{number, consumerSorts, consumerInRange}
-use Rattle.rules.specs.Rule.{Effect, Reply, going, empty, cross}
-use Rattle.rules.specs.Consumer.{byState, endsEmpty}
-use Rattle.rules.specs.Request.{step}
+use Rattle.rules.specs.Cell.{Reader, Write, clearConsumer, clearDrain, consumer, drain, pair, drainLimit, drainCount, pairNumber, pairValue, consumerPhase, cursorRecord, cursorPosition, foundRecord, foundPosition, itemNumber, itemValue, tail, tailRecord, headRecord, place, next, used, ofConsumer}
+use Rattle.rules.specs.Update.{after, Own, own-leaves}
+use Rattle.rules.specs.Range.{number, consumerSorts, consumerInRange, drainInRange}
+use Rattle.rules.specs.Rule.{Effect, Reply, going, empty, drained, cross}
+use Rattle.rules.specs.Consumer.{byState, pairAt, itemsMarked, endsEmpty}
+use Rattle.rules.specs.Request.{Request, step}
+use Rattle.rules.specs.Play.{threadOf, drainEnded}
 use Rattle.rules.specs.Readback.{WriteThere}
 use Rattle.rules.specs.InRange.{InSort, writes-keep-range}
 use Rattle.model.specs.State.{Entry, blank, put, gone, Consumer, resting}
 use Rattle.model.specs.Invariant.{Invariant, isBusy}
 use Rattle.model.specs.Moves.{withConsumer, answerEmpty}
+use Rattle.model.specs.Settling.{settle-keeps}
 use Rattle.memory.specs.Memory.{rowOf, Linked}
 use Rattle.memory.specs.Light.{Light, consumer-keeps}
 use Rattle.simulation.specs.View.{Ghost, placesOf, placeOf, consumerAt, consumerOf, view, codeOf, AgreesWith}
-use Rattle.simulation.specs.Good.{Good, Goes, Fine, untold, Tells, places-stay, by-need, by-up-to}
-use Rattle.simulation.specs.Told.{tells-kept, not-yet}
+use Rattle.simulation.specs.Good.{Good, Pending, told, Goes, Fine, Moved, Tells, places-stay, by-need, by-cond, by-up-to}
+use Rattle.simulation.specs.Told.{Early, early, told-early, tells-going, none-pending, tells-end}
+use Rattle.simulation.specs.DrainWords.{drain-in, drain-from, no-drain, marked-length, ended-with}
 use Rattle.simulation.specs.Rows.{has-sort, ConsumerWords, consumer-row-has, consumer-row-of}
-use Rattle.simulation.specs.OwnWords.{consumer-own}
+use Rattle.simulation.specs.OwnWords.{withHistory, later, consumer-own}
 
 -- an entry's state by cases
 pub by-state : (P : Effect → Type 0) (x : ℕ) (e : Entry) (a b c : Effect) → x ≡ codeOf e
@@ -47,6 +52,14 @@ is-set x gone q b = absurd (omega (arith, eqb-true x 1 b))
 
 pub is-not-set : (x : ℕ) (e : Entry) → x ≡ codeOf e → eqb x 1 ≡ false → e ≡ put → ⊥
 is-not-set x e q b p = eqb-false x 1 b (q ∙ ap codeOf p)
+
+-- what stands beside the store, with other entries and another history
+abbrev pub withEntries : Ghost → (ℕ → Entry) → History → Ghost
+withEntries γ entries h = record { shape = γ .shape; entry = entries; owner = γ .owner; content = γ .content; history = h }
+
+-- zero into the words that a drain used
+abbrev pub cleared : List Write
+cleared = clearConsumer ∷ clearDrain ∷ []
 
 module _ (z : Sizes) (σ : Reader) (γ : Ghost) (good : Good z σ γ) where
   -- the consumer's words 1 to 7, by its phase
@@ -124,59 +137,153 @@ module _ (z : Sizes) (σ : Reader) (γ : Ghost) (good : Good z σ γ) where
       consumer-row-of z (λ k. σ′ (consumer k)) 0 (none 0) (omega arith)
       (record { cursor-record = none 1; cursor-position = none 2; found-record = none 3; found-position = none 4; item-number = none 5; item-value = none 6; steps = none 7 })
 
-  -- The dequeue answers empty.
-  pub answers-empty : untold σ ≡ false → isBusy (view σ γ .consumer) ≡ true → Invariant (z .B) (answerEmpty (view σ γ)) → Fine z σ γ (step 0) endsEmpty
-  answers-empty early busy model =
-      consumer-own z σ γ good (clearConsumer ∷ []) ((refl, omega arith), tt) (step 0) refl empty resting (gaveEmpty ∷ γ .history)
-      (resting-in-range (after σ (clearConsumer ∷ [])) (λ k. refl))
-      (tt, tt)
-      refl
-      model
-      (dequeue-may-be-empty (γ .history) (good .formed) (good .model .calls .of-consumer ∙ busy))
-      (tells-kept σ (after σ (clearConsumer ∷ [])) (step 0) empty (γ .history) (gaveEmpty ∷ γ .history) early refl refl)
-
   -- A step of the consumer that writes its own words alone, and goes on to phase p.
-  pub consumer-goes : untold σ ≡ false → (ws : List Write) (p : ℕ) (x : Consumer) → All (Own ofConsumer) ws → after σ ws consumerPhase ≡ p → p < 8
+  pub consumer-goes : Early σ → (ws : List Write) (p : ℕ) (x : Consumer) → All (Own ofConsumer) ws → after σ ws consumerPhase ≡ p → (1 ≤ p) × (p < 8)
       → ConsumerWords z (λ k. after σ ws (consumer k)) (getD consumerSorts p [])
       → Linked σ (after σ ws cursorRecord) × Linked σ (after σ ws foundRecord)
       → consumerOf (after σ ws) ≡ x
       → Invariant (z .B) (withConsumer (view σ γ) x)
       → Goes z σ γ (step 0) going ws
-  consumer-goes early ws p x own phase l row linked seen model =
-      consumer-own z σ γ good ws own (step 0) refl going x (γ .history) (consumer-row-of z (λ k. after σ ws (consumer k)) p phase (omega arith) row) linked seen model
+  consumer-goes before ws p x own phase l row linked seen model =
+      consumer-own z σ γ good ws own (step 0) refl going x (γ .history) (consumer-row-of z (λ k. after σ ws (consumer k)) p phase (omega arith) row)
+      (λ idle. absurd (omega arith))
+      linked
+      seen
+      model
       (good .formed)
-      (tells-kept σ (after σ ws) (step 0) going (γ .history) (γ .history) early (not-yet (after σ ws) phase l) refl)
+      (tells-going σ (after σ ws) (step 0) (γ .history) before (early (after σ ws) phase (l .1)) (λ k. own-leaves ofConsumer σ ws own (drain k) refl)
+      (λ i k. own-leaves ofConsumer σ ws own (pair i k) refl)
+      (good .pending))
 
   -- A step of the consumer that writes none of the records' words outside the entries, nor the head record.
-  pub consumer-light : (r : Reply) (ws : List Write) (entries : ℕ → Entry) (h : History)
-      → let γ′ : Ghost = record { shape = γ .shape; entry = entries; owner = γ .owner; content = γ .content; history = h } in
-      All (InSort z 0) ws
+  pub light-keeps : (ws : List Write) (entries : ℕ → Entry) (h : History)
+      → All (InSort z 0) ws
+      → Light σ (after σ ws)
+      → ((u k : ℕ) → rowOf (after σ ws) u k ≡ rowOf σ u k)
+      → (after σ ws tailRecord ≡ σ tailRecord) × (after σ ws headRecord ≡ σ headRecord)
+      → (consumerInRange z (after σ ws) ≡ true) × (drainInRange z (after σ ws) ≡ true)
+      → Linked σ (after σ ws cursorRecord) × Linked σ (after σ ws foundRecord)
+      → AgreesWith (z .B) (after σ ws) (withEntries γ entries h)
+      → Invariant (z .B) (view (after σ ws) (withEntries γ entries h))
+      → wellFormed h ≡ true
+      → Pending (after σ ws) h
+      → Good z (after σ ws) (withEntries γ entries h)
+  light-keeps ws entries h in-sort light rows ends in-row linked agrees model formed pending =
+      record {
+        sizes = good .sizes;
+        range = writes-keep-range z 0 σ ws in-sort (good .range) (λ e. in-row) (λ l. absurd (omega arith));
+        memory = consumer-keeps z σ (after σ ws) (γ .shape) (good .memory) light rows (ends .0) (ends .1) (linked .0) (linked .1);
+        agrees = agrees;
+        model = model;
+        formed = formed;
+        pending = pending;
+      }
+
+  pub consumer-light : (q : Request) → threadOf q ≡ 0 → (r : Reply) (ws : List Write) (entries : ℕ → Entry) (h : History)
+      → All (InSort z 0) ws
       → All (WriteThere z) ws
       → Light σ (after σ ws)
       → ((u k : ℕ) → rowOf (after σ ws) u k ≡ rowOf σ u k)
       → (after σ ws tailRecord ≡ σ tailRecord) × (after σ ws headRecord ≡ σ headRecord)
-      → consumerInRange z (after σ ws) ≡ true
+      → (consumerInRange z (after σ ws) ≡ true) × (drainInRange z (after σ ws) ≡ true)
       → Linked σ (after σ ws cursorRecord) × Linked σ (after σ ws foundRecord)
-      → AgreesWith (z .B) (after σ ws) γ′
-      → Invariant (z .B) (view (after σ ws) γ′)
+      → AgreesWith (z .B) (after σ ws) (withEntries γ entries h)
+      → Invariant (z .B) (view (after σ ws) (withEntries γ entries h))
       → wellFormed h ≡ true
-      → Tells σ (after σ ws) (step 0) r (γ .history) h
+      → Tells σ (after σ ws) q r (γ .history) h
       → σ tail ≤ after σ ws tail
-      → Goes z σ γ (step 0) r ws
-  consumer-light r ws entries h in-sort there light rows ends in-row linked agrees model formed tells grows =
+      → Goes z σ γ q r ws
+  consumer-light q of r ws entries h in-sort there light rows ends in-row linked agrees model formed tells grows =
       record {
         there = there;
-        next = record { shape = γ .shape; entry = entries; owner = γ .owner; content = γ .content; history = h };
-        good =
-            record {
-              sizes = good .sizes;
-              range = writes-keep-range z 0 σ ws in-sort (good .range) (λ e. in-row) (λ l. absurd (omega arith));
-              memory = consumer-keeps z σ (after σ ws) (γ .shape) (good .memory) light rows (ends .0) (ends .1) (linked .0) (linked .1);
-              agrees = agrees;
-              model = model;
-              formed = formed;
-              pending = tells .pending;
-            };
+        next = withEntries γ entries h;
+        good = light-keeps ws entries h in-sort light rows ends in-row linked agrees model formed (tells .pending);
         grown = tells .grown;
-        moved = places-stay z 0 σ γ _ ws in-sort (λ x. light .parts x 0) grows (omega arith) (omega arith) (λ l. absurd (omega arith));
+        moved =
+            subst⁻¹ (λ (t : ℕ). Moved t σ (after σ ws) γ (withEntries γ entries h)) of
+            (places-stay z 0 σ γ (withEntries γ entries h) ws in-sort (λ x. light .parts x 0) grows (omega arith) (omega arith) (λ l. absurd (omega arith)));
       }
+
+  -- The consumer's words and the drain area are then zero.
+  pub record AllZero (ws : List Write) : Type 0 where
+    pub words : (k : ℕ) → after σ ws (consumer k) ≡ 0
+    pub limit : after σ ws drainLimit ≡ 0
+    pub count : after σ ws drainCount ≡ 0
+    pub pairs : (i k : ℕ) → after σ ws (pair i k) ≡ 0
+
+  pub zero-in-range : (ws : List Write) → AllZero ws → (consumerInRange z (after σ ws) ≡ true) × (drainInRange z (after σ ws) ≡ true)
+  zero-in-range ws none = (
+    resting-in-range (after σ ws) (none .words),
+    drain-from z (after σ ws) (no-drain z (after σ ws) (none .limit) (none .count) (none .pairs)),
+  )
+
+  -- No drain is under way: nothing is counted.
+  pub none-counted : σ drainLimit ≡ 0 → σ drainCount ≡ 0
+  none-counted none = omega (arith, drain-in z σ (good .range .draining) .counted)
+
+  -- The consumer rests after a drain.
+  pub drain-cleared : (h : History) → wellFormed h ≡ true → Invariant (z .B) (withHistory (withConsumer (view σ γ) resting) h) → Good z (after σ cleared) (later γ h)
+  drain-cleared h formed model =
+      light-keeps cleared (γ .entry) h (refl, (refl, tt)) (record { parts = λ x k. refl; entries = λ x u i k. refl }) (λ u k. refl) (refl, refl)
+      (zero-in-range cleared (record { words = λ k. refl; limit = refl; count = refl; pairs = λ i k. refl }))
+      (tt, tt)
+      (good .agrees)
+      model
+      formed
+      (none-pending (after σ cleared) h (omega arith) refl refl)
+
+  -- The history in which the end of a drain's last item, pair c, moves here.
+  abbrev pub settledWith : (c : ℕ) → History
+  settledWith c = gaveItem (σ (pairNumber c)) (σ (pairValue c)) ∷ withdrawn (γ .history)
+
+  pub settled-is : (c : ℕ) → σ drainCount ≡ suc c → drainEnded (σ drainCount) (itemsMarked σ (suc c)) (γ .history) ≡ settledWith c
+  settled-is c e =
+      ended-with (σ drainCount) (itemsMarked σ c) (pairAt σ c) (γ .history)
+      ∙ rw (eq-eqb (suc (length (itemsMarked σ c))) (σ drainCount) (ap suc (marked-length σ c) ∙ sym e)) refl
+
+  -- A dequeue answers empty, and a drain ends with what it has marked. If that is nothing, the answer empty is fine.
+  module _ (before : told σ (γ .history) ≡ γ .history) (busy : isBusy (view σ γ .consumer) ≡ true) where
+    dequeue-ends : σ drainLimit ≡ 0 → Invariant (z .B) (answerEmpty (view σ γ)) → Goes z σ γ (step 0) empty (clearConsumer ∷ [])
+    dequeue-ends none model =
+        consumer-own z σ γ good (clearConsumer ∷ []) ((refl, omega arith), tt) (step 0) refl empty resting (gaveEmpty ∷ γ .history)
+        (resting-in-range (after σ (clearConsumer ∷ [])) (λ k. refl))
+        (λ idle. none)
+        (tt, tt)
+        refl
+        model
+        (dequeue-may-be-empty (γ .history) (good .formed) (good .model .calls .of-consumer ∙ busy))
+        (tells-end σ (after σ (clearConsumer ∷ [])) (step 0) empty (γ .history) (gaveEmpty ∷ γ .history) before (omega arith) none (none-counted none) refl)
+
+    drain-ends : (xs : List Item) (h : History) → h ≡ drainEnded (σ drainCount) xs (γ .history) → wellFormed h ≡ true
+        → Invariant (z .B) (withHistory (withConsumer (view σ γ) resting) h)
+        → Goes z σ γ (step 0) (drained xs) cleared
+    drain-ends xs h is formed model =
+        record {
+          there = (tt, (tt, tt));
+          next = later γ h;
+          good = drain-cleared h formed model;
+          grown = is ∙ ap (drainEnded (σ drainCount) xs) (sym before);
+          moved = places-stay z 0 σ γ (later γ h) cleared (refl, (refl, tt)) (λ x. refl) (omega arith) (omega arith) (omega arith) (λ l. absurd (omega arith));
+        }
+
+    -- the last item's end is told here
+    drain-settles : (c : ℕ) → σ drainCount ≡ suc c → Goes z σ γ (step 0) (drained (itemsMarked σ (suc c))) cleared
+    drain-settles c e =
+        let late = good .pending .of-drain c e in
+        drain-ends (itemsMarked σ (suc c)) (settledWith c) (sym (settled-is c e)) (settled-formed late (good .formed))
+        (settle-keeps (z .B) (view σ γ) (good .model) (good .formed) late)
+
+    ends-fine : (σ drainCount ≡ 0 → Invariant (z .B) (answerEmpty (view σ γ))) → Fine z σ γ (step 0) (endsEmpty z σ)
+    ends-fine model =
+        by-cond (Fine z σ γ (step 0)) (eqb (σ drainLimit) 0) _ _
+        (λ b. let none : σ drainLimit ≡ 0 = eqb-true (σ drainLimit) 0 b in dequeue-ends none (model (none-counted none)))
+        (λ b. by-count (σ drainCount) refl)
+      where
+        by-count : (c : ℕ) → σ drainCount ≡ c → Goes z σ γ (step 0) (drained (itemsMarked σ c)) cleared
+        by-count zero e =
+            drain-ends [] (gaveEmpty ∷ γ .history) refl (dequeue-may-be-empty (γ .history) (good .formed) (good .model .calls .of-consumer ∙ busy)) (model e)
+        by-count (suc c) e = drain-settles c e
+
+  pub answers-empty : Early σ → isBusy (view σ γ .consumer) ≡ true → (σ drainCount ≡ 0 → Invariant (z .B) (answerEmpty (view σ γ)))
+      → Fine z σ γ (step 0) (endsEmpty z σ)
+  answers-empty before = ends-fine (told-early σ before (γ .history))

@@ -15,7 +15,7 @@ use Rattle.rules.specs.Range.{record-number, consumerSorts, producerSorts, last
 use Rattle.rules.specs.Rule.{Effect, refuse}
 use Rattle.rules.specs.Producer.{producerRules, producerStep}
 use Rattle.rules.specs.Consumer.{consumerRules, consumerStep}
-use Rattle.rules.specs.Request.{Request, startEnqueue, startDequeue, step, startingEnqueue, startingDequeue, phaseStep, stepping, effect}
+use Rattle.rules.specs.Request.{Request, startEnqueue, startDequeue, startDrain, step, startingEnqueue, startingDequeue, startingDrain, phaseStep, stepping, effect}
 use Rattle.memory.specs.Loose.{LooseChoice, next-free-loose}
 use Rattle.simulation.specs.View.{Ghost}
 use Rattle.simulation.specs.Good.{Good, Fine, by-cond}
@@ -34,6 +34,7 @@ use Rattle.simulation.specs.ConsumerItem.{read-item-fine, mark-handled-f
 abbrev pub effectTaking : (c : ℕ) → Request → Sizes → Reader → Effect
 effectTaking c (startEnqueue t v) z σ = startingEnqueue t v z σ
 effectTaking c startDequeue z σ = startingDequeue z σ
+effectTaking c (startDrain n) z σ = startingDrain n z σ
 effectTaking c (step t) z σ = stepping c t z σ
 
 -- The rules take the next free one.
@@ -41,6 +42,7 @@ pub effect-is : (q : Request) (z : Sizes) (σ : Reader) → effect q z σ ≡ ef
 unfolding effect
 effect-is (startEnqueue t v) z σ = refl
 effect-is startDequeue z σ = refl
+effect-is (startDrain n) z σ = refl
 effect-is (step t) z σ = refl
 
 module _ (z : Sizes) (σ : Reader) (γ : Ghost) (good : Good z σ γ) where

@@ -1,26 +1,26 @@
 -- What holds of a store that only the engine has written: its words are in range, its records are in order, and the position
 -- machine that it stands for keeps its invariant over the history that is kept.
 --
--- Kept and told. In phase 8 an item is marked and not yet told. The kept history has its end, and a dequeue opened there; what was told
--- has neither. In every other phase they are the same.
+-- Kept and told. In phase 8 of a dequeue an item is marked and not yet told. The kept history has its end, and a dequeue opened there; what
+-- was told has neither. Everywhere else they are the same: a drain's item ends at its mark, and the next dequeue begins there.
 use mathlib.Core.Path.{_≡_, refl, sym}
 use mathlib.Core.Logic.{_⊎_, inl, inr, _≢_}
-use mathlib.Core.Bool.{Bool, true, false, cond}
+use mathlib.Core.Bool.{Bool, true, false, _&&_, cond}
 use mathlib.Core.List.{List, _++_}
 use Prim.Native.Nat.{ℕ, zero, suc, _≤_, _<_}
 use native.Mathlib.Omega.{arith}
 use lib.Dec.{eqb}
 use borrow.Author.Tests.{le-leb}
 use Rattle.history.specs.Lists.{All}
-use Rattle.history.specs.Event.{History}
+use Rattle.history.specs.Event.{History, withdrawn}
 use Rattle.history.specs.Form.{wellFormed}
-use Rattle.criterion.specs.Late.{Late, withdrawn}
+use Rattle.criterion.specs.Late.{Late}
 use Rattle.rules.specs.Sizes.{Sizes, sizesInRange}
-use Rattle.rules.specs.Cell.{Cell, Reader, Write, tail, headPosition, consumerPhase, threadPhase, itemNumber, itemValue, place}
+use Rattle.rules.specs.Cell.{Cell, Reader, Write, tail, headPosition, consumerPhase, threadPhase, itemNumber, itemValue, drainLimit, drainCount, pairNumber, pairValue, place}
 use Rattle.rules.specs.Update.{areaOf, after}
 use Rattle.rules.specs.Rule.{Effect, refuse, reply, need, upTo}
-use Rattle.rules.specs.Request.{Request, startEnqueue, startDequeue, step}
-use Rattle.rules.specs.Play.{threadOf, replyEvents}
+use Rattle.rules.specs.Request.{Request, startEnqueue, startDequeue, startDrain, step}
+use Rattle.rules.specs.Play.{threadOf, recorded}
 use Rattle.rules.specs.Readback.{WriteThere}
 use Rattle.rules.specs.InRange.{InSort, OtherThread, others-untouched, InRange}
 use Rattle.model.specs.State.{gone}
@@ -30,15 +30,20 @@ use Rattle.simulation.specs.View.{Ghost, placesOf, placeOf, view, Agrees
 
 -- an item is marked and not yet told
 abbrev pub untold : Reader → Bool
-untold σ = eqb (σ consumerPhase) 8
+untold σ = eqb (σ consumerPhase) 8 && eqb (σ drainLimit) 0
 
 -- What was told, of the kept history g.
 abbrev pub told : Reader → History → History
 told σ g = cond (untold σ) (withdrawn g) g
 
--- the item that is not yet told is the last one given in the kept history, and since then there were enqueue events alone
-abbrev pub Pending : Reader → History → Type 0
-Pending σ g = untold σ ≡ true → Late (σ itemNumber) (σ itemValue) g (withdrawn g)
+-- What is pending: the item that is not yet told, and the last one that a drain has marked. It is the last one given in the kept history,
+-- where a dequeue was opened after it, and since then there were enqueue events alone.
+pub record Pending (σ : Reader) (g : History) : Type 0 where
+  pub of-dequeue : untold σ ≡ true → Late (σ itemNumber) (σ itemValue) g (withdrawn g)
+  pub of-drain : (c : ℕ) → σ drainCount ≡ suc c → Late (σ (pairNumber c)) (σ (pairValue c)) g (withdrawn g)
+  -- a drain ends where its limit is reached, at the mark or in phase 8, which a mark leads to
+  pub below : σ drainLimit ≢ 0 → σ consumerPhase ≢ 8 → σ drainCount < σ drainLimit
+  pub some : σ drainLimit ≢ 0 → σ consumerPhase ≡ 8 → σ drainCount ≢ 0
 
 pub record Good (z : Sizes) (σ : Reader) (γ : Ghost) : Type 0 where
   pub sizes : sizesInRange z ≡ true
@@ -91,22 +96,25 @@ places-stay z t σ γ γ′ ws in-sort places a b c behind =
     held zero = refl
     held (suc r) = places r
 
--- What a call says: what was told grows by the events of its reply.
+-- What a call says: what was told is then the history with its reply.
 pub record Tells (σ σ′ : Reader) (q : Request) (r : Rattle.rules.specs.Rule.Reply) (g g′ : History) : Type 0 where
   pub pending : Pending σ′ g′
-  pub grown : told σ′ g′ ≡ replyEvents q (told σ g) r ++ told σ g
+  pub grown : told σ′ g′ ≡ recorded q σ σ′ r (told σ g)
 
--- The refusals that are left on such a store: of a start 4 to 6; of a step 4 for a thread that is not there, 7 for an idle one, and 8 for an
+-- The refusals that are left on such a store: of a start 4 to 6, and 14; of a step 4 for a thread that is not there, 7 for an idle one, and 8 for an
 -- enqueue.
 abbrev pub Refusable : Sizes → Reader → Request → ℕ → Type 0
 Refusable z σ (startEnqueue t v) n = (4 ≤ n) × (n ≤ 6)
 Refusable z σ startDequeue n = n ≡ 5
+Refusable z σ (startDrain l) n = (n ≡ 5) ⊎ (n ≡ 14)
 Refusable z σ (step t) n = ((n ≡ 4) × (z .P < t)) ⊎ (((n ≡ 7) × (σ (threadPhase t) ≡ 0)) ⊎ ((n ≡ 8) × (1 ≤ t)))
 
 -- none of them is 3 or 9
 pub none-of-3-and-9 : (z : Sizes) (σ : Reader) (q : Request) (n : ℕ) → Refusable z σ q n → (n ≢ 3) × (n ≢ 9)
 none-of-3-and-9 z σ (startEnqueue t v) n r = ((λ e. omega arith), (λ e. omega arith))
 none-of-3-and-9 z σ startDequeue n r = ((λ e. omega arith), (λ e. omega arith))
+none-of-3-and-9 z σ (startDrain l) n (inl r) = ((λ e. omega arith), (λ e. omega arith))
+none-of-3-and-9 z σ (startDrain l) n (inr r) = ((λ e. omega arith), (λ e. omega arith))
 none-of-3-and-9 z σ (step t) n (inl r) = ((λ e. omega arith), (λ e. omega arith))
 none-of-3-and-9 z σ (step t) n (inr (inl r)) = ((λ e. omega arith), (λ e. omega arith))
 none-of-3-and-9 z σ (step t) n (inr (inr r)) = ((λ e. omega arith), (λ e. omega arith))
@@ -116,7 +124,7 @@ pub record Goes (z : Sizes) (σ : Reader) (γ : Ghost) (q : Request) (r : Rattle
   pub there : All (WriteThere z) ws
   pub next : Ghost
   pub good : Good z (after σ ws) next
-  pub grown : told (after σ ws) (next .history) ≡ replyEvents q (told σ (γ .history)) r ++ told σ (γ .history)
+  pub grown : told (after σ ws) (next .history) ≡ recorded q σ (after σ ws) r (told σ (γ .history))
   pub moved : Moved (threadOf q) σ (after σ ws) γ next
 
 abbrev pub Fine : (z : Sizes) (σ : Reader) (γ : Ghost) → Request → Effect → Type 0

@@ -2,6 +2,7 @@ pub mod View
 pub mod Good
 pub mod Told
 pub mod Rows
+pub mod DrainWords
 pub mod Limits
 pub mod ProducerSteps
 pub mod RecordSteps

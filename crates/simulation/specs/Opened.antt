@@ -1,7 +1,7 @@
 -- An opened store, whatever the words held before.
 use mathlib.Core.Path.{_≡_, refl, ap, sym, _∙_, fun-ext}
 use mathlib.Core.Logic.{⊎-elim}
-use mathlib.Core.Bool.{Bool, true, false, cond, false≢true}
+use mathlib.Core.Bool.{Bool, true, false, cond}
 use mathlib.Core.List.{List, [], _++_}
 use Prim.Native.Nat.{ℕ, zero, suc, _+_, _≤_, _<_}
 use native.Mathlib.Omega.{arith}
@@ -10,7 +10,7 @@ use lib.ListN.{length, getD, drop, replicate, length-append, length-replicate, g
 use borrow.Author.Tests.{eqb-true}
 use Rattle.history.specs.Lists.{All}
 use Rattle.rules.specs.Sizes.{Sizes, sizesInRange, mostPlace, storeWords}
-use Rattle.rules.specs.Cell.{Cell, content, lastClaimed, spare, consumer, producer, part, entry, Reader, reader, there, address, used}
+use Rattle.rules.specs.Cell.{Cell, content, lastClaimed, spare, consumer, producer, part, entry, drain, pair, Reader, reader, there, address, used}
 use Rattle.rules.specs.Update.{after}
 use Rattle.rules.specs.Range.{number, link, most, any, ofSort, contentSorts, lastClaimedSort, spareSorts, partSorts, entrySorts}
 use Rattle.rules.specs.Request.{openWrites, opened}
@@ -24,6 +24,8 @@ use Rattle.simulation.specs.View.{Ghost}
 use Rattle.simulation.specs.Good.{Good}
 use Rattle.simulation.specs.Limits.{Limits, limits}
 use Rattle.simulation.specs.Rows.{OfSorts, of-sort, of-sorts}
+use Rattle.simulation.specs.DrainWords.{drain-from, no-drain}
+use Rattle.simulation.specs.Told.{none-pending}
 
 -- every cell of a store of zeros is zero
 zero-words : (z : Sizes) (m : List ℕ) → reader z (replicate (storeWords z) 0 ++ drop (storeWords z) m) ≡ (λ (c : Cell). 0)
@@ -107,7 +109,7 @@ module _ (z : Sizes) (sizes : sizesInRange z ≡ true) where
   no-spare (suc (suc (suc (suc k)))) = refl
 
   open-range : InRange z (openReader z)
-  open-range = record { words = words; consuming = refl; producing = λ t a b. refl }
+  open-range = record { words = words; consuming = refl; producing = λ t a b. refl; draining = drain-from z (openReader z) (no-drain z (openReader z) refl refl (λ i k. refl)) }
     where
       contents : OfSorts z (λ j. openReader z (content j)) 0 (contentSorts z)
       contents =
@@ -132,6 +134,8 @@ module _ (z : Sizes) (sizes : sizesInRange z ≡ true) where
       words (producer t k) h = refl
       words (part r k) h = first-part r k
       words (entry r i k) h = no-entry k
+      words (drain k) h = refl
+      words (pair i k) h = refl
 
   -- use 2 is record 0's alone
   only-first : (x : ℕ) → openReader z (used x) ≡ 2 → x ≡ 0
@@ -175,5 +179,5 @@ module _ (z : Sizes) (sizes : sizesInRange z ≡ true) where
         agrees = record { states = λ k i a b s. refl; numbers = λ k i a b s. refl; values = λ k i a b s. refl; fresh = λ p h. refl };
         model = initial-keeps (z .B);
         formed = refl;
-        pending = λ e. absurd (false≢true e);
+        pending = none-pending (openReader z) [] (omega arith) refl refl;
       }

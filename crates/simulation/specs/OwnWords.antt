@@ -8,10 +8,10 @@ use Rattle.history.specs.Lists.{All}
 use Rattle.history.specs.Event.{History}
 use Rattle.history.specs.Form.{wellFormed}
 use Rattle.rules.specs.Sizes.{Sizes}
-use Rattle.rules.specs.Cell.{Cell, content, lastClaimed, spare, consumer, producer, part, entry, Reader, Area, contents, ofConsumer, ofProducer, ofRecord, Write, _:=_, clear, tailRecord, headRecord, cursorRecord, foundRecord, tail, headPosition, starts, place}
+use Rattle.rules.specs.Cell.{Cell, content, lastClaimed, spare, consumer, producer, part, entry, drain, pair, Reader, Area, contents, ofConsumer, ofProducer, ofRecord, ofDrain, Write, _:=_, clear, tailRecord, headRecord, consumerPhase, cursorRecord, foundRecord, drainLimit, drainCount, tail, headPosition, starts, place}
 use Rattle.rules.specs.Update.{areaOf, after, OtherKind, other-kind, Own, own-leaves}
 use Rattle.rules.specs.Address.{AreaThere}
-use Rattle.rules.specs.Range.{producerInRange, consumerInRange}
+use Rattle.rules.specs.Range.{producerInRange, consumerInRange, drainInRange}
 use Rattle.rules.specs.Rule.{Reply}
 use Rattle.rules.specs.Request.{Request, step}
 use Rattle.rules.specs.Play.{threadOf, replyEvents}
@@ -26,6 +26,7 @@ use Rattle.memory.specs.Light.{consumer-keeps}
 use Rattle.simulation.specs.View.{Ghost, placesOf, placeOf, producerOf, producersOf, consumerFrom, consumerOf, view, Agrees, cellOf}
 use Rattle.simulation.specs.Good.{Good, Goes, Moved, Pending, Tells, places-stay}
 use Rattle.simulation.specs.Told.{ToEnqueue}
+use Rattle.simulation.specs.DrainWords.{drain-in, drain-from, same-in}
 use Rattle.simulation.specs.RecordSteps.{seen-as}
 use Rattle.simulation.specs.ProducerSteps.{producers-after, producer-goes}
 
@@ -35,12 +36,13 @@ pub record Thread (z : Sizes) (t : ℕ) (a : Area) : Type 0 where
   pub is-there : AreaThere z a
   pub no-contents : OtherKind contents a
   pub no-record : (r : ℕ) → OtherKind (ofRecord r) a
+  pub no-drain : OtherKind ofDrain a
 
 pub a-consumer : (z : Sizes) → Thread z 0 ofConsumer
-a-consumer z = record { in-sort = refl; is-there = tt; no-contents = refl; no-record = λ r. refl }
+a-consumer z = record { in-sort = refl; is-there = tt; no-contents = refl; no-record = λ r. refl; no-drain = refl }
 
 pub of-producer : (z : Sizes) (t : ℕ) → (1 ≤ t) × (t ≤ z .P) → Thread z t (ofProducer t)
-of-producer z t h = record { in-sort = refl; is-there = h; no-contents = refl; no-record = λ r. refl }
+of-producer z t h = record { in-sort = refl; is-there = h; no-contents = refl; no-record = λ r. refl; no-drain = refl }
 
 -- Its words are in range and there.
 pub own-sorted : (z : Sizes) (t : ℕ) (a : Area) → Thread z t a → (w : Write) → Own a w → InSort z t w × WriteThere z w
@@ -53,6 +55,8 @@ own-sorted z t a th (producer u k := v) h =
     (subst⁻¹ (λ (b : Area). InSort z t (clear b)) (h .0) (th .in-sort), (is .0, is .1, h .1))
 own-sorted z t a th (part r k := v) h = absurd (other-kind (ofRecord r) a (th .no-record r) (h .0))
 own-sorted z t a th (entry r i k := v) h = absurd (other-kind (ofRecord r) a (th .no-record r) (h .0))
+own-sorted z t a th (drain k := v) h = absurd (other-kind ofDrain a (th .no-drain) (h .0))
+own-sorted z t a th (pair i k := v) h = absurd (other-kind ofDrain a (th .no-drain) (h .0))
 own-sorted z t a th (clear b) h =
     (subst⁻¹ (λ (x : Area). InSort z t (clear x)) (h .0) (th .in-sort), subst⁻¹ (AreaThere z) (h .0) (th .is-there))
 
@@ -144,18 +148,26 @@ module _ (z : Sizes) (σ : Reader) (γ : Ghost) (good : Good z σ γ) where
     in-sort : All (InSort z 0) ws
     in-sort = own-in-sort z 0 ofConsumer (a-consumer z) ws own
 
+    -- the drain area stays in range, if no drain is under way where the consumer is then idle
+    drain-stays : (after σ ws consumerPhase ≡ 0 → σ drainLimit ≡ 0) → drainInRange z (after σ ws) ≡ true
+    drain-stays idle =
+        drain-from z (after σ ws)
+        (same-in z σ (after σ ws) (after σ ws consumerPhase) (same (drain 0) refl) (same (drain 1) refl) (λ i k. same (pair i k) refl) refl idle
+        (drain-in z σ (good .range .draining)))
+
     pub consumer-keeps-good : (x : Consumer) (h : History)
         → consumerInRange z (after σ ws) ≡ true
+        → (after σ ws consumerPhase ≡ 0 → σ drainLimit ≡ 0)
         → Linked σ (after σ ws cursorRecord) × Linked σ (after σ ws foundRecord)
         → consumerOf (after σ ws) ≡ x
         → Invariant (z .B) (withHistory (withConsumer (view σ γ) x) h)
         → wellFormed h ≡ true
         → Pending (after σ ws) h
         → Good z (after σ ws) (later γ h)
-    consumer-keeps-good x h in-row linked seen model formed pending =
+    consumer-keeps-good x h in-row idle linked seen model formed pending =
         record {
           sizes = good .sizes;
-          range = writes-keep-range z 0 σ ws in-sort (good .range) (λ e. in-row) (λ l. absurd (omega arith));
+          range = writes-keep-range z 0 σ ws in-sort (good .range) (λ e. (in-row, drain-stays idle)) (λ l. absurd (omega arith));
           memory =
               consumer-keeps z σ (after σ ws) (γ .shape) (good .memory)
               (record { parts = λ y k. same (part y k) refl; entries = λ y n i k. same (entry y i k) refl })
@@ -175,17 +187,18 @@ module _ (z : Sizes) (σ : Reader) (γ : Ghost) (good : Good z σ γ) where
 
     pub consumer-own : (q : Request) → threadOf q ≡ 0 → (r : Reply) (x : Consumer) (h : History)
         → consumerInRange z (after σ ws) ≡ true
+        → (after σ ws consumerPhase ≡ 0 → σ drainLimit ≡ 0)
         → Linked σ (after σ ws cursorRecord) × Linked σ (after σ ws foundRecord)
         → consumerOf (after σ ws) ≡ x
         → Invariant (z .B) (withHistory (withConsumer (view σ γ) x) h)
         → wellFormed h ≡ true
         → Tells σ (after σ ws) q r (γ .history) h
         → Goes z σ γ q r ws
-    consumer-own q of r x h in-row linked seen model formed tells =
+    consumer-own q of r x h in-row idle linked seen model formed tells =
         record {
           there = own-there z 0 ofConsumer (a-consumer z) ws own;
           next = later γ h;
-          good = consumer-keeps-good x h in-row linked seen model formed (tells .pending);
+          good = consumer-keeps-good x h in-row idle linked seen model formed (tells .pending);
           grown = tells .grown;
           moved =
               subst⁻¹ (λ (t : ℕ). Moved t σ (after σ ws) γ (later γ h)) of

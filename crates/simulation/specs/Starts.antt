@@ -1,21 +1,21 @@
--- The starts: an accepted start enqueue and an accepted start dequeue.
-use mathlib.Core.Path.{_≡_, refl, ap, _∙_}
-use mathlib.Core.Logic.{_≢_}
-use mathlib.Core.Bool.{true, _||_, not}
+-- The starts: an accepted start enqueue, start dequeue and start drain.
+use mathlib.Core.Path.{_≡_, refl, ap, sym, _∙_}
+use mathlib.Core.Logic.{inl, inr, _≢_}
+use mathlib.Core.Bool.{true, _&&_, _||_, not, cond, false≢true}
 use mathlib.Core.List.{List, [], _∷_}
 use Prim.Native.Nat.{ℕ, suc, _≤_}
 use native.Mathlib.Omega.{arith}
-use lib.Dec.{eqb, ltb}
-use borrow.Author.Tests.{eq-eqb, eqb-true, eqb-false, ltb-false, not-false}
+use lib.Dec.{eqb, ltb, leb}
+use borrow.Author.Tests.{eq-eqb, ne-eqb, eqb-true, eqb-false, ltb-false, leb-true, not-false}
 use Rattle.history.specs.Lists.{All}
-use Rattle.history.specs.Event.{enqueueStarted, dequeueStarted}
+use Rattle.history.specs.Event.{History, enqueueStarted, dequeueStarted}
 use Rattle.criterion.specs.Growth.{enqueue-may-start, dequeue-may-start}
-use Rattle.rules.specs.Sizes.{Sizes}
-use Rattle.rules.specs.Cell.{Reader, Write, _:=_, starts, consumer, consumerPhase, phase, call, value}
-use Rattle.rules.specs.Update.{after, neither}
-use Rattle.rules.specs.Range.{number, idleSorts}
+use Rattle.rules.specs.Sizes.{Sizes, between, mostDrained}
+use Rattle.rules.specs.Cell.{Reader, Write, _:=_, starts, consumer, consumerPhase, drainLimit, drainCount, phase, call, value}
+use Rattle.rules.specs.Update.{after, both, neither}
+use Rattle.rules.specs.Range.{number, idleSorts, consumerInRange}
 use Rattle.rules.specs.Rule.{ok, started}
-use Rattle.rules.specs.Request.{startEnqueue, startDequeue, startingEnqueue, startingDequeue}
+use Rattle.rules.specs.Request.{startEnqueue, startDequeue, startDrain, startingEnqueue, startingDequeue, startingDrain}
 use Rattle.rules.specs.InRange.{InSort}
 use Rattle.model.specs.State
 use Rattle.model.specs.State.{callOf}
@@ -27,12 +27,13 @@ use Rattle.memory.specs.OtherThreads.{others-kept}
 use Rattle.memory.specs.Light.{producer-keeps}
 use Rattle.simulation.specs.View.{Ghost, view}
 use Rattle.simulation.specs.Good.{Good, Goes, Fine, by-cond, places-stay}
-use Rattle.simulation.specs.Told.{tells-kept, not-yet}
+use Rattle.simulation.specs.Told.{early, told-early, tells-end}
+use Rattle.simulation.specs.DrainWords.{DrainIn, drain-in, drain-from}
 use Rattle.simulation.specs.Rows.{of-sort, has-sort, ProducerWords, producer-row-of, consumer-row-of}
 use Rattle.simulation.specs.ProducerSteps.{as-seen, producers-after, unclaimed, own-words, seen-at}
 use Rattle.simulation.specs.OwnWords.{later, consumer-own}
 use Rattle.simulation.specs.RecordSteps.{record-goes}
-use Rattle.simulation.specs.ConsumerSteps.{consumer-words, consumer-at}
+use Rattle.simulation.specs.ConsumerSteps.{consumer-words, consumer-at, consumer-light, none-counted}
 
 module _ (z : Sizes) (σ : Reader) (γ : Ghost) (good : Good z σ γ) where
   -- the writes of a start enqueue
@@ -102,6 +103,27 @@ module _ (z : Sizes) (σ : Reader) (γ : Ghost) (good : Good z σ γ) where
       let p : t ≢ 0 = eqb-false t 0 (there .0) in
       starts-enqueue t v (omega arith, ltb-false (z .P) t (there .1)) (eqb-true (σ (phase t)) 0 (not-false (eqb (σ (phase t)) 0) c)) (omega arith))))
 
+  -- An idle consumer has no drain, and its words are zero; in phase 1 they are in range too.
+  none : σ consumerPhase ≡ 0 → σ drainLimit ≡ 0
+  none e = drain-in z σ (good .range .draining) .idle e
+
+  other-word : (k : ℕ) → 1 ≤ k → (x : ℕ) → cond (eqb 0 k && (true && true)) 1 x ≡ x
+  other-word k l x = rw (ne-eqb 0 k (λ e. omega arith)) refl
+
+  begun-in-range : σ consumerPhase ≡ 0 → (τ : Reader) → τ consumerPhase ≡ 1 → ((k : ℕ) → 1 ≤ k → τ (consumer k) ≡ σ (consumer k)) → consumerInRange z τ ≡ true
+  begun-in-range e τ one same =
+      let words = consumer-words z σ γ good 0 e in
+      consumer-row-of z (λ k. τ (consumer k)) 1 one (omega arith)
+      (record {
+        cursor-record = same 1 (omega arith) ∙ words .cursor-record;
+        cursor-position = same 2 (omega arith) ∙ words .cursor-position;
+        found-record = same 3 (omega arith) ∙ words .found-record;
+        found-position = same 4 (omega arith) ∙ words .found-position;
+        item-number = same 5 (omega arith) ∙ words .item-number;
+        item-value = same 6 (omega arith) ∙ words .item-value;
+        steps = omega (arith, same 7 (omega arith), words .steps);
+      })
+
   -- *Start dequeue*.
   pub start-dequeue-fine : Fine z σ γ startDequeue (startingDequeue z σ)
   unfolding startingDequeue
@@ -110,11 +132,62 @@ module _ (z : Sizes) (σ : Reader) (γ : Ghost) (good : Good z σ γ) where
       (λ b. refl)
       (λ b.
       let e : σ consumerPhase ≡ 0 = eqb-true (σ consumerPhase) 0 (not-false (eqb (σ consumerPhase) 0) b) in
-      let words = consumer-words z σ γ good 0 e in
       consumer-own z σ γ good (consumerPhase := 1 ∷ []) ((refl, omega arith), tt) startDequeue refl ok State.front (dequeueStarted ∷ γ .history)
-      (consumer-row-of z (λ k. after σ (consumerPhase := 1 ∷ []) (consumer k)) 1 refl (omega arith) (record { cursor-record = words .cursor-record; cursor-position = words .cursor-position; found-record = words .found-record; found-position = words .found-position; item-number = words .item-number; item-value = words .item-value; steps = omega (arith, words .steps) }))
+      (begun-in-range e (after σ (consumerPhase := 1 ∷ [])) refl (λ k l. same-words k l))
+      (λ idle. absurd (omega arith))
       (good .memory .cursor, good .memory .found)
       refl
       (begin-dequeue (z .B) (view σ γ) (good .model))
       (dequeue-may-start (γ .history) (good .formed) (good .model .calls .of-consumer ∙ ap isBusy (consumer-at z σ γ good 0 e)))
-      (tells-kept σ (after σ (consumerPhase := 1 ∷ [])) startDequeue ok (γ .history) (dequeueStarted ∷ γ .history) (not-yet σ e (omega arith)) refl refl))
+      (tells-end σ (after σ (consumerPhase := 1 ∷ [])) startDequeue ok (γ .history) (dequeueStarted ∷ γ .history) (told-early σ (early σ e (omega arith)) (γ .history)) (omega arith) (none e) (none-counted z σ γ good (none e)) refl))
+    where
+      same-words : (k : ℕ) → 1 ≤ k → after σ (consumerPhase := 1 ∷ []) (consumer k) ≡ σ (consumer k)
+      same-words k l = other-word k l (σ (consumer k))
+
+  -- *Start drain* (limit).
+  starts-drain : (n : ℕ) → (1 ≤ n) × (n ≤ mostDrained) → σ consumerPhase ≡ 0 → Goes z σ γ (startDrain n) ok (drainLimit := n ∷ consumerPhase := 1 ∷ [])
+  starts-drain n l e =
+      consumer-light z σ γ good (startDrain n) refl ok ws (γ .entry) (dequeueStarted ∷ γ .history) (refl, (refl, tt)) (omega arith, (omega arith, tt))
+      (record { parts = λ x k. refl; entries = λ x u i k. refl })
+      (λ u k. refl)
+      (refl, refl) (
+        begun-in-range e (after σ ws) refl (λ k h. other-word k h (σ (consumer k))),
+        drain-from z (after σ ws)
+            (record { most = l .1; idle = λ idle. absurd (omega arith); counted = omega (arith, count); kept = area .kept; others = area .others }),
+      )
+      (good .memory .cursor, good .memory .found)
+      (good .agrees)
+      (begin-dequeue (z .B) (view σ γ) (good .model))
+      (dequeue-may-start (γ .history) (good .formed) (good .model .calls .of-consumer ∙ ap isBusy (consumer-at z σ γ good 0 e)))
+      (record {
+        pending =
+            record {
+              of-dequeue = λ x. absurd (false≢true x);
+              of-drain = λ c x. absurd (omega (arith, count));
+              below = λ x y. omega (arith, count, l .0);
+              some = λ x y. absurd (omega arith);
+            };
+        grown = ap (λ (h : History). dequeueStarted ∷ h) (sym (told-early σ (early σ e (omega arith)) (γ .history)));
+      })
+      (omega arith)
+    where
+      ws : List Write
+      ws = drainLimit := n ∷ consumerPhase := 1 ∷ []
+
+      count : σ drainCount ≡ 0
+      count = none-counted z σ γ good (none e)
+
+      area : DrainIn z σ
+      area = drain-in z σ (good .range .draining)
+
+  pub start-drain-fine : (n : ℕ) → Fine z σ γ (startDrain n) (startingDrain n z σ)
+  unfolding startingDrain
+  start-drain-fine n =
+      by-cond (Fine z σ γ (startDrain n)) (not (eqb (σ consumerPhase) 0)) _ _
+      (λ b. inl refl)
+      (λ b.
+      by-cond (Fine z σ γ (startDrain n)) (not (between 1 mostDrained n)) _ _
+      (λ c. inr refl)
+      (λ c.
+      let p = both (leb 1 n) (leb n mostDrained) (not-false (between 1 mostDrained n) c) in
+      starts-drain n (leb-true 1 n (p .0), leb-true n mostDrained (p .1)) (eqb-true (σ consumerPhase) 0 (not-false (eqb (σ consumerPhase) 0) b))))

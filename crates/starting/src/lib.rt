@@ -1,6 +1,8 @@
-// *Start enqueue* and *start dequeue* (document 01, "Calls"), on admitted words.
+// *Start enqueue*, *start dequeue* (document 01, "Calls") and *start drain* (document 02, U5), on admitted words.
 ghost use mathlib.Core.Path.{_≡_};
-ghost use Rattle.rules.specs.Request.{startingEnqueue, startingDequeue};
+ghost use lib.Dec.{eqb};
+ghost use Rattle.rules.specs.Cell.{reader, consumerPhase};
+ghost use Rattle.rules.specs.Request.{startingEnqueue, startingDequeue, startingDrain};
 ghost use Rattle.store.specs.Shape.{sizes};
 ghost use Rattle.store.specs.Outcome.{left, does};
 ghost use Rattle.store.specs.Store.{Admitted};
@@ -9,10 +11,12 @@ use store::Shape;
 use store::phase;
 use store::put_consumer;
 use store::put_content;
+use store::put_drain;
 use store::put_producer;
 use store::read_consumer;
 use store::read_contents;
 use store::read_producer;
+use store::size;
 use store::word;
 
 // *Start enqueue* on admitted words: call number starts + 1, phase 1.
@@ -40,14 +44,41 @@ pub fn begin_enqueue(s: &mut [u32], z: Shape, t: u32, v: u32) -> Reply
     Reply::Started(starts + 1)
 }
 
+// Whether the consumer has no call under way.
+fn is_idle(s: &[u32], z: Shape) -> bool
+    requires { ⌜ Admitted (sizes z) (now s) ⌝ }
+    ensures { λ idle. ⌜ eqb (reader (sizes z) (now (s .entry)) consumerPhase) 0 ≡ idle ⌝ }
+{
+    read_consumer(s, z).phase == phase::IDLE
+}
+
 // *Start dequeue* on admitted words puts the consumer in phase 1.
 pub fn begin_dequeue(s: &mut [u32], z: Shape) -> Reply
     requires { ⌜ Admitted (sizes z) (now s) ⌝ }
     ensures { λ r. ⌜ left r (now (s .exit)) ≡ does startingDequeue z (now (s .entry)) ⌝ }
 {
-    if read_consumer(s, z).phase != phase::IDLE {
+    if !is_idle(s, z) {
         return Reply::Refused(5);
     }
+    put_consumer(s, z, word::PHASE, phase::FRONT);
+    Reply::Ok
+}
+
+// *Start drain* on admitted words puts the consumer in phase 1 and stores the limit.
+pub fn begin_drain(s: &mut [u32], z: Shape, limit: u32) -> Reply
+    requires { ⌜ Admitted (sizes z) (now s) ⌝ }
+    ensures { λ r. ⌜ left r (now (s .exit)) ≡ does (startingDrain limit) z (now (s .entry)) ⌝ }
+{
+    if !is_idle(s, z) {
+        return Reply::Refused(5);
+    }
+    if limit == 0 {
+        return Reply::Refused(14);
+    }
+    if size::MOST_DRAINED < limit {
+        return Reply::Refused(14);
+    }
+    put_drain(s, z, word::LIMIT, limit);
     put_consumer(s, z, word::PHASE, phase::FRONT);
     Reply::Ok
 }

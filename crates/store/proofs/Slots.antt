@@ -14,7 +14,7 @@ use Rattle.rules.specs.Request.{applied}
 use Rattle.store.specs.declared.Reply.the-variants.{Refused}
 use Rattle.store.specs.declared.Slot.{Slot}
 use Rattle.store.specs.declared.Slot.the-variants.{None, End, At}
-use Rattle.store.specs.Outcome.{left}
+use Rattle.store.specs.Outcome.{left, leaves}
 use Rattle.store.specs.Slot.{StandsEnd, StandsAt, Slotted}
 use Rattle.store.proofs.Slot.{the-type}
 
@@ -39,18 +39,18 @@ module _ {z : Sizes} {m : List ℕ} {l p link position : ℕ} (a : link ≡ l) (
 
   -- not in the record
   pub not-inside : (f : ℕ → Effect) (x : Slot) → Slotted z m l p x → OneOf (0 ∷ 1 ∷ []) (tagOf the-type x)
-      → left (Refused 9) m ≡ applied 0 z m (need link (λ r. cond (within z (reader z m) r position) (f r) (refuse 9)))
+      → left (Refused 9) m ≡ leaves z m (need link (λ r. cond (within z (reader z m) r position) (f r) (refuse 9)))
   unfolding applied
-  not-inside f None s k = rw (a, b) (ap (applied 0 z m) (sym (s .stands .outside f)))
+  not-inside f None s k = rw (a, b) (ap (leaves z m) (sym (s .stands .outside f)))
   not-inside f (End r) s k = rw (a, b, s .stands .link, s .stands .outside) refl
   not-inside f (At r i) s (inl k) = absurd (omega arith)
   not-inside f (At r i) s (inr k) = absurd (omega arith)
 
   -- neither at the record's end nor in it
   pub nowhere : (f g : ℕ → Effect) (x : Slot) → Slotted z m l p x → OneOf (0 ∷ 2 ∷ []) (tagOf the-type x) → OneOf (0 ∷ 1 ∷ []) (tagOf the-type x)
-      → left (Refused 9) m ≡ applied 0 z m (need link (λ r. cond (atEnd z (reader z m) r position) (f r) (cond (within z (reader z m) r position) (g r) (refuse 9))))
+      → left (Refused 9) m ≡ leaves z m (need link (λ r. cond (atEnd z (reader z m) r position) (f r) (cond (within z (reader z m) r position) (g r) (refuse 9))))
   unfolding applied
-  nowhere f g None s j k = rw (a, b) (ap (applied 0 z m) (sym (s .stands .refused f g)))
+  nowhere f g None s j k = rw (a, b) (ap (leaves z m) (sym (s .stands .refused f g)))
   nowhere f g (End r) s (inl j) k = absurd (omega arith)
   nowhere f g (End r) s (inr j) k = absurd (omega arith)
   nowhere f g (At r i) s j (inl k) = absurd (omega arith)

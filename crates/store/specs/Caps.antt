@@ -3,8 +3,8 @@ use mathlib.Core.List.{List, [], _∷_}
 use Prim.Native.Nat.{ℕ}
 use lib.ListN.{getD}
 use Rattle.history.specs.Event.{mostProducers}
-use Rattle.rules.specs.Sizes.{Sizes, mostEntries, mostRecords, mostStarts, mostPlace, mostSteps, contentWords, recordWords}
-use Rattle.rules.specs.Cell.{Cell, content, lastClaimed, spare, consumer, producer, part, entry}
+use Rattle.rules.specs.Sizes.{Sizes, mostEntries, mostRecords, mostStarts, mostPlace, mostSteps, mostDrained, contentWords, recordWords}
+use Rattle.rules.specs.Cell.{Cell, content, lastClaimed, spare, consumer, producer, part, entry, drain, pair}
 use Rattle.rules.specs.Range.{Sort, unused, exactly, number, link, record-number, most, any, lastConsumerPhase, lastProducerPhase}
 
 -- the largest 32-bit number
@@ -43,3 +43,5 @@ capOf z (consumer k) = getD (lastConsumerPhase ∷ consumerCaps z) k 0
 capOf z (producer t k) = getD (lastProducerPhase ∷ producerCaps z) k 0
 capOf z (part r k) = getD (mostPlace ∷ z .N ∷ z .N ∷ 3 ∷ []) k 0
 capOf z (entry r i k) = getD (2 ∷ z .M ∷ mostWord ∷ []) k 0
+capOf z (drain k) = mostDrained
+capOf z (pair i k) = getD (z .M ∷ mostWord ∷ []) k 0

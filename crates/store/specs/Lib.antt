@@ -1,5 +1,6 @@
 pub mod Shape
 pub mod Outcome
+pub mod Items
 pub mod Caps
 pub mod Store
 pub mod Rows

@@ -1,37 +1,54 @@
--- What the enum that a call answers means: document 01's reply for each case.
-use mathlib.Core.List.{List}
-use Prim.Native.Nat.{ℕ}
+-- What the enum that a call answers means: document 01's reply for each case. The items of a drain are in the lent buffer (document 02, U5).
+use mathlib.Core.List.{List, [], _∷_}
+use Prim.Native.Nat.{ℕ, zero, suc}
+use lib.ListN.{getD}
+use Rattle.history.specs.Linearization as history
 use Rattle.rules.specs.Sizes.{Sizes}
 use Rattle.rules.specs.Cell.{Reader, reader}
-use Rattle.rules.specs.Rule.{Effect, Response, refused, accepted, ok, started, going, ended, empty, item}
+use Rattle.rules.specs.Rule.{Effect, Response, refused, accepted, ok, started, going, ended, empty, item, drained}
 use Rattle.rules.specs.Request.{Result, applied}
 use Rattle.store.specs.declared.Shape.{Shape}
 use Rattle.store.specs.Shape.{sizes}
 use Rattle.store.specs.declared.Counted.{Counted}
 use Rattle.store.specs.declared.Reply.{Reply}
-use Rattle.store.specs.declared.Reply.the-variants.{Refused, Ok, Started, Going, Ended, Empty, Item}
+use Rattle.store.specs.declared.Reply.the-variants.{Refused, Ok, Started, Going, Ended, Empty, Item, Drained}
 
+-- n items in a buffer from a word on: call number and value of each.
+abbrev pub itemsAt : (buffer : List ℕ) (from n : ℕ) → List history.Item
+itemsAt b i zero = []
+itemsAt b i (suc n) = record { number = getD b i 0; value = getD b (suc i) 0 } ∷ itemsAt b (suc (suc i)) n
+
+-- The reply with the buffer after the call and the word that the caller named.
+abbrev pub responseIn : (buffer : List ℕ) (from steps : ℕ) → Reply → Response
+responseIn b i k (Refused n) = refused n
+responseIn b i k Ok = accepted ok k
+responseIn b i k (Started n) = accepted (started n) k
+responseIn b i k Going = accepted going k
+responseIn b i k Ended = accepted ended k
+responseIn b i k Empty = accepted empty k
+responseIn b i k (Item n v) = accepted (item n v) k
+responseIn b i k (Drained n) = accepted (drained (itemsAt b i n)) k
+
+-- The same where no word of a buffer is looked at.
 abbrev pub responseAfter : (steps : ℕ) → Reply → Response
-responseAfter k (Refused n) = refused n
-responseAfter k Ok = accepted ok k
-responseAfter k (Started n) = accepted (started n) k
-responseAfter k Going = accepted going k
-responseAfter k Ended = accepted ended k
-responseAfter k Empty = accepted empty k
-responseAfter k (Item n v) = accepted (item n v) k
+responseAfter k r = responseIn [] 0 k r
 
 -- of a call that is no step, and of a step that is not yet counted
 abbrev pub response : Reply → Response
 response r = responseAfter 0 r
 
--- the reply and the words that a call leaves
-abbrev pub left : Reply → List ℕ → Result
-left r m = record { reply = response r; words = m }
+-- What a call leaves: the reply and the words, of the store and of the buffer, with the word that the caller named. The contract of a
+-- function that looks at no buffer is an equation over all of them: left r m ≡ does rule z n.
+abbrev pub left : Reply → (words : List ℕ) → (buffer : List ℕ) (from : ℕ) → Result
+left r m = λ b i. record { reply = responseIn b i 0 r; words = m; buffer = b }
 
 -- the same with the number of accepted steps
-abbrev pub leftAfter : Counted → List ℕ → Result
-leftAfter c m = record { reply = responseAfter (c .steps) (c .reply); words = m }
+abbrev pub leftAfter : Counted → (words : List ℕ) → (buffer : List ℕ) (from : ℕ) → Result
+leftAfter c m = λ b i. record { reply = responseIn b i (c .steps) (c .reply); words = m; buffer = b }
 
--- what a rule leaves of the words, its step not yet counted
-abbrev pub does : (Sizes → Reader → Effect) → Shape → List ℕ → Result
-does rule z m = applied 0 (sizes z) m (rule (sizes z) (reader (sizes z) m))
+-- What an effect, and a rule, leave of the words, the step not yet counted.
+abbrev pub leaves : Sizes → (words : List ℕ) → Effect → (buffer : List ℕ) (from : ℕ) → Result
+leaves z m a = λ b i. applied 0 z m b i a
+
+abbrev pub does : (Sizes → Reader → Effect) → Shape → (words : List ℕ) → (buffer : List ℕ) (from : ℕ) → Result
+does rule z m = leaves (sizes z) m (rule (sizes z) (reader (sizes z) m))

@@ -2,13 +2,14 @@
 use mathlib.Core.Path.{_≡_}
 use mathlib.Core.List.{List}
 use Prim.Native.Nat.{ℕ, _≤_}
-use Rattle.rules.specs.Sizes.{Sizes}
+use Rattle.rules.specs.Sizes.{Sizes, mostDrained}
 use Rattle.rules.specs.Cell as cell
 use Rattle.rules.specs.Cell.{reader}
 use Rattle.rules.specs.Range.{lastConsumerPhase, lastProducerPhase}
 use Rattle.store.specs.declared.Contents.{Contents}
 use Rattle.store.specs.declared.Consumer.{Consumer}
 use Rattle.store.specs.declared.Producer.{Producer}
+use Rattle.store.specs.declared.Drain.{Drain}
 
 -- Words 6 to 10 of the contents, and the most that each may be.
 pub record ReadsContents (z : Sizes) (m : List ℕ) (q : Contents) : Type 0 where
@@ -51,3 +52,10 @@ pub record ReadsProducer (z : Sizes) (m : List ℕ) (t : ℕ) (p : Producer) : T
   pub position-most : p .position ≤ z .M
   pub held-most : p .held ≤ z .N
   pub claimed-most : p .claimed ≤ z .N
+
+-- The limit and the count of the drain area, and the most that they may be.
+pub record ReadsDrain (z : Sizes) (m : List ℕ) (d : Drain) : Type 0 where
+  pub limit : reader z m cell.drainLimit ≡ d .limit
+  pub count : reader z m cell.drainCount ≡ d .count
+  pub limit-most : d .limit ≤ mostDrained
+  pub count-most : d .count ≤ d .limit

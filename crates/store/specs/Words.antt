@@ -1,20 +1,20 @@
 -- Laws of the accessors: a cell that is there is one word, a word in range is at most its cap, and zeros written one by one.
 use mathlib.Core.Path.{_≡_, refl, ap, sym, _∙_, subst}
-use mathlib.Core.Bool.{true}
+use mathlib.Core.Bool.{Bool, true, false, _&&_, cond}
 use mathlib.Core.List.{List, [], _∷_, _++_}
 use Prim.Native.Nat.{ℕ, zero, suc, _+_, _*_, _≤_, _<_}
 use native.Mathlib.Nat.{mul-le-mul-left, mul-le-mul-right}
 use native.Mathlib.Omega.{arith}
-use lib.Dec.{leb}
+use lib.Dec.{leb, ltb, eqb}
 use lib.ListN.{length, getD, set, replicate}
 use lib.Seq.{sets}
 use borrow.Author.Tests.{ne-eqb, leb-true, eqb-true}
-use Rattle.rules.specs.Sizes.{Sizes, contentWords, threadWords, recordWords, firstRecord, mostEntries, mostRecords, mostPlace}
-use Rattle.rules.specs.Cell.{Cell, content, lastClaimed, spare, consumer, producer, part, entry, stepCount, address, reader, Write, write, writes}
+use Rattle.rules.specs.Sizes.{Sizes, contentWords, threadWords, recordWords, firstRecord, mostEntries, mostRecords, mostPlace, mostDrained}
+use Rattle.rules.specs.Cell.{Cell, content, lastClaimed, spare, consumer, producer, part, entry, drain, pair, consumerPhase, drainLimit, drainCount, stepCount, address, reader, Write, write, writes}
 use Rattle.rules.specs.Update.{both}
-use Rattle.rules.specs.Range.{Sort, unused, exactly, number, link, record-number, most, any, ofSort, ofSorts, threadInRange, placedSorts, consumerSorts, producerSorts, contentSorts, lastClaimedSort, lastConsumerPhase, lastProducerPhase}
+use Rattle.rules.specs.Range.{Sort, unused, exactly, number, link, record-number, most, any, ofSort, ofSorts, every, threadInRange, pairInRange, pairSorts, noPairSorts, placedSorts, consumerSorts, producerSorts, contentSorts, lastClaimedSort, lastConsumerPhase, lastProducerPhase}
 use Rattle.rules.specs.Address.{There, there-is}
-use Rattle.rules.specs.InRange.{sorts-at, sortOf}
+use Rattle.rules.specs.InRange.{sorts-at, row-at, every-at, sortOf}
 use Rattle.store.specs.Caps.{mostRecordWords, cap, capOf, mostWord, producerCaps, consumerCaps, contentCaps}
 use Rattle.store.specs.Store.{Room, Admitted, Reads}
 
@@ -63,8 +63,8 @@ producer-rows z =
     let placed : Under z placedSorts (producerCaps z) = omega arith in
     (omega arith, (omega arith, (placed, (placed, (placed, (omega arith, (placed, (placed, (placed, (placed, (omega arith, (omega arith, tt))))))))))))
 
-consumer-rows : (z : Sizes) → Rows z consumerSorts (consumerCaps z)
-consumer-rows z =
+consumer-rows : (z : Sizes) → 1 ≤ z .M → Rows z consumerSorts (consumerCaps z)
+consumer-rows z h =
     (omega arith, (omega arith, (omega arith, (omega arith, (omega arith, (omega arith, (omega arith, (omega arith, (omega arith, tt)))))))))
 
 -- two rows of the same length
@@ -111,6 +111,44 @@ spare-cap z (suc (suc (suc (suc k)))) h = absurd (omega arith)
 content-under : (z : Sizes) → firstRecord z ≤ mostWord → Under z (contentSorts z) (contentCaps z)
 content-under z f = omega arith
 
+-- The drain area: the limit is at most 64, the count at most the limit, and a pair is one of items, or zero.
+module _ {z : Sizes} {m : List ℕ} (a : Admitted z m) where
+  -- the three tests
+  in-area : (leb (reader z m drainLimit) (cond (eqb (reader z m consumerPhase) 0) 0 mostDrained) ≡ true)
+      × (leb (reader z m drainCount) (reader z m drainLimit) ≡ true)
+      × (every mostDrained (pairInRange z (reader z m drainCount) (λ i k. reader z m (pair i k))) ≡ true)
+  in-area =
+      let pairs : Bool = every mostDrained (pairInRange z (reader z m drainCount) (λ i k. reader z m (pair i k))) in
+      let count : Bool = leb (reader z m drainCount) (reader z m drainLimit) in
+      let p = both (leb (reader z m drainLimit) (cond (eqb (reader z m consumerPhase) 0) 0 mostDrained)) (count && pairs) (a .ranges .draining) in
+      let q = both count pairs (p .1) in
+      (p .0, q .0, q .1)
+
+  pub drain-most : (reader z m drainLimit ≤ mostDrained) × (reader z m drainCount ≤ reader z m drainLimit)
+  drain-most =
+      let q = in-area in
+      (go (eqb (reader z m consumerPhase) 0) (q .0), leb-true (reader z m drainCount) (reader z m drainLimit) (q .1))
+    where
+      go : (idle : Bool) → leb (reader z m drainLimit) (cond idle 0 mostDrained) ≡ true → reader z m drainLimit ≤ mostDrained
+      go true e = let h = leb-true (reader z m drainLimit) 0 e in omega arith
+      go false e = leb-true (reader z m drainLimit) mostDrained e
+
+  pair-cap : (i k : ℕ) → i < mostDrained → k < 2 → reader z m (pair i k) ≤ mostWord → reader z m (pair i k) ≤ capOf z (pair i k)
+  pair-cap i k h l w =
+      let q = in-area in
+      go (ltb i (reader z m drainCount)) k l w (every-at mostDrained (pairInRange z (reader z m drainCount) (λ i k. reader z m (pair i k))) (q .2) i h)
+    where
+      go : (kept : Bool) (k : ℕ) → k < 2 → reader z m (pair i k) ≤ mostWord
+          → ofSorts z (λ k. reader z m (pair i k)) 0 (cond kept pairSorts noPairSorts) ≡ true → reader z m (pair i k) ≤ capOf z (pair i k)
+      go true zero l w e = sort-cap z number (reader z m (pair i 0)) w (row-at z (λ k. reader z m (pair i k)) pairSorts e 0 l)
+      go true (suc zero) l w e = w
+      go true (suc (suc k)) l w e = absurd (omega arith)
+      go false zero l w e =
+          let x = sort-cap z unused (reader z m (pair i 0)) w (row-at z (λ k. reader z m (pair i k)) noPairSorts e 0 l) in
+          omega arith
+      go false (suc zero) l w e = w
+      go false (suc (suc k)) l w e = absurd (omega arith)
+
 -- a word in range is at most its cap
 in-range-most : (z : Sizes) (m : List ℕ) → Admitted z m → (c : Cell) → There z c → reader z m c ≤ mostWord → reader z m c ≤ capOf z c
 in-range-most z m a (content k) h w =
@@ -123,7 +161,7 @@ in-range-most z m a (spare k) h w =
     let y = spare-cap z k (omega arith) in
     omega arith
 in-range-most z m a (consumer k) h w =
-    thread-cap z lastConsumerPhase consumerSorts (consumerCaps z) (λ j. reader z m (consumer j)) (λ p l. row-under z consumerSorts (consumerCaps z) (consumer-rows z) p (omega arith)) (a .ranges .consuming) k h w
+    thread-cap z lastConsumerPhase consumerSorts (consumerCaps z) (λ j. reader z m (consumer j)) (λ p l. row-under z consumerSorts (consumerCaps z) (consumer-rows z (a .room .starts-least)) p (omega arith)) (a .ranges .consuming) k h w
 in-range-most z m a (producer t k) h w =
     thread-cap z lastProducerPhase producerSorts (producerCaps z) (λ j. reader z m (producer t j)) (λ p l. row-under z producerSorts (producerCaps z) (producer-rows z) p (omega arith)) (a .ranges .producing t (h .0) (h .1)) k (h .2) w
 in-range-most z m a (part r k) h w =
@@ -134,6 +172,10 @@ in-range-most z m a (entry r i k) h w =
     let x = sort-cap z (sortOf z (entry r i k)) (reader z m (entry r i k)) w (a .ranges .words (entry r i k) h) in
     let y = entry-cap z k (h .2) in
     omega arith
+in-range-most z m a (drain zero) h w = drain-most a .0
+in-range-most z m a (drain (suc zero)) h w = let d = drain-most a in omega arith
+in-range-most z m a (drain (suc (suc k))) h w = absurd (omega arith)
+in-range-most z m a (pair i k) h w = pair-cap a i k (h .0) (h .1) w
 
 -- What a read of the word at a cell's address answers.
 pub reads-word : (z : Sizes) (m : List ℕ) (c : Cell) → Admitted z m → There z c → (at : ℕ) → at ≡ address z c → getD m at 0 ≤ mostWord → Reads z m c (getD m at 0)

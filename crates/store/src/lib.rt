@@ -5,13 +5,13 @@ ghost use Prim.Native.Nat.{_+_, _*_, _<_, _≤_};
 ghost use lib.ListN.{length, set, replicate};
 ghost use lib.Seq.{sets};
 ghost use Rattle.history.specs.Event.{mostProducers};
-ghost use Rattle.rules.specs.Sizes.{firstRecord, recordWords, storeWords, mostEntries, mostRecords, mostPlace, mostWords};
-ghost use Rattle.rules.specs.Cell.{reader, place, used, write, _:=_, content, lastClaimed, consumer, producer, part, entry, headRecord, headPosition, cursorRecord, cursorPosition, foundRecord, foundPosition, stepCount, clearConsumer, clearProducer, wipe};
+ghost use Rattle.rules.specs.Sizes.{firstRecord, recordWords, drainWords, firstDrain, storeWords, mostEntries, mostRecords, mostDrained, mostPlace, mostWords};
+ghost use Rattle.rules.specs.Cell.{reader, place, used, write, _:=_, content, lastClaimed, consumer, producer, part, entry, drain, headRecord, headPosition, cursorRecord, cursorPosition, foundRecord, foundPosition, itemNumber, itemValue, pairNumber, pairValue, stepCount, clearConsumer, clearProducer, clearDrain, wipe};
 ghost use Rattle.rules.specs.Address.{There};
 ghost use Rattle.store.specs.Shape.{sizes};
 ghost use Rattle.store.specs.Caps.{mostRecordWords};
 ghost use Rattle.store.specs.Store.{Room, Admitted, Reads, Holds};
-ghost use Rattle.store.specs.Rows.{ReadsContents, ReadsConsumer, ReadsProducer};
+ghost use Rattle.store.specs.Rows.{ReadsContents, ReadsConsumer, ReadsProducer, ReadsDrain};
 ghost use Rattle.store.specs.Slot.{Slotted};
 
 pub mod phase;
@@ -37,6 +37,8 @@ pub enum Reply {
     Ended,
     Empty,
     Item(u32, u32),
+    // How many items; they are in the lent buffer.
+    Drained(u32),
 }
 
 // A reply with the number of accepted steps of its call so far.
@@ -76,6 +78,12 @@ pub struct Producer {
     pub backed: u32,
 }
 
+// The drain area's words before its pairs.
+pub struct Drain {
+    pub limit: u32,
+    pub count: u32,
+}
+
 // Where a position stands in the record that a link names: at its end, at an index of it, or neither, which is also where the
 // link is none.
 pub enum Slot {
@@ -102,9 +110,17 @@ pub fn record_words(z: Shape) -> u32
 // The first word of record r, or of what follows the last.
 pub fn record_at(z: Shape, r: u32) -> u32
     requires { ⌜ (z .entries ≤ mostEntries) × (z .producers ≤ mostProducers) × (r ≤ mostRecords) ⌝ }
-    ensures { λ at. ⌜ (at ≡ firstRecord (sizes z) + r * recordWords (sizes z)) × (at ≤ mostWords) ⌝ }
+    ensures { λ at. ⌜ (at ≡ firstRecord (sizes z) + r * recordWords (sizes z)) × (at + drainWords ≤ mostWords) ⌝ }
 {
     size::CONTENT_WORDS + size::THREAD_WORDS * (z.producers + 1) + r * record_words(z)
+}
+
+// The first word of the drain area, behind the records.
+pub fn drain_at(z: Shape) -> u32
+    requires { ⌜ (z .entries ≤ mostEntries) × (z .records ≤ mostRecords) × (z .producers ≤ mostProducers) ⌝ }
+    ensures { λ at. ⌜ (at ≡ firstDrain (sizes z)) × (at + drainWords ≤ mostWords) ⌝ }
+{
+    record_at(z, z.records)
 }
 
 // The word at an address, which is that of its cell, and a store to it.
@@ -220,6 +236,15 @@ pub fn put_found(s: &mut [u32], z: Shape, link: u32, position: u32)
 {
     let at = size::CONTENT_WORDS + word::FOUND_RECORD;
     put_pair(s, z, at, link, position);
+}
+
+// The item read from it.
+pub fn put_item(s: &mut [u32], z: Shape, number: u32, value: u32)
+    requires { ⌜ Room (sizes z) (now s) ⌝ }
+    ensures { λ _. ⌜ now (s .exit) ≡ write (sizes z) (write (sizes z) (now (s .entry)) (itemNumber := number)) (itemValue := value) ⌝ }
+{
+    let at = size::CONTENT_WORDS + word::ITEM_CALL;
+    put_pair(s, z, at, number, value);
 }
 
 pub fn read_consumer(s: &[u32], z: Shape) -> Consumer
@@ -357,6 +382,43 @@ pub fn put_entry(s: &mut [u32], z: Shape, r: u32, i: u32, k: u32, v: u32)
     put_record_word(s, z, r, 4 + 3 * i + k, v);
 }
 
+// Word k of the drain area before its pairs.
+fn drain_word(s: &[u32], z: Shape, k: u32) -> u32
+    requires { ⌜ Admitted (sizes z) (now s) ⌝ }
+    requires { ⌜ There (sizes z) (drain k) ⌝ }
+    ensures { λ x. ⌜ Reads (sizes z) (now (s .entry)) (drain k) x ⌝ }
+{
+    word_at(s, z, drain_at(z) + k)
+}
+
+pub fn put_drain(s: &mut [u32], z: Shape, k: u32, v: u32)
+    requires { ⌜ Room (sizes z) (now s) ⌝ }
+    requires { ⌜ There (sizes z) (drain k) ⌝ }
+    ensures { λ _. ⌜ now (s .exit) ≡ write (sizes z) (now (s .entry)) (drain k := v) ⌝ }
+{
+    put_word(s, z, drain_at(z) + k, v);
+}
+
+pub fn read_drain(s: &[u32], z: Shape) -> Drain
+    requires { ⌜ Admitted (sizes z) (now s) ⌝ }
+    ensures { λ d. ⌜ ReadsDrain (sizes z) (now (s .entry)) d ⌝ }
+{
+    Drain {
+        limit: drain_word(s, z, word::LIMIT),
+        count: drain_word(s, z, word::COUNT),
+    }
+}
+
+// Pair i of the drain area: call number and value of an item.
+pub fn keep_pair(s: &mut [u32], z: Shape, i: u32, number: u32, value: u32)
+    requires { ⌜ Room (sizes z) (now s) ⌝ }
+    requires { ⌜ i < mostDrained ⌝ }
+    ensures { λ _. ⌜ now (s .exit) ≡ write (sizes z) (write (sizes z) (now (s .entry)) (pairNumber i := number)) (pairValue i := value) ⌝ }
+{
+    let at = drain_at(z) + word::PAIRS + 2 * i;
+    put_pair(s, z, at, number, value);
+}
+
 // Zero into n words from word `at` on.
 pub fn clear(s: &mut [u32], at: u32, n: u32)
     requires { ⌜ at + n ≤ length (now s) ⌝ }
@@ -371,7 +433,7 @@ pub fn clear(s: &mut [u32], at: u32, n: u32)
     }
 }
 
-// Zero into the eight words of the consumer, of producer t, into every word of record r.
+// Zero into the eight words of the consumer, of producer t, into every word of record r, into every word of the drain area.
 pub fn clear_consumer(s: &mut [u32], z: Shape)
     requires { ⌜ Room (sizes z) (now s) ⌝ }
     ensures { λ _. ⌜ now (s .exit) ≡ write (sizes z) (now (s .entry)) clearConsumer ⌝ }
@@ -394,6 +456,13 @@ pub fn wipe_record(s: &mut [u32], z: Shape, r: u32)
     ensures { λ _. ⌜ now (s .exit) ≡ write (sizes z) (now (s .entry)) (wipe r) ⌝ }
 {
     clear(s, record_at(z, r), record_words(z));
+}
+
+pub fn clear_drain(s: &mut [u32], z: Shape)
+    requires { ⌜ Room (sizes z) (now s) ⌝ }
+    ensures { λ _. ⌜ now (s .exit) ≡ write (sizes z) (now (s .entry)) clearDrain ⌝ }
+{
+    clear(s, drain_at(z), size::DRAIN_WORDS);
 }
 
 // B × place: the position past record r's last.

@@ -20,7 +20,13 @@ pub const CONTENT_WORDS: u32 = 16;
 
 pub const THREAD_WORDS: u32 = 8;
 
+// The most items that one drain may hand over (document 02, U5), and the words of the drain area behind the records: limit, count, and a pair
+// for each.
+pub const MOST_DRAINED: u32 = 64;
+
+pub const DRAIN_WORDS: u32 = 130;
+
 // A record's words at the most, place, next, prev and use and three for each entry, and a store's.
 pub const MOST_RECORD_WORDS: usize = 196;
 
-pub const MOST_WORDS: usize = 12696;
+pub const MOST_WORDS: usize = 12826;

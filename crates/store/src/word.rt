@@ -1,4 +1,4 @@
-// The words of a store by their place in the contents, a thread, a record or an entry.
+// The words of a store by their place in the contents, a thread, a record, an entry or the drain area.
 
 // Contents, words 0 to 5: the sizes, and the first words of the threads and of the records.
 pub const ENTRIES: u32 = 0;
@@ -58,6 +58,9 @@ pub const ITEM_CALL: u32 = 5;
 
 pub const ITEM_VALUE: u32 = 6;
 
+// In phases 6 to 8, where the cursor is not in use: whether a drain came there through the scan.
+pub const SCANNED: u32 = 2;
+
 // A record's words before its entries.
 pub const PLACE: u32 = 0;
 
@@ -73,3 +76,10 @@ pub const STATE: u32 = 0;
 pub const ENTRY_CALL: u32 = 1;
 
 pub const ENTRY_VALUE: u32 = 2;
+
+// The drain area's words before its pairs, and the first word of those.
+pub const LIMIT: u32 = 0;
+
+pub const COUNT: u32 = 1;
+
+pub const PAIRS: u32 = 2;

@@ -11,9 +11,14 @@ threads-in-range-requires c κs = search needs
 records-in-range-requires : tie.Need-records-in-range-requires
 records-in-range-requires c κs = search needs
 
+drain-in-range-requires : tie.Need-drain-in-range-requires
+drain-in-range-requires c κs = search needs
+
 returns : tie.Need-returns
 unfolding inRange
-returns c = rw (c .before .threads-in-range .ensures, c .records-in-range .ensures) refl
+returns c = rw (c .before .before .threads-in-range .ensures, c .before .records-in-range .ensures, c .drain-in-range .ensures) refl
 
 pub in-range-spec : {M : Type 1} → statement M
-in-range-spec = tie.close (tie.spec threads-in-range-requires records-in-range-requires returns)
+in-range-spec =
+    tie.close
+    (tie.spec threads-in-range-requires records-in-range-requires drain-in-range-requires returns)

@@ -1,7 +1,6 @@
 -- `dequeue::move_head` meets its contract.
 use mathlib.Core.Path.{refl}
 use borrow.Author.Needs.{needs}
-use Rattle.rules.specs.Cell.{writes}
 use Rattle.rules.specs.Request.{applied}
 use Rattle.dequeue.proofs.Crossings.{crosses-to, crosses-nowhere}
 use Rattle.dequeue.proofs.move_head.Statement.{statement}
@@ -22,20 +21,17 @@ same-length c = search needs
 returns : tie.Need-returns
 returns c = crosses-nowhere (c .before .before .cross-from .ensures) _ (c .enum-told .given .1)
 
-put-head-requires : tie.Need-put-head-requires
-put-head-requires c κs = search needs
-
-put-use-requires : tie.Need-put-use-requires
-put-use-requires c κs = search needs
+move-to-requires : tie.Need-move-to-requires
+move-to-requires c κs = search needs
 
 same-length-2 : tie.Need-same-length-2
 same-length-2 c = search needs
 
 returns-2 : tie.Need-returns-2
-unfolding applied writes
+unfolding applied
 returns-2 c =
-    let x = crosses-to (c .before .before .before .before .before .before .before .before .before .before .before .cross-from .ensures) (c .before .before .before .before .before .before .before .before .before .link .given .1) in
-    rw (x .link, x .placed, x .fits, ← x .link-is, ← x .position-is, c .before .before .put-use .ensures, c .before .before .before .before .before .before .put-head .ensures) refl
+    let x = crosses-to (c .before .before .before .before .before .before .before .cross-from .ensures) (c .before .before .before .before .before .link .given .1) in
+    rw (x .link, x .placed, x .fits, ← x .link-is, ← x .position-is, c .before .before .move-to .ensures) refl
 
 pub move-head-spec : {M : Type 1} → statement M
 move-head-spec =
@@ -46,7 +42,6 @@ move-head-spec =
     enum-told
     same-length
     returns
-    put-head-requires
-    put-use-requires
+    move-to-requires
     same-length-2
     returns-2)

@@ -3,8 +3,8 @@ use mathlib.Core.Path.{refl}
 use Prim.Native.Nat.{_<_}
 use native.Mathlib.Numerals.{add-one}
 use native.Mathlib.Omega.{arith}
-use borrow.Author.Needs.{needs}
 use borrow.Author.Tests.{lt-ltb}
+use borrow.Author.Needs.{needs}
 use denote.Ref.{now}
 use Rattle.rules.specs.Sizes.{mostSteps}
 use Rattle.rules.specs.Cell.{reader, stepCount}
@@ -47,33 +47,39 @@ put-step-count-requires c κs = search needs
 same-length-2 : tie.Need-same-length-2
 same-length-2 c = search needs
 
+same-length-3 : tie.Need-same-length-3
+same-length-3 c = search needs
+
 returns-3 : tie.Need-returns-3
 unfolding effect stepping
 returns-3 c =
     let told = c .before .before .before .before .enum-told in
-    let stepped = c .before .before .before .before .before .before .before .before .step-thread in
-    let count = c .before .before .before .before .before .before .before .before .before .before .before .step-count in
-    let below : count .result < mostSteps = omega (arith, c .before .before .before .before .before .before .before .before .before .before .if2 .left) in
-    let a = c .before .before .before .before .before .before .before .before .before .before .before .before .before .before .before .before .args in
+    let stepped = c .before .before .before .before .before .before .before .before .before .before .step-thread in
+    let count = c .before .before .before .before .before .before .before .before .before .before .before .before .before .before .step-count in
+    let below : count .result < mostSteps = omega (arith, c .before .before .before .before .before .before .before .before .before .before .before .before .before .if2 .left) in
+    let a = c .before .before .before .before .before .before .before .before .before .before .before .before .before .before .before .before .before .before .before .before .args in
     let z = sizes (a .z) in
     let σ = reader z (now (a .s)) in
     rw (told .given .1, c .before .before .put-step-count .ensures, add-one (count .result), count .ensures)
-    (counts-on z (now (a .s)) (stepped .last .0) (stepCount (a .t)) (count .result) below (phaseStep (nextFree z σ) (a .t) z σ) (rw (told .given .1) at (stepped .ensures)))
+    (counts-on z (now (a .s)) (now (a .b)) (stepped .last .0) _ (a .from) (stepCount (a .t)) (count .result) below (phaseStep (nextFree z σ) (a .t) z σ) (rw (told .given .1) at (stepped .ensures)))
 
-same-length-3 : tie.Need-same-length-3
-same-length-3 c = search needs
+same-length-4 : tie.Need-same-length-4
+same-length-4 c = search needs
+
+same-length-5 : tie.Need-same-length-5
+same-length-5 c = search needs
 
 returns-4 : tie.Need-returns-4
 unfolding effect stepping
 returns-4 c =
-    let stepped = c .before .before .before .step-thread in
-    let count = c .before .before .before .before .before .before .step-count in
-    let below : count .result < mostSteps = omega (arith, c .before .before .before .before .before .if2 .left) in
-    let a = c .before .before .before .before .before .before .before .before .before .before .before .args in
+    let stepped = c .before .before .before .before .before .step-thread in
+    let count = c .before .before .before .before .before .before .before .before .before .step-count in
+    let below : count .result < mostSteps = omega (arith, c .before .before .before .before .before .before .before .before .if2 .left) in
+    let a = c .before .before .before .before .before .before .before .before .before .before .before .before .before .before .before .args in
     let z = sizes (a .z) in
     let σ = reader z (now (a .s)) in
     rw (add-one (count .result), count .ensures)
-    (counts-last z (now (a .s)) (stepped .last .0) (stepCount (a .t)) (count .result) below (phaseStep (nextFree z σ) (a .t) z σ) (stepped .result) (c .match .keys2) (stepped .ensures))
+    (counts-last z (now (a .s)) (now (a .b)) (stepped .last .0) _ (a .from) (stepCount (a .t)) (count .result) below (phaseStep (nextFree z σ) (a .t) z σ) (stepped .result) (c .match .keys2) (stepped .ensures))
 
 pub count-step-spec : {M : Type 1} → statement M
 count-step-spec =
@@ -89,6 +95,8 @@ count-step-spec =
     enum-told
     put-step-count-requires
     same-length-2
-    returns-3
     same-length-3
+    returns-3
+    same-length-4
+    same-length-5
     returns-4)

@@ -1,4 +1,5 @@
 -- `engine::deliver` meets its contract.
+use mathlib.Core.List.{[]}
 use mathlib.Core.Path.{_∙_}
 use borrow.Author.Needs.{needs}
 use Rattle.engine.specs.Delivery.{same-code}
@@ -14,7 +15,7 @@ returned-code-requires c κs = search needs
 returns : tie.Need-returns
 returns c =
     let a = c .before .before .before .args in
-    (c .returned-code .ensures ∙ same-code (a .c .steps) (a .c .reply), c .before .store-reply .ensures)
+    (c .returned-code .ensures ∙ same-code [] [] 0 0 0 (a .c .steps) (a .c .reply), c .before .store-reply .ensures)
 
 pub deliver-spec : {M : Type 1} → statement M
 deliver-spec = tie.close (tie.spec store-reply-requires returned-code-requires returns)

@@ -1,5 +1,7 @@
 -- `engine::intake_start_dequeue` meets its contract.
+use mathlib.Core.List.{[]}
 use borrow.Author.Needs.{needs}
+use Rattle.store.specs.Items.{lent}
 use Rattle.engine.specs.Delivery.{returned-of}
 use Rattle.engine.proofs.intake_start_dequeue.Statement.{statement}
 use Rattle.engine.proofs.intake_start_dequeue.Tie as tie
@@ -14,7 +16,7 @@ same-length : tie.Need-same-length
 same-length c = search needs
 
 returns : tie.Need-returns
-returns c = returned-of (c .before .before .before .start-dequeue .result) (c .returned-code .ensures) (c .before .before .before .start-dequeue .ensures)
+returns c = returned-of (c .before .before .before .start-dequeue .result) (c .returned-code .ensures) (lent (c .before .before .before .start-dequeue .ensures) [] 0)
 
 pub intake-start-dequeue-spec : {M : Type 1} → statement M
 intake-start-dequeue-spec =

@@ -1,6 +1,8 @@
 -- `engine::intake_start_enqueue` meets its contract.
+use mathlib.Core.List.{[]}
 use borrow.Author.Needs.{needs}
 use denote.Ref.{now}
+use Rattle.store.specs.Items.{lent}
 use Rattle.engine.specs.Delivery.{replied-of}
 use Rattle.engine.proofs.intake_start_enqueue.Statement.{statement}
 use Rattle.engine.proofs.intake_start_enqueue.Tie as tie
@@ -16,9 +18,8 @@ same-length c = search needs
 
 returns : tie.Need-returns
 returns c =
-    let args = c .before .before .before .before .before .before .before .args in
-    let start-enqueue = c .before .before .before .before .start-enqueue in
-    replied-of (record { reply = start-enqueue .result; steps = 0 }) (now (args .reply)) (c .deliver .ensures .0) (c .deliver .ensures .1) (start-enqueue .ensures)
+    let start = c .before .before .before .before .start-enqueue in
+    replied-of (start .result) (now (c .before .before .before .before .before .before .before .args .reply)) (c .deliver .ensures .0) (c .deliver .ensures .1) (lent (start .ensures) [] 0)
 
 pub intake-start-enqueue-spec : {M : Type 1} → statement M
 intake-start-enqueue-spec =

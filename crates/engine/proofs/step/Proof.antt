@@ -4,6 +4,7 @@ use native.Mathlib.Omega.{arith}
 use borrow.Author.Needs.{needs}
 use denote.Ref.{now}
 use Rattle.rules.specs.Request.{step}
+use Rattle.store.specs.Items.{lent}
 use Rattle.admission.specs.Admit.{admitted-by}
 use Rattle.engine.specs.Calls.{call-refused, call-answered, admitted-as}
 use Rattle.engine.proofs.step.Statement.{statement}
@@ -16,26 +17,24 @@ same-length : tie.Need-same-length
 same-length c = search needs
 
 returns : tie.Need-returns
-returns c = call-refused (step (c .before .before .before .before .args .t)) (now (c .before .before .before .before .args .s)) (c .before .admit .result) (c .before .admit .ensures) (c .if1 .taken)
+returns c = lent (call-refused (step (c .before .before .before .before .before .args .t)) (now (c .before .before .before .before .before .args .s)) (c .before .admit .result) (c .before .admit .ensures) (c .if1 .taken)) _ _
 
 shape-of-requires : tie.Need-shape-of-requires
-shape-of-requires c κs = omega (arith, admitted-by (now (c .before .before .before .before .before .before .args .s)) (c .before .before .before .admit .ensures ∙ c .before .before .if1 .left))
+shape-of-requires c κs = omega (arith, admitted-by (now (c .before .before .before .before .before .before .before .args .s)) (c .before .before .before .admit .ensures ∙ c .before .before .if1 .left))
 
 count-step-requires : tie.Need-count-step-requires
-count-step-requires c κs =
-    admitted-as (c .shape-of .result) (now (c .before .before .before .before .before .before .before .args .s)) (c .shape-of .ensures) (c .before .before .before .before .admit .ensures ∙ c .before .before .before .if1 .left)
+count-step-requires c κs = admitted-as (c .before .shape-of .result) (now (c .before .before .before .before .before .before .before .before .before .args .s)) (c .before .shape-of .ensures) (c .before .before .before .before .before .admit .ensures ∙ c .before .before .before .before .if1 .left)
 
 same-length-2 : tie.Need-same-length-2
 same-length-2 c = search needs
 
+same-length-3 : tie.Need-same-length-3
+same-length-3 c = search needs
+
 returns-2 : tie.Need-returns-2
 returns-2 c =
-    let args = c .before .before .before .before .before .before .before .before .before .before .args in
-    let admit = c .before .before .before .before .before .before .before .admit in
-    let if1 = c .before .before .before .before .before .before .if1 in
-    let shape-of = c .before .before .before .shape-of in
-    let count-step = c .before .before .count-step in
-    call-answered (step (args .t)) (now (args .s)) _ (shape-of .result) (shape-of .ensures) (admit .ensures ∙ if1 .left) (count-step .ensures)
+    c .before .before .before .before .count-step .ensures
+    ∙ lent (call-answered (step (c .before .before .before .before .before .before .before .before .before .before .before .before .before .before .args .t)) (now (c .before .before .before .before .before .before .before .before .before .before .before .before .before .before .args .s)) (c .before .before .before .before .before .before .shape-of .result) (c .before .before .before .before .before .before .shape-of .ensures) (c .before .before .before .before .before .before .before .before .before .before .admit .ensures ∙ c .before .before .before .before .before .before .before .before .before .if1 .left)) _ _
 
 pub step-spec : {M : Type 1} → statement M
 step-spec =
@@ -47,4 +46,5 @@ step-spec =
     shape-of-requires
     count-step-requires
     same-length-2
+    same-length-3
     returns-2)

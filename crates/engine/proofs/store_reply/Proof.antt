@@ -1,6 +1,8 @@
 -- `engine::store_reply` meets its contract.
+use mathlib.Core.List.{[]}
 use mathlib.Core.Path.{refl}
 use borrow.Author.Needs.{needs}
+use Rattle.store.specs.Items.{length-items}
 use Rattle.engine.proofs.store_reply.Statement.{statement}
 use Rattle.engine.proofs.store_reply.Tie as tie
 
@@ -46,6 +48,18 @@ element-write-reply-6 c = search needs
 element-write-reply-7 : tie.Need-element-write-reply-7
 element-write-reply-7 c = search needs
 
+enum-known-r-3 : tie.Need-enum-known-r-3
+enum-known-r-3 c = search needs
+
+element-write-reply-8 : tie.Need-element-write-reply-8
+element-write-reply-8 c = search needs
+
+element-write-reply-9 : tie.Need-element-write-reply-9
+element-write-reply-9 c = search needs
+
+element-write-reply-10 : tie.Need-element-write-reply-10
+element-write-reply-10 c = search needs
+
 returns : tie.Need-returns
 returns c = search needs
 
@@ -67,6 +81,9 @@ returns-6 c = rw (c .enum-told5 .given .1) refl
 returns-7 : tie.Need-returns-7
 returns-7 c = rw (c .before .r2 .given .1) refl
 
+returns-8 : tie.Need-returns-8
+returns-8 c = rw (c .before .r3 .given .1, length-items [] 0 (c .before .r3 .given .0 .0)) refl
+
 pub store-reply-spec : {M : Type 1} → statement M
 store-reply-spec =
     tie.close
@@ -85,10 +102,15 @@ store-reply-spec =
     element-write-reply-5
     element-write-reply-6
     element-write-reply-7
+    enum-known-r-3
+    element-write-reply-8
+    element-write-reply-9
+    element-write-reply-10
     returns
     returns-2
     returns-3
     returns-4
     returns-5
     returns-6
-    returns-7)
+    returns-7
+    returns-8)

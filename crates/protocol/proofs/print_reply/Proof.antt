@@ -1,6 +1,8 @@
 -- `protocol::print_reply` meets its contract: in each case what the write of that case leaves.
-use Rattle.protocol.specs.Printed.{printed}
+use mathlib.Core.Path.{refl}
+use native.Mathlib.Omega.{arith}
 use borrow.Author.Needs.{needs}
+use Rattle.protocol.specs.Printed.{printed}
 use Rattle.protocol.proofs.print_reply.Statement.{statement}
 use Rattle.protocol.proofs.print_reply.Tie as tie
 
@@ -113,6 +115,13 @@ returns-7 : tie.Need-returns-7
 unfolding printed
 returns-7 c = rw (c .before .before .before .before .before .reply3 .given .1) (c .before .before .print-item .ensures)
 
+enum-told-5 : tie.Need-enum-told-5
+enum-told-5 c = search needs
+
+returns-8 : tie.Need-returns-8
+unfolding printed
+returns-8 c = rw (c .enum-told5 .given .1) (record { next-is = omega arith; after-is = refl })
+
 pub print-reply-spec : {M : Type 1} → statement M
 print-reply-spec =
     tie.close
@@ -150,4 +159,6 @@ print-reply-spec =
     enum-known-reply-3
     print-item-requires
     same-length-7
-    returns-7)
+    returns-7
+    enum-told-5
+    returns-8)

@@ -25,6 +25,9 @@ returns c = crosses-nowhere (c .before .before .cross-from .ensures) _ (c .enum-
 read-consumer-requires : tie.Need-read-consumer-requires
 read-consumer-requires c κs = search needs
 
+through-scan-requires : tie.Need-through-scan-requires
+through-scan-requires c κs = search needs
+
 move-cursor-requires : tie.Need-move-cursor-requires
 move-cursor-requires c κs = search needs
 
@@ -34,8 +37,8 @@ same-length-2 c = search needs
 returns-2 : tie.Need-returns-2
 unfolding writes
 returns-2 c =
-    let x = crosses-to (c .before .before .before .before .before .before .before .before .before .cross-from .ensures) (c .before .before .before .before .before .before .before .link .given .1) in
-    rw (x .link, x .placed, x .fits, ← x .link-is, ← x .position-is, c .before .before .before .before .read-consumer .ensures .found-position, c .before .before .move-cursor .ensures) (moved _ _ (c .before .before .before .before .before .before .before .link .given .0 .0) (c .before .before .before .before .before .before .before .link .given .0 .1 .0) (c .before .before .before .before .read-consumer .result .«found_position») [])
+    let x = crosses-to (c .before .before .before .before .before .before .before .before .before .before .before .cross-from .ensures) (c .before .before .before .before .before .before .before .before .before .link .given .1) in
+    rw (x .link, x .placed, x .fits, ← x .link-is, ← x .position-is, c .before .before .before .before .before .before .read-consumer .ensures .found-position, c .before .before .move-cursor .ensures, ← c .before .before .before .before .through-scan .ensures) (moved _ _ (c .before .before .before .before .before .before .before .before .before .link .given .0 .0) (c .before .before .before .before .before .before .before .before .before .link .given .0 .1 .0) (c .before .before .before .before .before .before .read-consumer .result .«found_position») [])
 
 pub rescan-end-spec : {M : Type 1} → statement M
 rescan-end-spec =
@@ -47,6 +50,7 @@ rescan-end-spec =
     same-length
     returns
     read-consumer-requires
+    through-scan-requires
     move-cursor-requires
     same-length-2
     returns-2)

@@ -73,8 +73,11 @@ returns-4 c =
 add-if3 : tie.Need-add-if3
 add-if3 c = search needs
 
+through-scan-requires : tie.Need-through-scan-requires
+through-scan-requires c κs = search needs
+
 settle-requires : tie.Need-settle-requires
-settle-requires c κs = omega (arith, c .before .before .before .before .before .before .before .before .before .before .before .before .before .before .before .before .before .before .before .pre)
+settle-requires c κs = omega (arith, c .before .before .before .before .before .before .before .before .before .before .before .before .before .before .before .before .before .before .before .before .before .pre)
 
 same-length-5 : tie.Need-same-length-5
 same-length-5 c = search needs
@@ -82,10 +85,10 @@ same-length-5 c = search needs
 returns-5 : tie.Need-returns-5
 unfolding rescan applied writes
 returns-5 c =
-    let k = c .before .before .before .before .before .before .before .before .before .before .before .before .before .before .before .before .before .before .before .read-consumer .ensures in
-    let at = stands-at (k .cursor-record) (k .cursor-position) (c .before .before .before .before .before .before .before .before .before .before .before .before .before .before .before .before .before .slot-in .ensures) (c .before .before .before .before .before .before .before .before .before .before .before .before .before .before .slot2 .given .1) in
-    let p = c .before .before .before .before .before .before .before .before .before .before .before .before .before .before .before .before .before .before .before .read-consumer .result .«cursor_position» in
-    rw (at .link, at .before, at .inside, at .is, c .before .before .before .before .before .before .before .before .before .before .before .entry .ensures .is, ne-eqb _ _ (c .before .before .before .before .before .before .before .before .before .before .if1 .left), k .cursor-position, le-leb (suc p) (c .before .before .before .before .before .before .before .before .before .before .before .before .before .before .before .before .before .before .before .before .before .before .args .z .starts) (omega (arith, c .before .before .before .before .before .before .before .if2)), k .found-position, eq-eqb (suc p) (c .before .before .before .before .before .before .before .before .before .before .before .before .before .before .before .before .before .before .before .read-consumer .result .«found_position») (omega (arith, c .before .before .before .before .if3)), c .before .before .settle .ensures) refl
+    let k = c .before .before .before .before .before .before .before .before .before .before .before .before .before .before .before .before .before .before .before .before .before .read-consumer .ensures in
+    let at = stands-at (k .cursor-record) (k .cursor-position) (c .before .before .before .before .before .before .before .before .before .before .before .before .before .before .before .before .before .before .before .slot-in .ensures) (c .before .before .before .before .before .before .before .before .before .before .before .before .before .before .before .before .slot2 .given .1) in
+    let p = c .before .before .before .before .before .before .before .before .before .before .before .before .before .before .before .before .before .before .before .before .before .read-consumer .result .«cursor_position» in
+    rw (at .link, at .before, at .inside, at .is, c .before .before .before .before .before .before .before .before .before .before .before .before .before .entry .ensures .is, ne-eqb _ _ (c .before .before .before .before .before .before .before .before .before .before .before .before .if1 .left), k .cursor-position, le-leb (suc p) (c .before .before .before .before .before .before .before .before .before .before .before .before .before .before .before .before .before .before .before .before .before .before .before .before .args .z .starts) (omega (arith, c .before .before .before .before .before .before .before .before .before .if2)), k .found-position, eq-eqb (suc p) (c .before .before .before .before .before .before .before .before .before .before .before .before .before .before .before .before .before .before .before .before .before .read-consumer .result .«found_position») (omega (arith, c .before .before .before .before .before .before .if3)), c .before .before .settle .ensures, c .before .before .before .through-scan .ensures) refl
 
 add-put-consumer : tie.Need-add-put-consumer
 add-put-consumer c = search needs
@@ -124,6 +127,7 @@ rescan-on-spec =
     same-length-4
     returns-4
     add-if3
+    through-scan-requires
     settle-requires
     same-length-5
     returns-5

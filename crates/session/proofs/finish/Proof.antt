@@ -23,8 +23,8 @@ returns : tie.Need-returns
 returns c =
     let noted = c .before .before .before .before .before .before .before .before .note in
     record {
-      turned = λ q thread-is value-is store store′ does.
-          call-turned (c .before .before .before .before .before .before .before .before .before .before .before .args .reply) (c .before .before .before .before .before .before .before .before .before .before .before .args .steps) (c .before .before .print-reply .ensures) q (noted .result) does (noted .ensures q thread-is value-is) (c .before .before .before .before .before .before .add-noted .ensures);
+      turned = λ q thread-is value-is store store′ buffer does.
+          call-turned (c .before .before .before .before .before .before .before .before .before .before .before .args .reply) (c .before .before .before .before .before .before .before .before .before .before .before .args .steps) (c .before .before .print-reply .ensures) q (noted .result) buffer does (noted .ensures q thread-is value-is) (c .before .before .before .before .before .before .add-noted .ensures);
     }
 
 pub finish-spec : {M : Type 1} → statement M

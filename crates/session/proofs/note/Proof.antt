@@ -24,6 +24,9 @@ enum-told-5 c = search needs
 enum-known-reply-2 : tie.Need-enum-known-reply-2
 enum-known-reply-2 c = search needs
 
+enum-told-6 : tie.Need-enum-told-6
+enum-told-6 c = search needs
+
 returns : tie.Need-returns
 returns c = λ q e f h. rw (c .enum-told .given .1)
 
@@ -45,6 +48,9 @@ returns-6 c = λ q e f h. rw (c .enum-told5 .given .1)
 returns-7 : tie.Need-returns-7
 returns-7 c = λ q e f h. rw (c .before .reply2 .given .1)
 
+returns-8 : tie.Need-returns-8
+returns-8 c = λ q e f h. rw (c .enum-told6 .given .1)
+
 pub note-spec : {M : Type 1} → statement M
 note-spec =
     tie.close
@@ -56,10 +62,12 @@ note-spec =
     enum-told-4
     enum-told-5
     enum-known-reply-2
+    enum-told-6
     returns
     returns-2
     returns-3
     returns-4
     returns-5
     returns-6
-    returns-7)
+    returns-7
+    returns-8)

@@ -26,6 +26,9 @@ enum-told-6 c = search needs
 enum-told-7 : tie.Need-enum-told-7
 enum-told-7 c = search needs
 
+enum-told-8 : tie.Need-enum-told-8
+enum-told-8 c = search needs
+
 returns : tie.Need-returns
 returns c = ((λ b h r. rw (c .enum-told .given .1) r), omega arith)
 
@@ -47,6 +50,9 @@ returns-6 c = ((λ b h r. rw (c .enum-told6 .given .1) (none-recorded b)), omega
 returns-7 : tie.Need-returns-7
 returns-7 c = ((λ b h r. rw (c .enum-told7 .given .1) (none-recorded b)), omega arith)
 
+returns-8 : tie.Need-returns-8
+returns-8 c = ((λ b h r. rw (c .enum-told8 .given .1) (none-recorded b)), omega arith)
+
 pub reopen-spec : {M : Type 1} → statement M
 reopen-spec =
     tie.close
@@ -58,10 +64,12 @@ reopen-spec =
     enum-told-5
     enum-told-6
     enum-told-7
+    enum-told-8
     returns
     returns-2
     returns-3
     returns-4
     returns-5
     returns-6
-    returns-7)
+    returns-7
+    returns-8)

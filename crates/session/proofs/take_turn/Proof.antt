@@ -1,8 +1,15 @@
 -- `session::take_turn` meets its contract: in each case the turn of that line.
-use mathlib.Core.Path.{refl}
+use mathlib.Core.Path.{_≡_, refl, ap}
+use mathlib.Core.List.{List, []}
+use Prim.Native.Nat.{ℕ}
+use Rattle.rules.specs.Request.{Result}
 use borrow.Author.Needs.{needs}
 use Rattle.session.proofs.take_turn.Statement.{statement}
 use Rattle.session.proofs.take_turn.Tie as tie
+
+-- a start is lent no buffer
+lent-none : {f g : List ℕ → ℕ → Result} → f ≡ g → f [] 0 ≡ g [] 0
+lent-none e = ap (λ (h : List ℕ → ℕ → Result). h [] 0) e
 
 enum-known-line : tie.Need-enum-known-line
 enum-known-line c = search needs
@@ -38,7 +45,7 @@ same-length-5 : tie.Need-same-length-5
 same-length-5 c = search needs
 
 returns-2 : tie.Need-returns-2
-returns-2 c = record { answered = rw (c .before .before .before .before .before .before .before .before .before .before .before .before .line2 .given .1) (c .before .before .before .before .finish .ensures .turned _ refl refl _ _ (c .before .before .before .before .before .before .before .before .before .start-enqueue .ensures)) }
+returns-2 c = record { answered = rw (c .before .before .before .before .before .before .before .before .before .before .before .before .line2 .given .1) (c .before .before .before .before .finish .ensures .turned _ refl refl _ _ [] (lent-none (c .before .before .before .before .before .before .before .before .before .start-enqueue .ensures))) }
 
 enum-told : tie.Need-enum-told
 enum-told c = search needs
@@ -59,10 +66,13 @@ same-length-8 : tie.Need-same-length-8
 same-length-8 c = search needs
 
 returns-3 : tie.Need-returns-3
-returns-3 c = record { answered = rw (c .before .before .before .before .before .before .before .before .before .before .before .enum-told .given .1) (c .before .before .before .before .finish2 .ensures .turned _ refl refl _ _ (c .before .before .before .before .before .before .before .before .before .start-dequeue .ensures)) }
+returns-3 c = record { answered = rw (c .before .before .before .before .before .before .before .before .before .before .before .enum-told .given .1) (c .before .before .before .before .finish2 .ensures .turned _ refl refl _ _ [] (lent-none (c .before .before .before .before .before .before .before .before .before .start-dequeue .ensures))) }
 
 enum-known-line-3 : tie.Need-enum-known-line-3
 enum-known-line-3 c = search needs
+
+slice-aggregate-step : tie.Need-slice-aggregate-step
+slice-aggregate-step c = search needs
 
 step-requires : tie.Need-step-requires
 step-requires c κs = search needs
@@ -80,7 +90,7 @@ same-length-11 : tie.Need-same-length-11
 same-length-11 c = search needs
 
 returns-4 : tie.Need-returns-4
-returns-4 c = record { answered = rw (c .before .before .before .before .before .before .before .before .before .before .before .before .line3 .given .1) (c .before .before .before .before .finish3 .ensures .turned _ refl refl _ _ (c .before .before .before .before .before .before .before .before .before .step .ensures)) }
+returns-4 c = record { answered = rw (c .before .before .before .before .before .before .before .before .before .before .before .before .before .before .line3 .given .1) (c .before .before .before .before .finish3 .ensures .turned _ refl refl _ _ _ (c .before .before .before .before .before .before .before .before .before .before .step .ensures)) }
 
 enum-told-2 : tie.Need-enum-told-2
 enum-told-2 c = search needs
@@ -121,6 +131,7 @@ take-turn-spec =
     same-length-8
     returns-3
     enum-known-line-3
+    slice-aggregate-step
     step-requires
     finish-requires-3
     same-length-9

@@ -1,12 +1,10 @@
 -- `taking::mark_handled` meets its contract.
-use mathlib.Core.Path.{refl, sym, _∙_}
-use native.Mathlib.Omega.{arith}
-use borrow.Author.Needs.{needs}
+use mathlib.Core.Path.{sym, _∙_}
 use borrow.Author.Tests.{eq-eqb, ne-eqb}
-use Rattle.rules.specs.Cell.{writes}
+use borrow.Author.Needs.{needs}
 use Rattle.rules.specs.Consumer.{markHandled}
-use Rattle.rules.specs.Request.{applied}
 use Rattle.store.proofs.Slots.{at-there, stands-at, not-inside}
+use Rattle.store.specs.Items.{lent}
 use Rattle.taking.proofs.mark_handled.Statement.{statement}
 use Rattle.taking.proofs.mark_handled.Tie as tie
 
@@ -24,13 +22,13 @@ same-length c = search needs
 
 returns : tie.Need-returns
 unfolding markHandled
-returns c = not-inside (c .before .before .before .read-consumer .ensures .found-record) (c .before .before .before .read-consumer .ensures .found-position) _ _ (c .before .slot-in .ensures) (c .match .keys2)
+returns c = lent (not-inside (c .before .before .before .read-consumer .ensures .found-record) (c .before .before .before .read-consumer .ensures .found-position) _ _ (c .before .slot-in .ensures) (c .match .keys2)) _ _
 
-read-contents-requires : tie.Need-read-contents-requires
-read-contents-requires c κs = search needs
+read-drain-requires : tie.Need-read-drain-requires
+read-drain-requires c κs = search needs
 
-mark-front-requires : tie.Need-mark-front-requires
-mark-front-requires c κs = (c .before .before .before .before .before .before .before .before .before .before .before .before .before .before .pre, at-there (c .before .before .before .before .before .before .before .before .before .slot-in .ensures) (c .before .before .before .before .before .before .before .«record» .given .1))
+mark-item-requires : tie.Need-mark-item-requires
+mark-item-requires c κs = (c .before .before .before .before .before .before .before .before .before .before .before .before .before .before .pre, at-there (c .before .before .before .before .before .before .before .before .slot-in .ensures) (c .before .before .before .before .before .before .«record» .given .1))
 
 same-length-2 : tie.Need-same-length-2
 same-length-2 c = search needs
@@ -38,25 +36,25 @@ same-length-2 c = search needs
 returns-2 : tie.Need-returns-2
 unfolding markHandled
 returns-2 c =
-    let k = c .before .before .before .before .before .before .before .before .before .before .before .before .before .before .read-consumer .ensures in
-    let at = stands-at (k .found-record) (k .found-position) (c .before .before .before .before .before .before .before .before .before .before .before .before .slot-in .ensures) (c .before .before .before .before .before .before .before .before .before .before .«record» .given .1) in
-    rw (at .link, at .inside, at .is, eq-eqb _ _ (k .found-position ∙ c .before .before .before .before .if1 .taken ∙ sym (c .before .before .before .before .before .before .before .read-contents .ensures .head-position))) (c .before .before .mark-front .ensures)
+    let k = c .before .before .before .before .before .before .before .before .before .before .before .before .before .read-consumer .ensures in
+    let at = stands-at (k .found-record) (k .found-position) (c .before .before .before .before .before .before .before .before .before .before .before .slot-in .ensures) (c .before .before .before .before .before .before .before .before .before .«record» .given .1) in
+    rw (at .link, at .inside, at .is, eq-eqb _ 0 (c .before .before .before .before .before .before .read-drain .ensures .limit ∙ c .before .before .before .before .if1 .taken)) (lent (c .before .before .mark-item .ensures) _ _)
 
-put-entry-requires : tie.Need-put-entry-requires
-put-entry-requires c κs = omega (arith, c .before .before .before .before .before .before .before .before .before .before .before .before .before .before .pre, at-there (c .before .before .before .before .before .before .before .before .before .slot-in .ensures) (c .before .before .before .before .before .before .before .«record» .given .1))
-
-clear-consumer-requires : tie.Need-clear-consumer-requires
-clear-consumer-requires c κs = omega (arith, c .before .before .before .before .before .before .before .before .before .before .before .before .before .before .before .before .before .before .pre)
+mark-drained-requires : tie.Need-mark-drained-requires
+mark-drained-requires c κs = (c .before .before .before .before .before .before .before .before .before .before .before .before .before .before .before .pre, at-there (c .before .before .before .before .before .before .before .before .before .slot-in .ensures) (c .before .before .before .before .before .before .before .«record» .given .1))
 
 same-length-3 : tie.Need-same-length-3
 same-length-3 c = search needs
 
+same-length-4 : tie.Need-same-length-4
+same-length-4 c = search needs
+
 returns-3 : tie.Need-returns-3
-unfolding markHandled applied writes
+unfolding markHandled
 returns-3 c =
-    let k = c .before .before .before .before .before .before .before .before .before .before .before .before .before .before .before .before .before .before .read-consumer .ensures in
-    let at = stands-at (k .found-record) (k .found-position) (c .before .before .before .before .before .before .before .before .before .before .before .before .before .before .before .before .slot-in .ensures) (c .before .before .before .before .before .before .before .before .before .before .before .before .before .before .«record» .given .1) in
-    rw (at .link, at .inside, at .is, k .found-position, c .before .before .before .before .before .before .before .before .before .before .before .read-contents .ensures .head-position, ne-eqb _ _ (c .before .before .before .before .before .before .before .before .if1 .left), k .item-call, k .item-value, c .before .before .clear-consumer .ensures, c .before .before .before .before .before .before .put-entry .ensures) refl
+    let k = c .before .before .before .before .before .before .before .before .before .before .before .before .before .before .before .before .read-consumer .ensures in
+    let at = stands-at (k .found-record) (k .found-position) (c .before .before .before .before .before .before .before .before .before .before .before .before .before .before .slot-in .ensures) (c .before .before .before .before .before .before .before .before .before .before .before .before .«record» .given .1) in
+    rw (at .link, at .inside, at .is, ne-eqb _ 0 (λ e. c .before .before .before .before .before .before .before .if1 .left (sym (c .before .before .before .before .before .before .before .before .before .read-drain .ensures .limit) ∙ e))) (c .before .before .before .before .mark-drained .ensures)
 
 pub mark-handled-spec : {M : Type 1} → statement M
 mark-handled-spec =
@@ -67,11 +65,11 @@ mark-handled-spec =
     enum-known-record
     same-length
     returns
-    read-contents-requires
-    mark-front-requires
+    read-drain-requires
+    mark-item-requires
     same-length-2
     returns-2
-    put-entry-requires
-    clear-consumer-requires
+    mark-drained-requires
     same-length-3
+    same-length-4
     returns-3)
