@@ -30,8 +30,10 @@
 extern "C" {
 #endif
 
-/* Grows when a call, a number or a word of the store changes its meaning. */
-#define INTAKE_VERSION 5
+/* Grows when a call, a number or a word of the store changes its meaning. 6: a scan folds records that have been read, word 12 is in use
+ * while it goes on, a retired record is kept while a producer holds a retired one of greater place, and intake_has_room counts records. The
+ * words of a store of version 5 are in range here; what is proved speaks of stores that this version alone has written. */
+#define INTAKE_VERSION 6
 
 /* What the calls return. */
 enum {
@@ -43,7 +45,8 @@ enum {
     INTAKE_REFUSED_BUSY = 5,      /* start: that thread has a call under way */
     INTAKE_REFUSED_STARTS = 6,    /* start: all enqueue starts have been used */
     INTAKE_REFUSED_IDLE = 7,      /* step: the thread has no call under way */
-    INTAKE_REFUSED_NONE_FREE = 8, /* step of an enqueue: no record is free; it may be made again (intake_has_room says how to avoid it) */
+    INTAKE_REFUSED_NONE_FREE = 8, /* step of an enqueue: no record is free; it may be made again (intake_has_room and intake_in_the_way say how
+                                     to keep it from staying so) */
     INTAKE_REFUSED_LINK = 9,      /* step: a link is missing, an index leaves its record or a number its range; never on a store that only
                                      the engine has written */
     INTAKE_REFUSED_LIMIT = 14,    /* start of a drain: a limit outside 1 to INTAKE_MOST_DRAINED */
@@ -85,16 +88,37 @@ enum { INTAKE_ENTRIES = 0, INTAKE_RECORDS = 1, INTAKE_PRODUCERS = 2, INTAKE_TAIL
  * between: at most 150, for 64 and 16. A step refused with 8 is not accepted and not counted. */
 #define INTAKE_MOST_ENQUEUE_STEPS(records, producers) (5u * (producers) + (records) + 6u)
 
-/* The fewest records with which intake_has_room says yes of an empty store: 2 * producers + 4, and more if producers are above entries. */
+/* So many records are enough for intake_has_room to say yes of a store with no item left and no call under way: 2 * producers + 4, and more
+ * if producers are above entries. */
 #define INTAKE_LEAST_RECORDS(entries, producers) (2u * (producers) + 3u + ((producers) + (entries) - 1u) / (entries))
 
-/* Whether another enqueue may start without running out of records: a host that starts none where this says no never meets refusal 8
- * (docs/STEPS.md, "Room"). It reads an opened store of at least 16 words. In 64 bits, and without a difference that could be negative:
- * right for any words. */
+/* Whether another enqueue may start: the records that are linked, those that may be linked before the host looks again, and two for each
+ * producer are no more than there are. A host that starts none where this says no, and that before each step of the consumer steps on
+ * whoever is in the way (below), may meet refusal 8, but not for good (docs/STEPS.md, "Room"). It reads an opened store, and says no where
+ * the sizes are out of their limits. */
 static inline int intake_has_room(const uint32_t *store) {
     const uint64_t entries = store[INTAKE_ENTRIES], records = store[INTAKE_RECORDS], producers = store[INTAKE_PRODUCERS];
-    const uint64_t kept = 2 * producers + 3;
-    return records >= kept && store[INTAKE_TAIL] + producers <= store[INTAKE_HEAD] + entries * (records - kept);
+    const uint32_t *record;
+    uint64_t linked = 0, last = 0, reach;
+    if (entries < 2 || entries > 64 || records > 64 || producers > 16) return 0;
+    record = store + 16 + 8 * (producers + 1);
+    for (uint64_t k = 0; k < records; k++, record += 3 * entries + 4) {
+        if (record[3] != 2) continue; /* its use: linked */
+        linked++;
+        if (record[0] > last) last = record[0]; /* its place */
+    }
+    reach = (store[INTAKE_TAIL] + producers + 2 * entries - 2) / entries; /* the last place that may be linked by then */
+    return linked + (reach > last ? reach - last : 0) + 2 * producers <= records;
+}
+
+/* Whether a producer, 1 to producers, stands in phase 4 or holds a retired record. Such a producer keeps retired records from being free, and
+ * may itself be waiting for one of them. A host that steps it on, whoever's turn it is, before each step of the consumer keeps the store from
+ * running dry for good. It reads a store that was opened and is in range. */
+static inline int intake_in_the_way(const uint32_t *store, uint32_t producer) {
+    const uint64_t entries = store[INTAKE_ENTRIES], producers = store[INTAKE_PRODUCERS];
+    const uint32_t *own = store + 16 + 8 * (uint64_t)producer;
+    const uint64_t held = own[4]; /* plus one; 0 is none */
+    return own[0] == 4 || (held > 0 && store[16 + 8 * (producers + 1) + (held - 1) * (3 * entries + 4) + 3] == 3);
 }
 
 /* Makes the store empty. Returns INTAKE_OK, or refusal 1 or 2. */

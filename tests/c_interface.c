@@ -1,4 +1,4 @@
-/* What test_c_interface.py calls: the header's guard and macros, and how much stack the proved calls take. */
+/* What test_c_interface.py calls: the header's guards and macros, and how much stack the proved calls take. */
 #include <pthread.h>
 #include <stdlib.h>
 #include <string.h>
@@ -14,6 +14,7 @@ struct call {
 uint32_t judge_history(const uint32_t *history, size_t words, struct call *table, size_t entries);
 
 int has_room(const uint32_t *store) { return intake_has_room(store); }
+int in_the_way(const uint32_t *store, uint32_t producer) { return intake_in_the_way(store, producer); }
 uint32_t words_of(uint32_t entries, uint32_t records, uint32_t producers) { return INTAKE_WORDS(entries, records, producers); }
 uint32_t least_records(uint32_t entries, uint32_t producers) { return INTAKE_LEAST_RECORDS(entries, producers); }
 uint32_t most_enqueue_steps(uint32_t records, uint32_t producers) { return INTAKE_MOST_ENQUEUE_STEPS(records, producers); }

@@ -1,5 +1,5 @@
-"""Stores on which producer 1 is about to claim a record: any record claimed last, any uses, any records held, any number
-of steps."""
+"""Stores on which producer 1 is about to claim a record: any record claimed last, any uses, few different places, any records
+held, any number of steps."""
 
 import itertools
 
@@ -17,7 +17,8 @@ def claiming(rng, uses, last):
     im.open_store(words, B, N, P, M)
     words[im.LAST_CLAIMED] = last
     for r, use in enumerate(uses):
-        words[words[5] + r * im.record_words(B) + im.USE] = use
+        first = words[5] + r * im.record_words(B)
+        words[first + im.PLACE], words[first + im.USE] = rng.randint(0, 3), use
     for t in range(1, P + 1):
         phase, claimed = (5, rng.randint(0, N)) if t > 1 else (rng.choice((4, 10)), 0)
         own = im.CONTENTS + im.THREAD_WORDS * t

@@ -12,6 +12,7 @@ from typing import NamedTuple
 
 import claim_stores
 import drain_stores
+import fold_stores
 import intake_model as im
 import judge_model as jm
 import leaving_stores
@@ -123,17 +124,18 @@ def random_value(rng):
     return rng.choice((rng.randint(0, 9), rng.randint(0, im.U32), im.U32))
 
 
-def random_schedule(rng):
-    """A list of calls on a store that held other words before. Threads have shares of the calls, which change now
-    and then, and each producer may have a phase before which it mostly stops for long."""
-    sizes = random_sizes(rng)
+def random_schedule(rng, sizes=None, first=(), lengths=(20, 110)):
+    """A list of calls on a store that held other words before, after some first ones. Threads have shares of the calls, which
+    change now and then, and each producer may have a phase before which it mostly stops for long."""
+    sizes = sizes or random_sizes(rng)
     P = sizes[2]
     needed = im.needed_words(*sizes[:3])
     lent = [rng.choice((0, 1, rng.randint(0, im.U32))) for _ in range(needed + rng.choice((0, 1, 5)))]
     recorder = im.Recorder(*sizes, words=list(lent))
     stops = [rng.choice((None, 2, 2, 5, 8, 9)) if t else None for t in range(P + 1)]
-    calls = []
-    for k in range(rng.randint(20, 110)):
+    calls = list(first)
+    recorder.run(calls)
+    for k in range(rng.randint(*lengths)):
         if k % 20 == 0:
             shares = [rng.choice((1, 1, 5)) for _ in range(P + 1)]
         thread = rng.choices(range(P + 1), shares)[0]
@@ -147,6 +149,26 @@ def random_schedule(rng):
         calls.append(call)
         recorder.call(drain_stores.fresh(call))
     return play(lent, sizes, calls)
+
+
+def folding_schedule(rng):
+    """A schedule in which a record is folded. Producer 1 stops at position 1, the last of record 0; positions 2 to 4 are set, 2
+    and 3 taken, and the next scan crosses out of record 1, which it has read."""
+    enqueues = [('e', 2, random_value(rng)) for _ in range(4)]
+    first = enqueues[:1] + [('s', 2)] * 4 + [('d',)] + [('s', 0)] * 3 + [('e', 1, 7), ('s', 1)]
+    for start, steps in zip(enqueues[1:], (9, 6, 7)):
+        first += [start] + [('s', 2)] * steps
+    for steps in (8, 12, rng.choice((8, 8, 7))):
+        first += [('d',)] + [('s', 0)] * steps
+    sizes = (2, rng.choice((3, 4)), rng.choice((2, 3)), rng.choice((20, 40)))
+    return random_schedule(rng, sizes, first, (5, 30))
+
+
+def folds(case):
+    """A scan retires a record."""
+    retired = [im.record_parts(words, im.USE).count(im.USE_RETIRED) for words in snapshots(case)]
+    scans = [words[im.CONTENTS] == 3 for words in snapshots(case)]
+    return any(scan and before < after for scan, before, after in zip(scans, retired, retired[1:]))
 
 
 def goes_back(case):
@@ -180,13 +202,14 @@ def leaves_in_another_order(case):
 
 
 def schedules(seed, calls):
-    """Schedules with at least so many calls in all. Five of six are the next that does something rare."""
+    """Schedules with at least so many calls in all. Six of seven are the next that does something rare."""
     rng = random.Random(seed)
-    wanted = itertools.cycle((lambda case: True, goes_back, rescans, lets_go, drains, leaves_in_another_order))
-    cases = []
+    rare = (goes_back, rescans, lets_go, drains, leaves_in_another_order)
+    kinds = [(random_schedule, wants) for wants in (lambda case: True, *rare)] + [(folding_schedule, folds)]
+    cases, wanted = [], itertools.cycle(kinds)
     while sum(len(case.calls) for case in cases) < calls:
-        wants = next(wanted)
-        cases.append(next(case for case in iter(lambda: random_schedule(rng), None) if wants(case)))
+        draw, wants = next(wanted)
+        cases.append(next(case for case in iter(lambda: draw(rng), None) if wants(case)))
     return cases
 
 
@@ -246,6 +269,7 @@ def wild(rng, kind, phase):
         at = phase if t == thread else rng.randrange(len(limits))
         words += [at] + [up_to(limit) for limit in limits[at][1:-1]]
         words.append(step_counts.drawn(rng) if at else 0)
+    words[im.ALL_HANDLED] = rng.randint(0, 1) if words[im.CONTENTS] in im.SCANNING else 0
     for _ in range(N):
         place = rng.choice((0, 1, 1, 2, 2, 3, im.MAX_PLACE - 1, im.MAX_PLACE))
         words += [place, up_to(N), up_to(N), rng.randint(0, 3)]
@@ -316,6 +340,9 @@ def edges():
             words[first : first + im.THREAD_WORDS] = [phase] + [min(top, 1) for top in row[1:]]
             for k in range(1, im.THREAD_WORDS):
                 cases += at_edge(words, first + k, row[k], ('s', thread))
+            if thread == 0:
+                cases += at_edge(words, im.ALL_HANDLED, int(phase in im.SCANNING), ('s', thread))
+                cases.append(answer(fold_stores.with_word_12(words, 2), ('s', thread)))
         cases += at_edge(store, first, len(limits) - 1, ('s', thread))
     area, draining = im.drain_at(*sizes[:3]), list(store)
     cases += at_edge(store, len(store) - 1, 0, ('d',))
@@ -342,11 +369,14 @@ def with_no_start_left(rng, stores):
 
 
 def with_another_last(rng, store):
-    """A store of the model with another record claimed last, in range or not, or with a spare word that is not zero."""
-    words = list(store)
+    """A store of the model with another record claimed last, in range or not, with another word 12, or with a spare word that
+    is not zero."""
+    words, draw = list(store), rng.random()
     N = words[1]
-    if rng.random() < 0.7:
+    if draw < 0.6:
         words[im.LAST_CLAIMED] = rng.choice((0, rng.randint(1, N), N + 1, rng.choice(BIG)))
+    elif draw < 0.8:
+        words[im.ALL_HANDLED] = rng.choice((1, 1, 2, N, rng.choice(BIG)))
     else:
         words[rng.randrange(im.SPARE, im.CONTENTS)] = rng.choice((1, N, rng.choice(BIG)))
     return answer(words, likely_call(rng, words))
@@ -453,6 +483,17 @@ def letting_go(rng, count):
     return [answer(words, drain_stores.lent_step(rng, words, 0)) for words in stores]
 
 
+def folding(rng, count):
+    """So many stores of each relation on which the consumer scans at the end of its record, goes on, or reads an entry; of a
+    dequeue, and a third as many of a drain."""
+    drawn, stores = fold_stores.crossing(rng) + fold_stores.going_on(rng) + fold_stores.reading(rng), {}
+    for words in rng.sample(drawn, len(drawn)):
+        stores.setdefault((fold_stores.relation(words), im.step(list(words), 0)[0]), []).append(words)
+    some = [words for each in stores.values() for words in each[:count]]
+    some += [drain_stores.draining(rng, words) for words in some[::3]]
+    return [answer(words, drain_stores.lent_step(rng, words, 0)) for words in some]
+
+
 def claiming(rng):
     """A claim from each record claimed last, with up to four records, some of them free."""
     lasts = [(N, last) for N in range(2, 5) for last in range(1, N + 1)]
@@ -466,7 +507,7 @@ def singles(seed, stores, count):
     phases = [('producer', p) for p in range(1, 12)] + [('consumer', p) for p in range(1, 9)]
     dequeues = [store for store in stores if store[im.CONTENTS]]
     late = [store for store in dequeues if store[im.CONTENTS] in (7, 8)]
-    cases = edges() + letting_go(rng, 60) + last_counts(stores) + ends(rng, dequeues) + claiming(rng)
+    cases = edges() + letting_go(rng, 60) + folding(rng, 3) + last_counts(stores) + ends(rng, dequeues) + claiming(rng)
     while len(cases) < count:
         store = rng.choice(stores)
         kind = len(cases) % 28

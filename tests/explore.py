@@ -51,6 +51,15 @@ HEAD_LATE = enqueue(1, 1, 1) + enqueue(2, 2, 6) + enqueue(2, 3, 7)
 TWO_GONE = enqueue(1, 1, 4) + enqueue(1, 2, 6) + dequeue(3) * 2
 THREE_IN = enqueue(1, 1, 4) + enqueue(1, 2, 6) + enqueue(1, 3, 7)
 THREE_GONE = THREE_IN + enqueue(1, 4, 6) + dequeue(3) + dequeue(4) + dequeue(3)
+STOPPED = enqueue(1, 1, 1) + enqueue(2, 2, 6) + enqueue(2, 3, 7)  # producer 1 has taken position 0
+THREE_TAKEN = dequeue(7) + dequeue(11) + dequeue(15)  # positions 1 to 3: the second record is all handled
+TO_FOLD = STOPPED + enqueue(2, 4, 6) + enqueue(2, 5, 7) + THREE_TAKEN
+TO_FOLD_IN_10 = STOPPED + enqueue(3, 4, 4) + enqueue(2, 5, 9) + THREE_TAKEN  # producer 3 holds it
+TO_FOLD_IN_3 = STOPPED + enqueue(2, 4, 6) + enqueue(3, 5, 2) + enqueue(2, 6, 9) + THREE_TAKEN
+# Producer 1 holds the third record in phase 7. That one was folded, and then the second, to which its prev leads.
+WALK = enqueue(1, 1, 1) + enqueue(2, 2, 6) + enqueue(3, 3, 1) + enqueue(2, 4, 9) + enqueue(2, 5, 7) + steps(1)
+WALK += enqueue(2, 6, 6) + enqueue(2, 7, 7) + dequeue(7) + dequeue(15) + dequeue(19) + dequeue(23) + dequeue(25)
+WALK += steps(3) * 4 + dequeue(11) + dequeue(13) + enqueue(2, 8, 6) + enqueue(2, 9, 7)
 GIVEN_BACK = enqueue(1, 1, 4) + enqueue(2, 2, 3) + enqueue(1, 3, 3) + steps(2, 1, 2, 1, 2, 1, 1, 1, 1)
 LATER_CASES = (
     (2, 2, 2, 5, (), HEAD_LATE),
@@ -58,20 +67,29 @@ LATER_CASES = (
     (2, 2, 2, 5, (), TWO_GONE),
     (2, 3, 2, 6, (2,), THREE_GONE),  # the last record was claimed last, and record 0 is free
     (2, 3, 2, 5, (), GIVEN_BACK),  # the record claimed last is free
+    (2, 4, 2, 6, (2,), TO_FOLD),
+    (2, 4, 3, 6, (), TO_FOLD),
+    (2, 4, 3, 5, (), TO_FOLD_IN_10),
+    (2, 4, 3, 6, (2,), TO_FOLD_IN_3),
+    (2, 5, 3, 10, (), WALK),
+    (2, 3, 2, 6, (), TO_FOLD),
+    (2, 5, 2, 8, (), TO_FOLD + enqueue(2, 6, 6) + dequeue(17) + enqueue(2, 7, 7)),  # one is folded, and the next is to be
 )
 
 # Cases whose lists of calls are all tried: B, N, P, M, the number of calls, the limits, and the calls before them.
 HISTORY_CASES = (
     (2, 2, 2, 2, 18),
-    (2, 3, 2, 3, 17),
+    (2, 3, 2, 3, 16),
     (2, 2, 2, 2, 13, (1, 2)),
     (2, 3, 2, 5, 20, (), THREE_IN + dequeue(3)),  # the next dequeue drains the head record
     (2, 3, 2, 5, 14, (2, 3), THREE_IN + dequeue(3)),  # the next drain gives two items in two records
     (2, 4, 3, 7, 10, (), THREE_IN + dequeue(3) * 2),  # it stands in phase 8
+    (2, 4, 2, 6, 24, (), TO_FOLD + dequeue(9)),  # the next step folds
 )
 EXPECTED_REFUSALS = (4, 5, 6, 7, 8, 14, 15)  # on a store that only the engine has written
 ALL_ORDERS_CALLS = 9  # histories of at most so many calls are tried in all orders
-RANDOM_RUNS = 500
+RANDOM_RUNS = 300
+FOLDING_RUNS = 80
 STALLED_RUNS = 200
 SOME_STEPS = 9
 
@@ -172,14 +190,16 @@ def explore(B, N, P, M, limits=(), first=(), engine=im.Intake, limit=None, claus
     start = state_after(open_words(B, N, P, M), first, engine, invariants.Ghost())
     came_from, queue, transitions, met = {start: None}, deque([start]), 0, set()
     measured = lru_cache(maxsize=None)(lambda state: measures.measures(unpacked(state)))
+    clauses = clauses or invariants.CLAUSES
+    of_histories = {name: holds for name, holds in clauses.items() if name not in invariants.STORE}
     while queue:
         state = queue.popleft()
         words, ghost = unpacked(state[0]), state[1]
-        bad = invariants.broken(words, ghost, clauses)
+        again = (state[0], ghost.gap) in met  # with other histories
+        met.add((state[0], ghost.gap))
+        bad = invariants.broken(words, ghost, of_histories if again else clauses)
         if bad:
             return Result(len(came_from), transitions, False, (trace(came_from, state), bad))
-        again = state[0] in met  # with another ghost
-        met.add(state[0])
         for call in moves(words, limits):
             words_after, reply = after(words, call, engine)
             transitions += 1
@@ -288,57 +308,98 @@ def random_step(rng, t):
     return lent(t, length, rng.choice((0, 0, 0, 1, 2, length, length + 1, im.U32)))
 
 
+class Checked:
+    """A run whose calls are checked: every clause, the numbers of steps and the measures after each accepted call, and demand 3
+    at each dequeue's end and where no call is under way."""
+
+    def __init__(self, sizes, engine):
+        self.recorder = im.Recorder(*sizes, engine=engine)
+        self.words, self.lengths, self.accepted = self.recorder.words, measures.Lengths(self.recorder.words), 0
+        self.ghost, self.lists = invariants.Ghost(), invariants.listed()
+
+    def call(self, call):
+        """Make a call. What is wrong then."""
+        before = list(self.words)
+        reply = self.recorder.call(call)
+        if wrong_reply(reply):
+            return [f'reply {reply}']
+        if reply[0] == 'refused':
+            return ['a refusal changed the words'] * (self.words != before)
+        self.accepted += 1
+        self.ghost, self.lists = (past.after(call, before, reply, self.words) for past in (self.ghost, self.lists))
+        bad = invariants.broken(self.words, self.ghost) + self.lengths.wrong(call, reply, before, self.words)
+        bad = bad or wrongly_told(self.words, self.lists, jm.explained_in_time)
+        if not bad and (reply[0] in ('item', 'empty', 'drained') or not self.recorder.busy):
+            bad = self.demand_3()
+        return bad
+
+    def demand_3(self):
+        left = tuple(im.items_left(self.words))
+        if not demand_3_long(left, self.recorder.history):
+            return ['demand 3']
+        few = sum(event[0] in (1, 3) for event in self.recorder.history) <= ALL_ORDERS_CALLS
+        if few and not demand_3_small(left, self.recorder.history):
+            return ['demand 3 by all orders']
+        return []
+
+
 def random_run(seed, calls=250, engine=im.Intake):
-    """One random run with every clause, the numbers of steps and the measures checked after each accepted call, and
-    demand 3 at each dequeue's end and at the end. In bursts only some threads move, so that others stop anywhere. Gives
-    (accepted calls, violation)."""
+    """One random run. In bursts only some threads move, so that others stop anywhere. Gives (accepted calls, folds,
+    violation)."""
     rng = random.Random(seed)
-    B, N, P, M = random_sizes(rng)
-    recorder = im.Recorder(B, N, P, M, engine=engine)
-    ghost, lists, lengths, accepted = invariants.Ghost(), invariants.listed(), measures.Lengths(recorder.words), 0
+    sizes = random_sizes(rng)
+    P, run = sizes[2], Checked(sizes, engine)
     threads = list(range(P + 1))
     for k in range(calls):
         if k % 20 == 0:
             threads = rng.sample(range(P + 1), rng.randint(1, P + 1))
-        before = list(recorder.words)
-        call = random_call(rng, before, threads)
-        reply = recorder.call(call)
-        if wrong_reply(reply):
-            return accepted, (seed, k, call, reply)
-        if reply[0] == 'refused':
-            if recorder.words != before:
-                return accepted, (seed, k, call, 'a refusal changed the words')
-            continue
-        accepted += 1
-        ghost, lists = (past.after(call, before, reply, recorder.words) for past in (ghost, lists))
-        bad = invariants.broken(recorder.words, ghost) + lengths.wrong(call, reply, before, recorder.words)
-        bad = bad or wrongly_told(recorder.words, lists, jm.explained_in_time)
-        if not bad and (reply[0] in ('item', 'empty', 'drained') or k == calls - 1 or not recorder.busy):
-            bad = demand_3_broken(recorder)
+        call = random_call(rng, run.words, threads)
+        bad = run.call(call) or (run.demand_3() if k == calls - 1 else [])
         if bad:
-            return accepted, (seed, k, call, bad)
-    return accepted, None
+            return run.accepted, len(run.ghost.gap), (seed, k, call, bad)
+    return run.accepted, len(run.ghost.gap), None
 
 
-def demand_3_broken(recorder):
-    left = tuple(im.items_left(recorder.words))
-    if not demand_3_long(left, recorder.history):
-        return ['demand 3']
-    few = sum(event[0] in (1, 3) for event in recorder.history) <= ALL_ORDERS_CALLS
-    if few and not demand_3_small(left, recorder.history):
-        return ['demand 3 by all orders']
-    return []
+STOPS = (2, 2, 3, 4, 5, 6, 7, 7, 8, 9, 10, 11)
 
 
-def random_runs(seeds, engine=im.Intake):
-    """Random runs for a range of seeds: (accepted calls in all, the first violation or None)."""
-    total = 0
+def folding_run(seed, calls=700, engine=im.Intake):
+    """One random run in which records are folded: one or two producers stop before some phase, for long or for good, and others
+    now and then in phases 2 and 7, on their way back. Gives the same."""
+    rng = random.Random(seed)
+    P = rng.randint(2, 5)
+    run = Checked((rng.choice((2, 2, 2, 3, 4)), rng.randint(3, 10), P, 200), engine)
+    stops = {t: rng.choice(STOPS) for t in rng.sample(range(1, P + 1), rng.randint(1, 2))}
+    walkers, stands = set(rng.sample(range(1, P + 1), rng.randint(0, P - 1))), dict.fromkeys(range(P + 1), 0)
+    consumers = rng.choice(((0, 0), (0, 0, 0, 0, 0)))
+    for k in range(calls):
+        t = rng.choice((*consumers, *range(1, P + 1)))
+        phase = run.words[im.CONTENTS + im.THREAD_WORDS * t]
+        if stands[t]:
+            stands[t] -= 1
+            continue
+        if t in walkers and phase in (2, 7) and rng.random() < 0.7:
+            stands[t] = rng.choice((5, 15, 40, 80))
+            continue
+        if phase and stops.get(t) == phase:
+            stands[t], stops[t] = rng.choice((20, 60, 200, calls)), rng.choice(STOPS)
+            continue
+        start = ('e', t, 7) if t else ('d',) if rng.random() < 0.7 else ('drain', rng.choice((1, 2, 3, 64)))
+        call = lent(t) if phase else start
+        if bad := run.call(call):
+            return run.accepted, len(run.ghost.gap), (seed, k, call, bad)
+    return run.accepted, len(run.ghost.gap), None
+
+
+def runs_of(run, seeds, engine=im.Intake):
+    """Such runs for a range of seeds: (accepted calls in all, folds, the first violation or None)."""
+    total = folds = 0
     for seed in seeds:
-        accepted, violation = random_run(seed, engine=engine)
-        total += accepted
+        accepted, folded, violation = run(seed, engine=engine)
+        total, folds = total + accepted, folds + folded
         if violation:
-            return total, violation
-    return total, None
+            return total, folds, violation
+    return total, folds, None
 
 
 def stalled_run(seed, calls=600, engine=im.Intake):
@@ -387,7 +448,8 @@ def main(arguments):
     if not arguments:
         for case in HISTORY_CASES:
             report('histories', case[:6], explore_histories, *case)
-        report('random runs', RANDOM_RUNS, random_runs, range(RANDOM_RUNS))
+        report('random runs', RANDOM_RUNS, runs_of, random_run, range(RANDOM_RUNS))
+        report('folding runs', FOLDING_RUNS, runs_of, folding_run, range(FOLDING_RUNS))
         report('stalled runs', STALLED_RUNS, stalled_runs, range(STALLED_RUNS))
 
 

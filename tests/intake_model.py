@@ -1,4 +1,4 @@
-"""An independent model of the Jiffy intake, written by hand from document 01 and from U1 to U3 and U5 of document 02.
+"""An independent model of the Jiffy intake, written by hand from document 01 and from U1 to U3, U5 and U6 of document 02.
 
 The store is a list of 32-bit words. `open_store`, `start_enqueue`, `start_dequeue`, `start_drain` and `step` change the
 list, and the buffer that a step is lent, only when they accept. They answer one of
@@ -21,7 +21,7 @@ LIMITS = ((2, 64), (2, 64), (1, 16), (1, 1_000_000))  # of B, N, P, M
 
 # Contents.
 CONTENTS = 16
-TAIL, TAIL_RECORD, HEAD_RECORD, HEAD_POSITION, STARTS, LAST_CLAIMED, SPARE = range(6, 13)
+TAIL, TAIL_RECORD, HEAD_RECORD, HEAD_POSITION, STARTS, LAST_CLAIMED, ALL_HANDLED, SPARE = range(6, 14)
 
 # Thread words: phase and the call's accepted steps for both, then the producer's, then the consumer's.
 THREAD_WORDS = 8
@@ -30,6 +30,7 @@ CALL, VALUE, POSITION, HELD, CLAIMED, BACK = range(1, 7)
 CURSOR, CURSOR_POSITION, FOUND, FOUND_POSITION, ITEM_CALL, ITEM_VALUE = range(1, 7)
 SCANNED = CURSOR_POSITION  # in phases 6 to 8: 1 where a drain came there through the scan
 LAST_PRODUCER_PHASE, LAST_CONSUMER_PHASE = 11, 8
+SCANNING = (3, 4)  # the consumer's phases in which word 12 may be 1
 
 # The words in use in each phase; the others are zero then.
 PRODUCER_USES = [(), (0, 1, 2, 7)] + [(0, 1, 2, 3, 4, 6, 7)] * 3 + [(0, 1, 2, 3, 4, 5, 6, 7)]
@@ -111,6 +112,7 @@ def contents_in_range(words):
         and words[HEAD_POSITION] <= M
         and words[STARTS] <= M
         and 1 <= words[LAST_CLAIMED] <= N
+        and words[ALL_HANDLED] <= (words[CONTENTS + PHASE] in SCANNING)
         and not any(words[SPARE:CONTENTS])
     )
 
@@ -176,13 +178,23 @@ def held_records(words):
     return held - {-1}
 
 
-def free_records(words):
-    """Free: the use is 0, or it is 3 and no producer holds the record. In rising order."""
+def record_parts(words, k):
+    """Word k of each record."""
     B, N, P, _ = words[:4]
     first = CONTENTS + THREAD_WORDS * (P + 1)
-    uses = words[first + USE : first + N * record_words(B) : record_words(B)]
-    held = held_records(words)
-    return [r for r, use in enumerate(uses) if use == USE_FREE or use == USE_RETIRED and r not in held]
+    return words[first + k : first + N * record_words(B) : record_words(B)]
+
+
+def free_records(words):
+    """Free: the use is 0, or it is 3 and no producer holds the record or any retired record of greater place. In rising
+    order."""
+    uses, places, held = record_parts(words, USE), record_parts(words, PLACE), held_records(words)
+    held_places = [places[x] for x in held if uses[x] == USE_RETIRED]
+
+    def let_go(r):
+        return r not in held and not any(place > places[r] for place in held_places)
+
+    return [r for r, use in enumerate(uses) if use == USE_FREE or use == USE_RETIRED and let_go(r)]
 
 
 def first_after_last(words, records):
@@ -335,8 +347,11 @@ class Intake:
         return GOING
 
     def idle(self, reply):
-        """End the call: the thread's eight words are zero and it holds nothing."""
+        """End the call: the thread's eight words are zero and it holds nothing. Word 12 is 0 but in the consumer's phases 3
+        and 4."""
         self.w[self.own : self.own + THREAD_WORDS] = [0] * THREAD_WORDS
+        if self.own == CONTENTS:
+            self.w[ALL_HANDLED] = 0
         return reply
 
     def end_drain(self):
@@ -526,23 +541,44 @@ class Intake:
         following = link(self.part(r, NEXT))
         self.cursor_at(following, self.first_position(following))
 
+    def read_whole(self, r):
+        """Whether the scan, at the end of record r, was there from its first entry on and read all its entries as handled,
+        and r is not the head record."""
+        return self.w[ALL_HANDLED] == 1 and self.w[HEAD_RECORD] != r + 1
+
+    def fold(self, r):
+        """Joins prev and next of record r to each other and retires it. It keeps its own links."""
+        before, following = link(self.part(r, PREV)), link(self.part(r, NEXT))
+        self.put_part(before, NEXT, following + 1)
+        self.put_part(following, PREV, before + 1)
+        self.put_part(r, USE, USE_RETIRED)
+
     def scan_tail(self):
         """3. If the cursor stands at its record's end: empty if that is the tail record, otherwise cross to next;
-        stay. Else read tail: cursor at tail is empty; otherwise to 4."""
+        stay. Else read tail: cursor at tail is empty; otherwise to 4. When the scan crosses out of a record that is neither
+        head nor tail record and has read all its entries as handled, the same step folds that record. The next one is
+        entered at its first entry."""
         cursor, position = link(self.mine(CURSOR)), self.mine(CURSOR_POSITION)
         if self.at_end(cursor, position):
             if self.w[TAIL_RECORD] == cursor + 1:
                 return self.answer_empty()
+            if self.read_whole(cursor):
+                self.fold(cursor)
             self.cross(cursor)
+            self.w[ALL_HANDLED] = 1
             return self.to(3)
         if position == self.w[TAIL]:
             return self.answer_empty()
         return self.to(4)
 
     def scan_entry(self):
-        """4. Read the entry: set makes it found, and the cursor returns to the head; to 5. Otherwise advance; to 3."""
+        """4. Read the entry: set makes it found, and the cursor returns to the head; to 5. Otherwise advance; to 3. Word 12
+        stays 1 if the entry was handled."""
         cursor, position = link(self.mine(CURSOR)), self.mine(CURSOR_POSITION)
-        if self.w[self.entry(cursor, position) + STATE] == SET:
+        state = self.w[self.entry(cursor, position) + STATE]
+        if state != HANDLED:
+            self.w[ALL_HANDLED] = 0
+        if state == SET:
             self.found_at(cursor, position)
             self.cursor_to_head()
             return self.to(5)

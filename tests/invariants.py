@@ -5,8 +5,9 @@ To try a new one, write a function of the view under `@clause('its name')`; ever
 state it meets. `broken(words, ghost)` names the clauses that fail.
 
 Words of the clauses: lo, tp and hi are the places of the head record, the tail record and the last record; hp is the
-head position; state_at(p) is EMPTY, SET or HANDLED, where a position of a retired record counts as handled and one
-past the last record as empty; own[p] is the call that took position p.
+head position; a gap is a place whose record was folded; a place is listed if it is from lo to hi and no gap; state_at(p)
+is EMPTY, SET or HANDLED, where a position of a place that is not listed counts as handled below hi and as empty past it;
+own[p] is the call that took position p.
 
 There are two histories. What was *told* is the papers': going adds nothing, but for the marks of a drain. In what is
 *kept* every item is given at its mark, also where a dequeue then goes to phase 8, and another dequeue is opened right
@@ -110,25 +111,58 @@ class Ghost(NamedTuple):
     own: tuple = ()  # position -> call, written at the take
     kept: Past = Past()
     told: Past = Past()
+    entries: tuple = ()  # position -> state, as the steps have written it
+    gap: tuple = ()  # the places whose records were folded, in the order of the folds
+    last: int = 1  # the greatest place that was linked
 
     def after(self, call, before, reply, words):
         """The ghost after a call with this reply; `before` are the words before the call, `words` those after it."""
         if reply[0] == 'refused':
             return self
-        thread, own = im.thread_of(call), self.own
-        phase = before[im.CONTENTS + im.THREAD_WORDS * thread] if call[0] == 's' else None
-        if thread and phase == 1:
-            own += (self.told.start_of(thread)[2],)
+        thread, phase = im.thread_of(call), None
+        if call[0] == 's':
+            phase = before[im.CONTENTS + im.THREAD_WORDS * thread]
+        ghost = self.of_store(thread, phase, before, words)
         told = im.told(self.told, call, reply, before, words)
         if not thread and reply[0] in ('item', 'empty', 'drained'):
             told = told.at_rest()
-            return Ghost(own, told, told)
+            return ghost._replace(kept=told, told=told)
         if not thread and phase == 7:
             item = tuple(before[im.CONTENTS + k] for k in (im.ITEM_CALL, im.ITEM_VALUE))
-            return Ghost(own, self.kept.with_event(im.gave(item)).with_event(im.STARTED), told)
+            return ghost._replace(kept=self.kept.with_event(im.gave(item)).with_event(im.STARTED), told=told)
         if self.kept == self.told:
-            return Ghost(own, told, told)
-        return Ghost(own, im.told(self.kept, call, reply, before, words), told)
+            return ghost._replace(kept=told, told=told)
+        return ghost._replace(kept=im.told(self.kept, call, reply, before, words), told=told)
+
+    def of_store(self, thread, phase, before, words):
+        """Owners, entries, gaps and last place after a step of a thread in a phase, by what these phases do; phase is None
+        for a start."""
+        own = im.CONTENTS + im.THREAD_WORDS * thread
+        if thread and phase == 1:
+            return self._replace(own=self.own + (self.told.start_of(thread)[2],), entries=self.entries + (EMPTY,))
+        if thread and phase == 9:
+            return self._replace(entries=put(self.entries, before[own + im.POSITION], SET))
+        if thread and phase in (5, 11):
+            held, claimed = (before[own + k] for k in (im.HELD, im.CLAIMED))
+            if not part(before, held, im.NEXT):
+                return self._replace(last=max(self.last, part(words, claimed, im.PLACE)))
+        if not thread and phase == 7:
+            return self._replace(entries=put(self.entries, before[own + im.FOUND_POSITION], HANDLED))
+        if not thread and phase == 3:
+            cursor = before[own + im.CURSOR]
+            if part(before, cursor, im.USE) != part(words, cursor, im.USE):
+                return self._replace(gap=self.gap + (part(before, cursor, im.PLACE),))
+        return self
+
+
+def put(items, k, item):
+    """A tuple with another item at k."""
+    return items[:k] + (item,) + items[k + 1 :]
+
+
+def part(words, number, k):
+    """A word of the record with this stored number."""
+    return words[words[5] + (number - 1) * im.record_words(words[0]) + k]
 
 
 def listed():
@@ -171,7 +205,7 @@ class View:
     """A store read once, with what the clauses speak of."""
 
     def __init__(self, words, ghost):
-        self.words, self.own, self.kept, self.told = words, *ghost
+        self.words, (self.own, self.kept, self.told, self.entries, self.gap, self.last) = words, ghost
         self.B, self.N, self.P, self.M = words[:4]
         self.tail, self.hp, self.starts = words[im.TAIL], words[im.HEAD_POSITION], words[im.STARTS]
         self.tail_record, self.head_record = words[im.TAIL_RECORD] - 1, words[im.HEAD_RECORD] - 1
@@ -190,11 +224,10 @@ class View:
         self.chain = [self.head_record]  # from the head record along next, at most N records
         while self.next[self.chain[-1]] is not None and len(self.chain) <= self.N:
             self.chain.append(self.next[self.chain[-1]])
-        self.lo, self.tp = self.place[self.head_record], self.place[self.tail_record]
-        self.hi = self.lo + len(self.chain) - 1
-        self.first = self.B * (self.lo - 1)  # the first position of the chain
-        self.chain_states = [state for r in self.chain for state in self.states[r]]
-        self.end = self.first + len(self.chain_states)
+        self.at_place = {self.place[r]: r for r in self.chain}
+        # the positions of the chain, with their states
+        self.positions = [pair for r in self.chain for pair in enumerate(self.states[r], self.B * (self.place[r] - 1))]
+        self.lo, self.tp, self.hi = (self.place[r] for r in (self.head_record, self.tail_record, self.chain[-1]))
 
     def read_threads(self):
         own = [self.words[16 + 8 * t : 24 + 8 * t] for t in range(self.P + 1)]
@@ -210,22 +243,36 @@ class View:
             self.producers.append(
                 Producer(t, phase, call, value, L, record_number(held), record_number(claimed), back, place)
             )
+        self.under_way = [p for p in self.producers if p.phase]
 
     def state_at(self, p):
-        if p < self.first:
-            return HANDLED
-        return self.chain_states[p - self.first] if p < self.end else EMPTY
+        r = self.at_place.get(p // self.B + 1)
+        if r is not None:
+            return self.states[r][p % self.B]
+        return HANDLED if p < self.B * self.hi else EMPTY
 
     def entry_at(self, p):
         """State, call number and value of a position of the chain."""
-        k, i = divmod(p - self.first, self.B)
-        at = im.RECORD_HEAD + im.ENTRY_WORDS * i
-        return tuple(self.record[self.chain[k]][at : at + im.ENTRY_WORDS])
+        at = im.RECORD_HEAD + im.ENTRY_WORDS * (p % self.B)
+        return tuple(self.record[self.at_place[p // self.B + 1]][at : at + im.ENTRY_WORDS])
 
     def set_positions(self, below=None):
         """The positions of the chain that are set, those below a bound if one is given."""
-        stop = self.end if below is None else min(below, self.end)
-        return [p for p in range(self.first, stop) if self.chain_states[p - self.first] == SET]
+        return [p for p, state in self.positions if state == SET and (below is None or p < below)]
+
+    def listed(self, k):
+        """Whether a place is in the list, by the ghost."""
+        return self.lo <= k <= self.last and k not in self.gap
+
+    def awaited(self, L):
+        """Whether the record of a position is in the list."""
+        return self.listed(L // self.B + 1)
+
+    def trail(self, L, x):
+        """From x back over retired records, whose places fall, to a linked one that ends past L."""
+        while self.use[x] == USE_RETIRED and self.prev[x] is not None and self.place[self.prev[x]] < self.place[x]:
+            x = self.prev[x]
+        return self.use[x] == USE_LINKED and L < self.B * self.place[x]
 
     def position_of(self, call):
         return self.own.index(call) if call in self.own else None
@@ -240,7 +287,7 @@ class View:
         return [k for k in range(1, mask.bit_length()) if mask >> k & 1]
 
     def in_phases(self, first, last):
-        return [p for p in self.producers if first <= p.phase <= last]
+        return [p for p in self.under_way if first <= p.phase <= last] if self.under_way else []
 
     def inside(self, r, position):
         """Whether a position lies in record r."""
@@ -249,6 +296,7 @@ class View:
 
 CLAUSES = {}
 TOLD = {}  # those that hold of histories as lists of events too
+STORE = {}  # those that look at no history: at words, entries and gaps alone
 
 
 def clause(name, group=None):
@@ -263,26 +311,31 @@ def clause(name, group=None):
     return register
 
 
+def of_store(name):
+    """Register a predicate that looks at no history."""
+    return clause(name, STORE)
+
+
 def broken(words, ghost, clauses=None):
     """The names of the clauses that fail. A clause that cannot be evaluated on the view fails."""
     view, named = View(words, ghost), (clauses or CLAUSES).items()
     try:
         return [name for name, holds in named if not holds(view)]
-    except (IndexError, TypeError):
+    except (LookupError, TypeError):
         return [name for name, holds in named if not evaluates(holds, view)]
 
 
 def evaluates(holds, view):
     try:
         return holds(view)
-    except (IndexError, TypeError):
+    except (LookupError, TypeError):
         return False
 
 
 # Ranges.
 
 
-@clause('ranges')
+@of_store('ranges')
 def _(v):
     return im.in_range(v.words)
 
@@ -290,42 +343,52 @@ def _(v):
 # The position machine: places.
 
 
-@clause('places: 1 <= lo <= tp <= hi')
+@of_store('places: 1 <= lo <= tp <= hi')
 def _(v):
     return 1 <= v.lo <= v.tp <= v.hi
 
 
-@clause('places: B*lo <= hp + B')
+@of_store('places: B*lo <= hp + B')
 def _(v):
     return v.B * v.lo <= v.hp + v.B
 
 
-@clause('places: hp <= B*lo')
+@of_store('places: hp <= B*lo')
 def _(v):
     return v.hp <= v.B * v.lo
 
 
-@clause('places: hp <= tail')
+@of_store('places: hp <= tail')
 def _(v):
     return v.hp <= v.tail
 
 
-@clause('places: hi <= tp + 1')
+@of_store('places: hi <= tp + 1')
 def _(v):
     return v.hi <= v.tp + 1
 
 
-@clause('places: B*hi + 2 <= tail + 2*B')
+@of_store('places: B*tp <= tail + B')
+def _(v):
+    return v.B * v.tp <= v.tail + v.B
+
+
+@of_store('places: hi is the greatest that was linked')
+def _(v):
+    return v.hi == v.last
+
+
+@of_store('places: B*hi + 2 <= tail + 2*B')
 def _(v):
     return v.B * v.hi + 2 <= v.tail + 2 * v.B
 
 
-@clause('places: tail <= starts')
+@of_store('places: tail <= starts')
 def _(v):
     return v.tail <= v.starts
 
 
-@clause('places: tail and the takes to come make starts')
+@of_store('places: tail and the takes to come make starts')
 def _(v):
     return v.tail + len(v.in_phases(1, 1)) == v.starts
 
@@ -333,46 +396,56 @@ def _(v):
 # Entries.
 
 
-@clause('entries: empty from tail on')
+@of_store('entries: empty from tail on')
 def _(v):
-    return not any(v.chain_states[max(0, v.tail - v.first) :])
+    return not any(state for p, state in v.positions if p >= v.tail)
 
 
-@clause('entries: handled below hp')
+@of_store('entries: handled below hp')
 def _(v):
-    return all(state == HANDLED for state in v.chain_states[: v.hp - v.first])
+    return all(state == HANDLED for p, state in v.positions if p < v.hp)
 
 
-@clause('entries: set only below B*tp')
+@of_store('entries: set only below B*tp')
 def _(v):
     return all(p < v.B * v.tp for p in v.set_positions())
 
 
-@clause('entries: not empty only below B*tp')
+@of_store('entries: not empty only below B*tp')
 def _(v):
-    return not any(v.chain_states[v.B * v.tp - v.first :])
+    return not any(state for p, state in v.positions if p >= v.B * v.tp)
 
 
 @clause('entries: set or handled carry the call and value of own')
 def _(v):
-    for p in range(v.first, v.end):
+    for p, _ in v.positions:
         state, call, value = v.entry_at(p)
         if state != EMPTY and (call, value) != (v.own[p], v.kept.values[v.own[p] - 1]):
             return False
     return True
 
 
-@clause('entries: set only in a linked record')
+@of_store('entries: as the steps have written them')
+def _(v):
+    return all(v.state_at(p) == state for p, state in enumerate(v.entries))
+
+
+@of_store('entries: handled in a gap')
+def _(v):
+    return all(set(v.entries[v.B * (k - 1) : v.B * k]) == {HANDLED} for k in v.gap)
+
+
+@of_store('entries: set only in a linked record')
 def _(v):
     return not any(SET in v.states[r] for r in range(v.N) if v.use[r] != USE_LINKED)
 
 
-@clause('entries: all handled in a retired record')
+@of_store('entries: all handled in a retired record')
 def _(v):
     return all(set(v.states[r]) == {HANDLED} for r in range(v.N) if v.use[r] == USE_RETIRED)
 
 
-@clause('entries: empty in [hp, tail) has a producer in 2 to 9 there')
+@of_store('entries: empty in [hp, tail) has a producer in 2 to 9 there')
 def _(v):
     there = {p.L for p in v.in_phases(2, 9)}
     return all(p in there for p in range(v.hp, v.tail) if v.state_at(p) == EMPTY)
@@ -453,12 +526,12 @@ def _(v):
     return not any(p.call in v.own for p in v.in_phases(1, 1))
 
 
-@clause('producer 2-9: L < tail')
+@of_store('producer 2-9: L < tail')
 def _(v):
     return all(p.L < v.tail for p in v.in_phases(2, 9))
 
 
-@clause('producer 2-9: the entry at L is empty')
+@of_store('producer 2-9: the entry at L is empty')
 def _(v):
     return all(v.state_at(p.L) == EMPTY for p in v.in_phases(2, 9))
 
@@ -468,32 +541,32 @@ def _(v):
     return all(p.L < v.tail and v.own[p.L] == p.call for p in v.in_phases(2, 11))
 
 
-@clause('producer 3-11: place <= tp')
+@of_store('producer 3-11: place <= tp')
 def _(v):
     return all(p.held is not None and p.place <= v.tp for p in v.in_phases(3, 11))
 
 
-@clause('producer 3-6: B*place <= L')
+@of_store('producer 3-6: B*place <= L')
 def _(v):
     return all(v.B * p.place <= p.L for p in v.in_phases(3, 6))
 
 
-@clause('producer 6: place < hi')
+@of_store('producer 6: place < hi')
 def _(v):
     return all(p.place < v.hi for p in v.in_phases(6, 6))
 
 
-@clause('producer 7: L + B < B*place')
+@of_store('producer 7: L + B < B*place')
 def _(v):
     return all(p.L + v.B < v.B * p.place for p in v.in_phases(7, 7))
 
 
-@clause('producer 8-11: L < B*place <= L + B')
+@of_store('producer 8-11: L < B*place <= L + B')
 def _(v):
     return all(v.inside(p.held, p.L) for p in v.in_phases(8, 11))
 
 
-@clause('producer 9: the entry carries its call and value')
+@of_store('producer 9: the entry carries its call and value')
 def _(v):
     return all(v.entry_at(p.L) == (EMPTY, p.call, p.value) for p in v.in_phases(9, 9))
 
@@ -515,7 +588,7 @@ def consumer_in(v, first, last):
     return first <= v.consumer.phase <= last
 
 
-@clause('consumer 2-7: hp < B*lo')
+@of_store('consumer 2-7: hp < B*lo')
 def _(v):
     return not consumer_in(v, 2, 7) or v.hp < v.B * v.lo
 
@@ -550,22 +623,22 @@ def none_precedes_found(v, below):
     return not any(v.kept.precedes(v.own[p], found) for p in v.set_positions(below))
 
 
-@clause('consumer 3: hp < cursor <= tail')
+@of_store('consumer 3: hp < cursor <= tail')
 def _(v):
     return not consumer_in(v, 3, 3) or v.hp < v.consumer.cursor_position <= v.tail
 
 
-@clause('consumer 4: hp < cursor < tail')
+@of_store('consumer 4: hp < cursor < tail')
 def _(v):
     return not consumer_in(v, 4, 4) or v.hp < v.consumer.cursor_position < v.tail
 
 
-@clause('consumer 3-5: lo <= cursor place <= tp')
+@of_store('consumer 3-5: lo <= cursor place <= tp')
 def _(v):
     return not consumer_in(v, 3, 5) or v.lo <= v.place[v.consumer.cursor] <= v.tp
 
 
-@clause('consumer 3-5: cursor in its record or at its end')
+@of_store('consumer 3-5: cursor in its record or at its end')
 def _(v):
     c = v.consumer
     if not consumer_in(v, 3, 5):
@@ -573,18 +646,18 @@ def _(v):
     return c.cursor_position <= v.B * v.place[c.cursor] <= c.cursor_position + v.B
 
 
-@clause('consumer 4: cursor in its record')
+@of_store('consumer 4: cursor in its record')
 def _(v):
     return not consumer_in(v, 4, 4) or v.inside(v.consumer.cursor, v.consumer.cursor_position)
 
 
-@clause('consumer 5: hp <= cursor < found')
+@of_store('consumer 5: hp <= cursor < found')
 def _(v):
     c = v.consumer
     return not consumer_in(v, 5, 5) or v.hp <= c.cursor_position < c.found_position
 
 
-@clause('consumer 5: at its end the cursor is before the tail record')
+@of_store('consumer 5: at its end the cursor is before the tail record')
 def _(v):
     c = v.consumer
     if not consumer_in(v, 5, 5) or c.cursor_position != v.B * v.place[c.cursor]:
@@ -592,33 +665,33 @@ def _(v):
     return v.place[c.cursor] < v.tp
 
 
-@clause('consumer 5-7: hp <= found < tail')
+@of_store('consumer 5-7: hp <= found < tail')
 def _(v):
     return not consumer_in(v, 5, 7) or v.hp <= v.consumer.found_position < v.tail
 
 
-@clause('consumer 5-7: found is set')
+@of_store('consumer 5-7: found is set')
 def _(v):
     return not consumer_in(v, 5, 7) or v.state_at(v.consumer.found_position) == SET
 
 
-@clause('consumer 5-7: found in its record')
+@of_store('consumer 5-7: found in its record')
 def _(v):
     return not consumer_in(v, 5, 7) or v.inside(v.consumer.found, v.consumer.found_position)
 
 
-@clause('consumer 7: the item is that of found')
+@of_store('consumer 7: the item is that of found')
 def _(v):
     c = v.consumer
     return not consumer_in(v, 7, 7) or v.entry_at(c.found_position)[1:] == (c.item_call, c.item_value)
 
 
-@clause('consumer 8: hp = B*lo')
+@of_store('consumer 8: hp = B*lo')
 def _(v):
     return not consumer_in(v, 8, 8) or v.hp == v.B * v.lo
 
 
-@clause('consumer 8: lo < tp')
+@of_store('consumer 8: lo < tp')
 def _(v):
     return not consumer_in(v, 8, 8) or v.lo < v.tp
 
@@ -634,27 +707,27 @@ def _(v):
 # Drains.
 
 
-@clause('drain: below its limit but in 8')
+@of_store('drain: below its limit but in 8')
 def _(v):
     return v.limit == 0 or consumer_in(v, 8, 8) or v.count < v.limit
 
 
-@clause('drain 8: has an item')
+@of_store('drain 8: has an item')
 def _(v):
     return v.limit == 0 or not consumer_in(v, 8, 8) or v.count > 0
 
 
-@clause('drain 2-5: has no item')
+@of_store('drain 2-5: has no item')
 def _(v):
     return not consumer_in(v, 2, 5) or v.count == 0
 
 
-@clause('drain 6-8: came through the scan for its first item alone')
+@of_store('drain 6-8: came through the scan for its first item alone')
 def _(v):
     return not v.scanned or v.limit > 0 and v.count == (1 if v.consumer.phase == 8 else 0)
 
 
-@clause('drain 6-7: came through the scan, or found is the head')
+@of_store('drain 6-7: came through the scan, or found is the head')
 def _(v):
     return not consumer_in(v, 6, 7) or v.limit == 0 or v.scanned or v.consumer.found_position == v.hp
 
@@ -664,7 +737,7 @@ def _(v):
     return v.count == 0 or v.kept.open_since(im.pair(v.words, v.count - 1))
 
 
-@clause('drain 8: the item is the last pair')
+@of_store('drain 8: the item is the last pair')
 def _(v):
     item = v.consumer.item_call, v.consumer.item_value
     return v.limit == 0 or not consumer_in(v, 8, 8) or item == im.pair(v.words, v.count - 1)
@@ -708,103 +781,156 @@ def _(v):
     return v.told.good
 
 
-# Memory: the chain.
+# Memory: the list.
 
 
-@clause('chain: ends')
+@of_store('list: ends')
 def _(v):
     return len(v.chain) <= v.N
 
 
-@clause('chain: ch k has use 2')
+@of_store('list: its records have use 2')
 def _(v):
     return all(v.use[r] == USE_LINKED for r in v.chain)
 
 
-@clause('chain: ch k has place k')
+@of_store('list: its places rise')
 def _(v):
-    return all(v.place[r] == v.lo + k for k, r in enumerate(v.chain))
+    return all(v.place[a] < v.place[b] for a, b in zip(v.chain, v.chain[1:]))
 
 
-@clause('chain: prev of ch k is ch (k - 1) above lo')
+@of_store('list: prev leads back, but from the head record')
 def _(v):
     return all(v.prev[b] == a for a, b in zip(v.chain, v.chain[1:]))
 
 
-@clause('chain: a record of use 2 is ch of its place')
+@of_store('list: has a record of each listed place, and of no other')
+def _(v):
+    return [v.place[r] for r in v.chain] == [k for k in range(v.lo, v.last + 1) if v.listed(k)]
+
+
+@of_store('list: has every record of use 2')
 def _(v):
     return all(r in v.chain for r in range(v.N) if v.use[r] == USE_LINKED)
 
 
-@clause('chain: the tail record is on it')
+@of_store('list: has the tail record')
 def _(v):
     return v.tail_record in v.chain
 
 
-@clause('chain: a record of use 0 is wholly zero')
+@of_store('list: lo is no gap, nor is a place from tp on')
+def _(v):
+    return v.lo not in v.gap and all(k < v.tp for k in v.gap)
+
+
+@of_store('records: one of use 0 is wholly zero')
 def _(v):
     return not any(any(v.record[r]) for r in range(v.N) if v.use[r] == USE_FREE)
+
+
+@of_store('records: a retired one has a next')
+def _(v):
+    return all(v.next[r] is not None for r in range(v.N) if v.use[r] == USE_RETIRED)
+
+
+@of_store('records: a retired one has a place below tp that is not listed')
+def _(v):
+    return all(1 <= v.place[r] < v.tp and not v.listed(v.place[r]) for r in range(v.N) if v.use[r] == USE_RETIRED)
 
 
 # Memory: holding and claiming.
 
 
-@clause('held: use 2, or use 3 with a next')
+@of_store('held: in phases 3 to 11')
 def _(v):
-    held = [p.held for p in v.producers if p.held is not None]
-    return all(v.use[r] == USE_LINKED or v.use[r] == USE_RETIRED and v.next[r] is not None for r in held)
+    return all(p.held is not None for p in v.in_phases(3, 11))
 
 
-@clause('held: never free')
+@of_store('held: use 2, or use 3')
 def _(v):
-    free = im.free_records(v.words)
-    return not any(p.held in free for p in v.producers)
+    return all(v.use[p.held] in (USE_LINKED, USE_RETIRED) for p in v.producers if p.held is not None)
 
 
-@clause('held: retired means below lo')
+@of_store('held 2-9: the place of L is listed, or past the last')
 def _(v):
-    return all(p.place < v.lo for p in v.producers if p.held is not None and v.use[p.held] == USE_RETIRED)
+    return all(v.awaited(p.L) or p.L >= v.B * v.last for p in v.in_phases(2, 9))
 
 
-@clause('held 7: lo < place')
+@of_store('held 7: lo < place')
 def _(v):
     return all(v.lo < p.place for p in v.in_phases(7, 7))
 
 
-@clause('held 7-9: linked')
+@of_store('held 7: a trail leads to L')
 def _(v):
-    return all(v.use[p.held] == USE_LINKED for p in v.in_phases(7, 9))
+    return all(v.trail(p.L, p.held) for p in v.in_phases(7, 7))
 
 
-@clause('held 7-9: past lo when the head is at its record\'s end')
+@of_store('held 7-9: the place of L is listed')
 def _(v):
-    return v.hp != v.B * v.lo or all(v.lo < p.place for p in v.in_phases(7, 9))
+    return all(v.awaited(p.L) for p in v.in_phases(7, 9))
 
 
-@clause('claimed: in phases 5 and 11 and no other')
+@of_store('held 8-9: linked')
+def _(v):
+    return all(v.use[p.held] == USE_LINKED for p in v.in_phases(8, 9))
+
+
+@of_store('held 10-11: linked, or retired with L handled')
+def _(v):
+    return all(v.use[p.held] == USE_LINKED or v.entries[p.L] == HANDLED for p in v.in_phases(10, 11))
+
+
+@of_store('held 8-9: past lo when the head is at its record\'s end')
+def _(v):
+    return v.hp != v.B * v.lo or all(v.lo < p.place for p in v.in_phases(8, 9))
+
+
+@of_store('free: not linked, not claimed, not held')
+def _(v):
+    in_use = {r for p in v.producers for r in (p.held, p.claimed)}
+    free = im.free_records(v.words)
+    return not any(r in in_use or v.use[r] in (USE_CLAIMED, USE_LINKED) for r in free)
+
+
+@of_store('claimed: in phases 5 and 11 and no other')
 def _(v):
     return all((p.claimed is not None) == (p.phase in (5, 11)) for p in v.producers)
 
 
-@clause('claimed: use 1 and otherwise zero')
+@of_store('claimed: use 1 and otherwise zero')
 def _(v):
     wiped = [USE_CLAIMED if k == im.USE else 0 for k in range(im.record_words(v.B))]
     return all(v.record[p.claimed] == wiped for p in v.producers if p.claimed is not None)
 
 
-@clause('claimed: no two producers have the same')
+@of_store('claimed: no two producers have the same')
 def _(v):
     claimed = [p.claimed for p in v.producers if p.claimed is not None]
     return len(set(claimed)) == len(claimed)
 
 
-@clause('claimed: a record of use 1 is claimed by a producer')
+@of_store('claimed: a record of use 1 is claimed by a producer')
 def _(v):
     claimed = {p.claimed for p in v.producers}
     return all(r in claimed for r in range(v.N) if v.use[r] == USE_CLAIMED)
 
 
-@clause('consumer: cursor and found records have use 2')
+@of_store('word 12: all handled from the first entry of the cursor\'s record to the cursor')
+def _(v):
+    c = v.consumer
+    if not v.words[im.ALL_HANDLED]:
+        return True
+    return all(v.entries[p] == HANDLED for p in range(v.B * (v.place[c.cursor] - 1), c.cursor_position))
+
+
+@of_store('word 12: the cursor\'s record is not the head record')
+def _(v):
+    return not v.words[im.ALL_HANDLED] or v.consumer.cursor != v.head_record
+
+
+@of_store('consumer: cursor and found records have use 2')
 def _(v):
     return all(v.use[r] == USE_LINKED for r in (v.consumer.cursor, v.consumer.found) if r is not None)
 

@@ -4,36 +4,22 @@ engine's."""
 
 import itertools
 
+import drawn_stores
 import intake_model as im
 import step_counts
+from drawn_stores import item
 
 B, N, P = 2, 3, 1
 HEAD, OTHER = 2, 3  # record numbers as they are stored
 
 
 def record_at(number):
-    return im.CONTENTS + im.THREAD_WORDS * (P + 1) + (number - 1) * im.record_words(B)
+    return drawn_stores.record_at((B, N, P, None), number)
 
 
 def store(rng, M, consumer, head_position, tail_record, parts):
     """A store with these words of the consumer and these (record, part, word) of records. Other words are drawn."""
-    words = [0] * im.needed_words(B, N, P)
-    im.open_store(words, B, N, P, M)
-    for number in range(1, N + 1):
-        drawn = [rng.randint(0, 4), rng.randint(0, N), rng.randint(0, N), rng.randint(0, 3)]
-        for _ in range(B):
-            drawn += [rng.randint(0, 2), *item(rng, M)]
-        words[record_at(number) : record_at(number) + len(drawn)] = drawn
-    for number, part, word in parts:
-        words[record_at(number) + part] = word
-    words[im.TAIL : im.STARTS] = rng.randint(0, M), tail_record, HEAD, head_position
-    words[im.CONTENTS : im.CONTENTS + im.THREAD_WORDS] = consumer
-    return words
-
-
-def item(rng, M):
-    """A call number and a value."""
-    return rng.randint(0, M), rng.getrandbits(32)
+    return drawn_stores.store(rng, (B, N, P, M), consumer, (None, tail_record, HEAD, head_position), parts)
 
 
 def marking(rng):

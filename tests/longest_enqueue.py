@@ -11,7 +11,7 @@ from typing import NamedTuple
 
 import explore
 import intake_model as im
-from intake_model import CONTENTS, THREAD_WORDS, USE_CLAIMED, USE_LINKED, USE_RETIRED
+from intake_model import CONTENTS, THREAD_WORDS, USE_LINKED, USE_RETIRED
 from measures import most_enqueue_steps, records_for
 
 MOST_STARTS = 1_000_000
@@ -109,23 +109,23 @@ class Run:
         return self.intake.part(self.words[im.TAIL_RECORD] - 1, im.PLACE)
 
     def end_before(self, place):
-        """Step to their ends the other producers that stand in phase 2 with a position before the record of a place,
-        then take all items. Where that is the tail record they go back, and link nothing ahead."""
+        """Step to their ends the other producers that stand in phase 2 with a position before the record of a place. Where
+        that is the tail record they go back, and link nothing ahead."""
         first = self.words[0] * (place - 1)
         for t in range(OTHER, self.words[2] + 1):
             own = CONTENTS + THREAD_WORDS * t
             if self.words[own] == 2 and self.words[own + im.POSITION] < first:
                 self.to_end(t)
-        self.take_all()
 
 
 def construct(B, N, P):
     """The calls of a longest enqueue, for any sizes.
 
     All records are filled, so that nothing is linked after the last one. Others take positions and stop, ours takes the
-    next one, and all items are taken. Ours makes its rounds; after each, the others with positions before the tail record
-    end and their items are taken, so that a record is free for the next one. Where ours is to go back, the others end
-    before its last load, and one of them enqueues until all records are linked or held."""
+    next one, and all items are taken. Ours makes its rounds; after each load, the others with positions before the tail record
+    end and their items are taken, so that a record is free for the next round. (Not before the load: while ours holds a record
+    that is retired no older one is free.) Where ours is to go back, the others end before its last load, nothing is
+    taken, so that the record which it holds stays linked, and one of them enqueues until all records are."""
     run, rounds = Run(B, N, P), records_for(B, P)
     back, ahead = after_the_rounds(B, N, P)
     for _ in range(B * N):
@@ -135,103 +135,114 @@ def construct(B, N, P):
     run.take(OURS)
     run.take_all()
     for _ in range(rounds):
-        for _ in range(5):
-            run.call(('s', OURS))
+        run.call(('s', OURS))
         run.end_before(run.tail_place())
+        run.take_all()
+        for _ in range(4):
+            run.call(('s', OURS))
     if back >= ahead:
         own_place = run.tail_place()
         run.end_before(own_place + 1)
         while run.tail_place() < own_place + back:
             run.enqueue(OTHER)
+    run.call(('s', OURS))
+    if back < ahead:
+        run.end_before(run.tail_place())
+        run.take_all()
     run.to_end(OURS)
     return run.calls
 
 
 # The search.
 
-RETIRED_AND_HELD, LINKED, CLAIMED, FREE = range(4)
-
-
 class Reduction:
     """One store for many that go on as it does.
 
     What no rule looks at before it is replied is zero: call numbers, values, starts, and numbers of steps but for ours.
-    So is what no rule looks at any more: positions in phases 10 and 11, free records, the entries of retired ones, prev
-    of the head record; next of a retired one is any. Records are numbered anew: those that are retired and held, by
-    place; linked ones, by place; claimed ones; free ones. Places get the same numbers, and positions come down with
-    them. Word 11 is 1, for any free record will do. Producers are sorted, ours aside."""
+    So is what no rule looks at any more: positions in phases 10 and 11, the entries of retired records, prev of the head record,
+    and of retired ones to which no way back leads; next of a retired one is any. Records are numbered from the one after that
+    which was claimed last, so that word 11 is N. Places come down as far as they can: those that follow on each other still do, and
+    others have one between them. Positions come down with their records. Producers are sorted, ours aside."""
 
     def __init__(self, words):
         self.old, self.size = words, im.record_words(words[0])
-        self.kinds = self.in_order()
+        self.records = [words[first : first + self.size] for first in range(words[5], im.drain_at(*words[:3]), self.size)]
+        self.order = self.one_round()
         self.number = [0] * (words[1] + 1)
-        for k, (_, _, r) in enumerate(self.kinds, 1):
+        for k, r in enumerate(self.order, 1):
             self.number[r + 1] = k
-        head = words[im.HEAD_RECORD]
-        self.head = self.number[head]
-        self.down = words[0] * (self.record(head - 1)[im.PLACE] - self.head)
+        self.places = self.new_places()
+        self.last = max(record[im.PLACE] for record in self.records if record[im.USE] == USE_LINKED)
+        self.walked = self.ways_back()
         self.rows = [self.producer(OURS)] + sorted(map(self.producer, range(OTHER, words[2] + 1)))
 
-    def record(self, r):
-        first = self.old[5] + r * self.size
-        return self.old[first : first + self.size]
+    def one_round(self):
+        """The records, from the one after that which was claimed last."""
+        first = self.old[im.LAST_CLAIMED]
+        return [*range(first, self.old[1]), *range(first)]
 
-    def in_order(self):
-        """(kind, place, record) of all records."""
-        held = im.held_records(self.old)
+    def new_places(self):
+        """The new place of each old one."""
+        new, last = {}, None
+        for place in sorted(record[im.PLACE] for record in self.records if record[im.USE] in (USE_LINKED, USE_RETIRED)):
+            new[place] = 1 if last is None else new[last] + min(place - last, 2)
+            last = place
+        return new
 
-        def described(r):
-            place, _, _, use = self.record(r)[: im.RECORD_HEAD]
-            if use == USE_LINKED:
-                return (LINKED, place, r)
-            if use == USE_RETIRED and r in held:
-                return (RETIRED_AND_HELD, place, r)
-            return (CLAIMED if use == USE_CLAIMED else FREE, 0, r)
+    def ways_back(self):
+        """The retired records that a producer in phase 7 holds or may come to."""
+        walked = set()
+        for own in range(CONTENTS + THREAD_WORDS, self.old[5], THREAD_WORDS):
+            r = self.old[own + im.HELD] - 1 if self.old[own] == 7 else -1
+            while r >= 0 and self.records[r][im.USE] == USE_RETIRED:
+                walked.add(r)
+                r = self.records[r][im.PREV] - 1
+        return walked
 
-        return sorted(map(described, range(self.old[1])))
+    def down(self, place):
+        """How far the positions of a place come down. Those past the last place, and tail, come down with that."""
+        place = min(place, self.last)
+        return self.old[0] * (place - self.places[place])
+
+    def position_in(self, number, position):
+        """A position that stands in the record with this old number, or at its end."""
+        return position - self.down(self.records[number - 1][im.PLACE]) if number else 0
 
     def contents(self):
-        old, down = self.old, self.down
-        positions = [old[im.TAIL] - down, self.number[old[im.TAIL_RECORD]], self.head, old[im.HEAD_POSITION] - down]
-        return old[: im.TAIL] + positions + [0, 1, 0, 0, 0, 0]
+        old, head = self.old, self.old[im.HEAD_RECORD]
+        records = [self.number[old[im.TAIL_RECORD]], self.number[head], self.position_in(head, old[im.HEAD_POSITION])]
+        return old[: im.TAIL] + [old[im.TAIL] - self.down(self.last)] + records + [0, old[1], old[im.ALL_HANDLED], 0, 0, 0]
 
     def consumer(self):
         phase, cursor, cursor_position, found, found_position = self.old[CONTENTS : CONTENTS + 5]
-        if cursor:
-            cursor, cursor_position = self.number[cursor], cursor_position - self.down
-        if found:
-            found, found_position = self.number[found], found_position - self.down
-        return [phase, cursor, cursor_position, found, found_position, 0, 0, 0]
+        cursor_position, found_position = self.position_in(cursor, cursor_position), self.position_in(found, found_position)
+        return [phase, self.number[cursor], cursor_position, self.number[found], found_position, 0, 0, 0]
 
     def producer(self, t):
-        """The words of a producer, with 1 for a claimed record, and its number."""
+        """The words of a producer, and its number."""
         own = CONTENTS + THREAD_WORDS * t
         phase, _, _, position, held, claimed, back, steps = self.old[own : own + THREAD_WORDS]
-        position = position - self.down if 2 <= phase <= 9 else 0
-        return [phase, 0, 0, position, self.number[held], min(claimed, 1), back, steps if t == OURS else 0], t
+        position = position - self.down(position // self.old[0] + 1) if 2 <= phase <= 9 else 0
+        return [phase, 0, 0, position, self.number[held], self.number[claimed], back, steps if t == OURS else 0], t
 
-    def producers(self):
-        first_claimed = 1 + sum(kind < CLAIMED for kind, _, _ in self.kinds)
-        claimed = itertools.count(first_claimed)
-        return [[*row[:5], next(claimed) if row[5] else 0, *row[6:]] for row, _ in self.rows]
-
-    def renamed(self, k, kind, r):
+    def renamed(self, r):
         """The words of record r under its new number."""
         rest = [0] * (self.size - im.RECORD_HEAD)
-        if kind == RETIRED_AND_HELD:
-            return [k, 1, 0, USE_RETIRED] + rest
-        if kind == LINKED:
-            _, following, before, _, *entries = self.record(r)
-            rest[:: im.ENTRY_WORDS] = entries[:: im.ENTRY_WORDS]
-            return [k, self.number[following], self.number[before] if k > self.head else 0, USE_LINKED] + rest
-        return [0, 0, 0, USE_CLAIMED if kind == CLAIMED else 0] + rest
+        place, following, before, use, *entries = self.records[r]
+        if use == USE_RETIRED:
+            return [self.places[place], 1, self.number[before] if r in self.walked else 0, USE_RETIRED] + rest
+        if use != USE_LINKED:
+            return [0, 0, 0, use] + rest
+        rest[:: im.ENTRY_WORDS] = entries[:: im.ENTRY_WORDS]
+        before = 0 if r + 1 == self.old[im.HEAD_RECORD] else self.number[before]
+        return [self.places[place], self.number[following], before, USE_LINKED] + rest
 
     def words(self):
         new = self.contents() + self.consumer()
-        for row in self.producers():
+        for row, _ in self.rows:
             new += row
-        for k, (kind, _, r) in enumerate(self.kinds, 1):
-            new += self.renamed(k, kind, r)
+        for r in self.order:
+            new += self.renamed(r)
         return new + NO_DRAIN
 
     def call(self, call):

@@ -1,5 +1,6 @@
-"""What a C host rests on: the header's names, sizes and guard, what the archive exports, and how much stack the calls and programs take."""
+"""What a C host rests on: the header's names, sizes and guards, what the archive exports, and how much stack the calls and programs take."""
 
+import collections
 import ctypes
 import itertools
 import pathlib
@@ -11,10 +12,13 @@ import subprocess
 import tempfile
 import unittest
 
+import dry_runs
 import intake_model as im
 import measures
 from archives import ROOT, archive, shared
 from engine_library import Engine, load
+from intake_model import USE_LINKED
+from longest_enqueue import Run
 
 HERE = pathlib.Path(__file__).resolve().parent
 HEADER = ROOT / 'include' / 'intake.h'
@@ -69,7 +73,7 @@ class Header(unittest.TestCase):
             source = pathlib.Path(folder) / 'header.c'
             numbers = NUMBERS | MACROS
             names = '\n'.join(f'static_assert({name} == {number}, "");' for name, number in numbers.items())
-            source.write_text(f'#include <assert.h>\n#include "intake.h"\n{names}\nint main(void) {{ return INTAKE_VERSION - 5; }}\n')
+            source.write_text(f'#include <assert.h>\n#include "intake.h"\n{names}\nint main(void) {{ return INTAKE_VERSION - 6; }}\n')
             strict = ['-Wall', '-Wextra', '-Wpedantic', '-Wconversion', '-Werror', f'-I{HEADER.parent}']
             subprocess.run([compiler, *flags, *strict, '-c', str(source), '-o', str(source.with_suffix('.o'))], check=True)
 
@@ -121,73 +125,103 @@ class Header(unittest.TestCase):
         self.assertEqual(library.most_drain_steps(64, 64, 64), 8_942_109)
 
 
-class Guard(unittest.TestCase):
-    """`intake_has_room` (docs/STEPS.md, "Room")."""
+class Guards(unittest.TestCase):
+    """`intake_has_room` and `intake_in_the_way` (docs/STEPS.md, "Room")."""
 
     @classmethod
     def setUpClass(cls):
         cls.library = compiled()
 
-    def has_room(self, entries, records, producers, tail, head):
-        words = (ctypes.c_uint32 * 16)(entries, records, producers)
-        words[6], words[9] = tail, head
-        return bool(self.library.has_room(words))
+    def has_room(self, words):
+        return bool(self.library.has_room((ctypes.c_uint32 * len(words))(*words)))
 
-    def test_edge_values(self):
-        """A guard that wraps: it is a comparison of whole numbers, whatever 32-bit words the store has."""
+    def test_any_store(self):
+        """A guard that counts other records than those that are linked, or another last place, that wraps, or that takes a producer
+        for one in the way or not: on stores of runs, with few records and with many, and with some words drawn."""
+        rng, rooms, ways = random.Random(33), collections.Counter(), collections.Counter()
+        for seed in range(40):
+            B, N, P = rng.randint(2, 5), rng.randint(2, 24), rng.randint(1, 5)
+            host = dry_runs.Host((B, N, P), im.Intake, seed, room=lambda words: rng.random() < 0.7)
+            for _ in range(300):
+                host.turn()
+                words = list(host.words)
+                if rng.random() < 0.3:
+                    words[im.TAIL] = rng.choice((0, 1, 2**31, 2**32 - 1, rng.randrange(200)))
+                    record = words[5] + rng.randrange(N) * im.record_words(B)
+                    words[record + im.PLACE], words[record + im.USE] = rng.choice((0, 1, 50, 500_002)), rng.randint(0, 3)
+                if USE_LINKED in im.record_parts(words, im.USE):
+                    room = dry_runs.has_room(words)
+                    self.assertEqual(self.has_room(words), room)
+                    rooms[room] += 1
+                for t in range(1, P + 1):
+                    way = words[16 + 8 * t] == 4 or dry_runs.holds_retired(words, t)
+                    self.assertEqual(bool(self.library.in_the_way((ctypes.c_uint32 * len(words))(*words), t)), way)
+                    ways[way] += 1
+        self.assertGreater(min(*rooms.values(), *ways.values()), 500)
+
+    def test_sizes_out_of_their_limits(self):
+        """A guard that divides by zero, or that reads past a store that was never opened."""
         top = 2**32 - 1
-        counts = (0, 1, 2, 3, 16, 64, 2**31 - 2, 2**31, top - 3, top)
-        positions = (0, 1, 15, 16, 17, 231, 232, 233, 2**31, top - 1, top)
-        yes = no = 0
-        for B, N, P, tail, head in itertools.product(counts, counts, counts, positions, positions):
-            room = N - 2 * P - 3
-            expected = room >= 0 and tail - head + P <= B * room
-            self.assertEqual(self.has_room(B, N, P, tail, head), expected, (B, N, P, tail, head))
-            yes, no = yes + expected, no + (not expected)
-        self.assertGreater(min(yes, no), 1000)
-
-    def test_store_without_room(self):
-        """A guard that lets an enqueue start on a store of too few records (in 32 bits, 8 x (4 - 2 x 2 - 3) is four thousand million)."""
-        self.assertFalse(self.has_room(8, 4, 2, 0, 0))
+        for k, sizes in ((0, (0, 1, 65, top)), (1, (65, top)), (2, (17, top))):
+            for size in sizes:
+                words = [2, 64, 1] + [0] * 13
+                words[k] = size
+                self.assertFalse(self.has_room(words))
 
     def test_least_records(self):
-        """`INTAKE_LEAST_RECORDS` above or below the first number of records with which an empty store has room."""
-        for B, P in itertools.product(range(2, 65), range(1, 17)):
-            least = next(n for n in range(2, 100) if self.has_room(B, n, P, 0, 0))
-            self.assertEqual(self.library.least_records(B, P), least)
-            self.assertEqual(least == 2 * P + 4, P <= B)
+        """`INTAKE_LEAST_RECORDS` too small for a store that was just opened, or of which all items were taken."""
+        for B, P in itertools.product((2, 3, 8, 63, 64), range(1, 17)):
+            N = self.library.least_records(B, P)
+            self.assertEqual(N, 2 * P + 3 + -(-P // B))
+            run = Run(B, N, P)
+            for k in range(4 * B):
+                self.assertTrue(self.has_room(run.words), (B, N, P, k))
+                dry_runs.turn(run, 1)
 
     def test_runs(self):
-        """A host that keeps to the guard and meets 8. The same hosts without it do."""
-        claims, met = self.claims(guarded=True)
-        self.assertGreater(claims, 1000)
-        self.assertEqual(met, 0)
-        self.assertGreater(self.claims(guarded=False)[1], 0)
+        """A host that keeps to both guards and in which a producer waits for good. The same hosts without either do."""
+        claims, stuck = self.claims(has_room=True, clears=True)
+        self.assertGreater(claims, 300)
+        self.assertEqual(stuck, 0)
+        self.assertGreater(self.claims(has_room=False, clears=True)[1], 0)
+        self.assertGreater(self.claims(has_room=True, clears=False)[1], 0)
 
-    def claims(self, guarded):
-        """How many steps of random runs with few records are in phase 4, and how many of them meet 8; threads stop for long at random."""
-        rng, library, claims, met = random.Random(34), load(), 0, 0
-        for _ in range(150):
+    def claims(self, has_room, clears):
+        """How many steps of random runs with few records are in phase 4, and in how many runs a producer is still in the way when
+        all that are have been stepped on; threads stop for long at random."""
+        rng, library, claims, stuck = random.Random(34), load(), 0, 0
+        for _ in range(100):
             P, B = rng.randint(2, 8), rng.randint(2, 3)
             N = self.library.least_records(B, P) + rng.randint(0, 12)
             engine = Engine(library, [0] * im.needed_words(B, N, P))
             self.assertEqual(engine.open((B, N, P, 5000)), 0)
             stopped = [0] * (P + 1)
             for _ in range(4000):
-                t = rng.randint(0, P) if rng.random() < 0.8 else rng.randint(1, P)
+                t = rng.choice((0, *[rng.randint(0, P)] * 2))
                 if stopped[t]:
                     stopped[t] -= 1
                     continue
                 if rng.random() < 0.02:
                     stopped[t] = rng.randrange(300)
+                if t == 0 and clears and self.clear_the_way(engine, P):
+                    break
                 if phase := engine.store[16 + 8 * t]:
                     claims += t > 0 and phase == 4
-                    met += engine.call(('s', t)) == 8
+                    engine.call(('s', t))
                 elif t == 0:
                     engine.call(('d',))
-                elif not guarded or self.library.has_room(engine.store):
+                elif not has_room or self.library.has_room(engine.store):
                     engine.call(('e', t, 7))
-        return claims, met
+            stuck += self.clear_the_way(engine, P)
+        return claims, stuck
+
+    def clear_the_way(self, engine, P):
+        """Step on whoever is in the way, for as long as a step is accepted. Whether somebody still is."""
+        accepted = True
+        while accepted:
+            waiting = [t for t in range(1, P + 1) if self.library.in_the_way(engine.store, t)]
+            accepted = [t for t in waiting if engine.call(('s', t)) != 8]
+        return bool(waiting)
 
 
 class Damage(unittest.TestCase):

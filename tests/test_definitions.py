@@ -17,8 +17,8 @@ def setUpModule():
     global SCHEDULES, COUNTS, SINGLES, CLAIMS, HISTORIES
     SCHEDULES = dc.schedules(1, 3_200)
     COUNTS = [dc.counted(case, 30 + k) for k, case in enumerate(SCHEDULES)]
-    SINGLES = dc.singles(2, [store for case in SCHEDULES for store in dc.snapshots(case)], 2_400)
-    CLAIMS = dc.claims(6, 60)
+    SINGLES = dc.singles(7, [store for case in SCHEDULES for store in dc.snapshots(case)], 2_500)
+    CLAIMS = dc.claims(7, 90)
     HISTORIES = dc.histories(3, 1_600)
 
 
@@ -99,7 +99,7 @@ class Reach(unittest.TestCase):
     def test_number_of_cases(self):
         """A generator that makes fewer cases than meant, or the same ones again."""
         self.assertGreaterEqual(sum(len(case.calls) for case in SCHEDULES), 3_200)
-        self.assertEqual((len(SINGLES), len(CLAIMS), len(HISTORIES)), (2_400, 1_308, 1_600))
+        self.assertEqual((len(SINGLES), len(CLAIMS), len(HISTORIES)), (2_500, 1_338, 1_600))
         self.assertGreater(len({(tuple(case.words), case.call) for case in SINGLES}), 1_850)
         self.assertGreater(len({(tuple(case.words), case.entries) for case in HISTORIES}), 1_300)
 
@@ -166,7 +166,7 @@ class Reach(unittest.TestCase):
         self.assertGreater(sum(any(case.expected[1][-1:]) for case in past), 10)
 
     def test_last_claimed(self):
-        """No store that is out of range by word 11 alone, with 0, with N + 1 or with more, or by one of words 12 to 15
+        """No store that is out of range by word 11 alone, with 0, with N + 1 or with more, or by one of words 13 to 15
         alone; no claim from some record of a small store."""
         stores = [case.words for case in SINGLES if case.call[0] != 'open' and im.admission(case.words) == 3]
         last = [(words[im.LAST_CLAIMED], words[1]) for words in stores if in_range_with(words, im.LAST_CLAIMED, 1)]
@@ -178,6 +178,34 @@ class Reach(unittest.TestCase):
         steps = [step for case in SINGLES for step in dc.steps_of(case)]
         claims = {(words[1], words[im.LAST_CLAIMED]) for words, call, reply in steps if claims_one(words, call, reply)}
         self.assertEqual(claims, {(N, last) for N in range(2, 5) for last in range(1, N + 1)})
+
+    def test_folding(self):
+        """No store that is out of range by word 12 alone, with 1 or with more, in some phase; no scan that folds, that has word 12
+        set and does not fold, or that meets 9 with prev none alone; no reading of an entry in some state with word 12 set."""
+        stores = [case.words for case in SINGLES if case.call[0] != 'open' and im.admission(case.words) == 3]
+        wrong = [(words[im.CONTENTS], min(words[im.ALL_HANDLED], 2)) for words in stores if in_range_with(words, im.ALL_HANDLED, 0)]
+        for phase in range(9):
+            self.assertIn((phase, 2), wrong)
+            self.assertEqual((phase, 1) in wrong, phase not in im.SCANNING)
+        steps = [step for case in SINGLES for step in dc.steps_of(case)]
+        admitted = [(words, reply) for words, call, reply in steps if call[:2] == ('s', 0) and im.admission(words) == 0]
+        scans = [(words[im.ALL_HANDLED], crossed(words), reply[0]) for words, reply in admitted if words[im.CONTENTS] == 3]
+        for known in ((0, 'another', 'going'), (1, 'another', 'going'), (1, 'head record', 'going'), (1, 'prev none', 'refused')):
+            self.assertGreater(scans.count(known), 2, known)
+        for word in (0, 1):
+            self.assertGreater(scans.count((word, 'tail record', 'empty')), 2)
+        self.assertLessEqual({(phase, 1, reply) for phase in im.SCANNING for reply in ('going', 'refused')},
+                             {(words[im.CONTENTS], words[im.ALL_HANDLED], reply[0]) for words, reply in admitted})
+
+    def test_folds(self):
+        """Too few schedules in which a record is folded."""
+        self.assertGreater(sum(map(dc.folds, SCHEDULES)), 4)
+
+    def test_kept(self):
+        """No claim on a store with a retired record that nobody holds and that is not free."""
+        kept = [words for words, _ in CLAIMS if keeps_some(words)]
+        self.assertGreater(len(kept), 80)
+        self.assertGreater(sum(im.next_free(words) is None for words in kept), 20)
 
     def test_claims(self):
         """No claim from record 63, past the end, over a lower free record, of the record claimed last, or of none; on the
@@ -283,6 +311,26 @@ def marked(words):
     if words[im.CONTENTS + im.FOUND_POSITION] != position or not at_its_end(words, position + 1):
         return 'elsewhere'
     return 'end of the tail record' if words[im.HEAD_RECORD] == words[im.TAIL_RECORD] else 'end of another'
+
+
+def crossed(words):
+    """What the cursor's record is, if the cursor stands at its end."""
+    cursor = words[im.CONTENTS + im.CURSOR]
+    if not cursor or words[im.CONTENTS + im.CURSOR_POSITION] != words[0] * words[dc.record_at(words, cursor) + im.PLACE]:
+        return None
+    if cursor == words[im.TAIL_RECORD]:
+        return 'tail record'
+    if cursor == words[im.HEAD_RECORD]:
+        return 'head record'
+    before, following = (words[dc.record_at(words, cursor) + k] for k in (im.PREV, im.NEXT))
+    lands = following and 0 <= words[0] * (words[dc.record_at(words, following) + im.PLACE] - 1) <= words[3]
+    return 'another' if before and lands else 'prev none' if lands else 'elsewhere'
+
+
+def keeps_some(words):
+    """Whether some retired record is not free, though nobody holds it."""
+    retired = {r for r, use in enumerate(im.record_parts(words, im.USE)) if use == im.USE_RETIRED}
+    return bool(retired - im.held_records(words) - set(im.free_records(words)))
 
 
 def moved(words):

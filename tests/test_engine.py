@@ -9,6 +9,7 @@ import unittest
 import claim_stores
 import drain_stores
 import engine_library
+import fold_stores
 import intake_model as model
 import judge_library
 import judge_model
@@ -209,13 +210,45 @@ class Differential(Both, unittest.TestCase):
         for known in itertools.product((7, 8), ('going', 'item', 'drained', ('refused', 9), ('refused', 15))):
             self.assertGreaterEqual(seen[known], 10, seen)
 
+    def test_folding(self):
+        """A fold that is made or not by another record, by another word 12 or at another entry; that joins otherwise, follows no
+        link, or leaves word 12 where the scan ends."""
+        rng, seen = random.Random(22), collections.Counter()
+        for draw in 2 * [fold_stores.crossing, fold_stores.going_on, fold_stores.reading]:
+            for words in draw(rng):
+                for store in (words, drain_stores.draining(rng, words)):
+                    before = [store[16], store[12]]
+                    reply = self.on(store, lent_step(rng, store, 0))
+                    seen[(*before, store[12], kind(reply))] += 1
+        known = [(3, 0, 1, 'going'), (3, 1, 1, 'going'), (3, 0, 0, 'going'), (4, 1, 0, 'going'), (4, 1, 1, 'going'), (4, 0, 0, 'going')]
+        known += [(3, word, 0, reply) for word in (0, 1) for reply in ('empty', 'drained')]
+        for each in known + [(phase, word, word, ('refused', 9)) for phase in (3, 4) for word in (0, 1)]:
+            self.assertGreaterEqual(seen[each], 20, seen)
+
+    def test_folds_of_runs(self):
+        """A store on which one feeder has stopped for good, and whose records are folded: reply by reply and word by word."""
+        rng, folds = random.Random(23), 0
+        for sizes in ((2, 4, 2, 400), (2, 6, 3, 400), (3, 5, 3, 400), (4, 8, 4, 400)):
+            beside = Beside(self, *sizes)
+            beside.run([('e', 1, 1), ('s', 1)])
+            for _ in range(2500):
+                t = rng.choice((0, 0, 0, *range(2, sizes[2] + 1)))
+                before = model.record_parts(beside.words, model.USE)
+                start = ('e', t, 7) if t else rng.choice((('d',), ('drain', 3)))
+                beside.call(lent_step(rng, beside.words, t) if beside.words[16 + 8 * t] else start)
+                after = model.record_parts(beside.words, model.USE)
+                folds += t == 0 and any(pair == (2, 3) for pair in zip(before, after))
+        self.assertGreater(folds, 80)
+
     def test_words_11_to_15(self):
-        """A word 11 of 0 or above N, or one of words 12 to 15 that is not zero, that is let through."""
+        """A word 11 of 0 or above N, a word 12 above 1, or of 1 where the consumer does not scan, or one of words 13 to 15 that is
+        not zero, that is let through."""
         rng = random.Random(17)
         for _ in range(300):
             store = random_store(rng)
             wrong = [(11, 0), (11, store[1] + 1), (11, rng.randrange(65, 2**32)), (11, 2**32 - 1)]
-            for at, word in wrong + [(at, word) for at in range(12, 16) for word in (1, 2**32 - 1)]:
+            wrong += [(12, word) for word in (1, 2, 2**32 - 1) if word > 1 or store[16] not in (3, 4)]
+            for at, word in wrong + [(at, word) for at in range(13, 16) for word in (1, 2**32 - 1)]:
                 words = store[:at] + [word] + store[at + 1 :]
                 self.assertEqual(self.on(words, random_call(rng, store[2])), ('refused', 3))
 

@@ -10,6 +10,7 @@ import judge_model as jm
 import measures
 from intake_model import EMPTY, HANDLED, SET, USE_RETIRED
 from test_drain import DRAINING, AsksForRoomEarly
+from test_fold import FOLDING
 from test_model import COUNTING, LETTING_GO, TRAPS, ShiftsOnlyAfterOwnLink
 
 
@@ -100,6 +101,43 @@ DRAINS = {
 }
 
 
+# With folds.
+FOLDS = {
+    'two records are folded': lambda v: len(v.gap) > 1,
+    'the next step folds': lambda v: v.words[im.ALL_HANDLED] and v.consumer.phase == 3 and cursor_at_end(v) and v.place[v.consumer.cursor] < v.tp,
+    'the cursor meets an empty entry and folds nothing': lambda v: v.words[im.ALL_HANDLED]
+    and v.consumer.phase == 4
+    and v.state_at(v.consumer.cursor_position) == EMPTY,
+    'the tail record has been read whole and is not folded': lambda v: v.words[im.ALL_HANDLED]
+    and v.consumer.phase == 3
+    and cursor_at_end(v)
+    and v.place[v.consumer.cursor] == v.tp,
+    'a producer in 7 holds a folded record': lambda v: holds_folded(v, 7, 7),
+    'a producer in 2 holds a folded record': lambda v: holds_folded(v, 2, 2),
+    'a producer in 3 to 6 holds a folded record': lambda v: holds_folded(v, 3, 6),
+    'a producer in 10 or 11 holds a folded record': lambda v: holds_folded(v, 10, 11),
+    'a retired record is kept, and nobody holds it': lambda v: kept_retired(v),
+    'a way back leads over two retired records': lambda v: any(v.use[r] == v.use[v.prev[r]] == USE_RETIRED for r in held_in(v, 7, 7)),
+    'a record that was folded is linked anew': lambda v: v.gap and v.hi > v.N,
+    'the rescan lands on found': lambda v: v.consumer.phase == 5 and cursor_at_end(v) and lands_on(v, v.consumer.found_position),
+    'the head leaves its record over a gap': lambda v: v.consumer.phase in (1, 8) and v.hp == v.B * v.lo and v.lo + 1 in v.gap,
+}
+
+
+def holds_folded(v, first, last):
+    return any(v.use[r] == USE_RETIRED and v.place[r] in v.gap for r in held_in(v, first, last) if r is not None)
+
+
+def kept_retired(v):
+    retired = {r for r in range(v.N) if v.use[r] == USE_RETIRED}
+    return retired - im.held_records(v.words) - set(im.free_records(v.words))
+
+
+def lands_on(v, position):
+    """Whether the cursor's next record begins at a position."""
+    return v.B * (v.place[v.next[v.consumer.cursor]] - 1) == position
+
+
 def drains_in(v, phase):
     return v.limit > 0 and v.consumer.phase == phase
 
@@ -128,7 +166,7 @@ class Reachable(unittest.TestCase):
     def test_every_state_of_small_cases(self):
         """A clause that fails on a reachable state, a reply 3 or 9, a number of steps or a measure that is wrong at some
         call, or an exploration that meets too little."""
-        every, met = SITUATIONS | DRAINS, set()
+        every, met = SITUATIONS | DRAINS | FOLDS, set()
 
         def note(v):
             met.update(name for name in every.keys() - met if every[name](v))
@@ -160,9 +198,16 @@ class Reachable(unittest.TestCase):
     def test_random_runs(self):
         """A clause, demand 3, a number of steps or a measure that fails with larger records, more of them, more producers,
         or a stopped one."""
-        accepted, violation = explore.random_runs(range(explore.RANDOM_RUNS))
+        accepted, _, violation = explore.runs_of(explore.random_run, range(explore.RANDOM_RUNS))
         self.assertIsNone(violation)
-        self.assertGreater(accepted, 50_000)
+        self.assertGreater(accepted, 45_000)
+
+    def test_folding_runs(self):
+        """The same where records are folded, while producers stand still for long or for good, in phase 7 too."""
+        accepted, folds, violation = explore.runs_of(explore.folding_run, range(explore.FOLDING_RUNS))
+        self.assertIsNone(violation)
+        self.assertGreater(accepted, 25_000)
+        self.assertGreater(folds, 150)
 
     def test_stalled_runs(self):
         """A call that lasts longer than its bound, or a measure that is wrong at some call, while producers stand still
@@ -207,7 +252,7 @@ class Sensitivity(unittest.TestCase):
         for engine in COUNTING:
             violations = (
                 explore.explore(2, 2, 1, 4, engine=engine).violation,
-                explore.random_runs(range(5), engine)[1],
+                explore.runs_of(explore.random_run, range(5), engine)[2],
                 explore.stalled_runs(range(5), engine)[2],
             )
             for violation in violations:
@@ -220,7 +265,7 @@ class Sensitivity(unittest.TestCase):
         self.assertEqual(caught, {
             'RepliesAtTheEnd': None,
             'MovesAtTheMark': None,
-            'KeepsTheRecord': ['chain: a record of use 2 is ch of its place'],
+            'KeepsTheRecord': ['list: has every record of use 2'],
             'GoesToTheFront': ['measure: not lowered'],
             'ForgetsTheItem': [
                 'consumer 8: the item is that of the position before hp',
@@ -243,6 +288,24 @@ class Sensitivity(unittest.TestCase):
             'AsksForRoomEarly': ['a buffer too short'],
         })
 
+    def test_wrong_folds_are_caught(self):
+        """An exploration blind to a fold that joins one way, cuts links, does not retire or leaves word 12, to one of a record with an
+        empty entry, or to the old rule of free. An engine that never folds is safe, and no fold of the head record comes up; their
+        own runs and stores show them (test_fold.py)."""
+        caught = {engine.__name__: wrong_fold(engine) for engine in FOLDING}
+        self.assertEqual(caught, {
+            'NeverFolds': None,
+            'FoldsTheHeadRecord': None,
+            'FoldsWithoutWord12': 'entries: as the steps have written them',
+            'FoldsPastAnEmptyEntry': "word 12: all handled from the first entry of the cursor's record to the cursor",
+            'CutsItsLinks': 'records: a retired one has a next',
+            'JoinsNextAlone': 'list: prev leads back, but from the head record',
+            'JoinsPrevAlone': 'list: its records have use 2',
+            'StaysLinked': 'list: has a record of each listed place, and of no other',
+            'LeavesWord12': 'ranges',
+            'FreesWhatIsNotHeld': 'held 7: a trail leads to L',
+        })
+
     def test_wrong_answers_break_demand_3(self):
         """A check of demand 3 by all orders, or by the polynomial checks, that passes wrong answers."""
         for engine in (OneCallLate, AnswersEmptyUnread):
@@ -255,7 +318,7 @@ class Sensitivity(unittest.TestCase):
 
     def test_each_clause_can_fail(self):
         """A clause that holds of every store: each fails on some damaged copy of a reachable state."""
-        rng = random.Random(8)
+        rng = random.Random(11)
         failed = {'ranges'} if invariants.CLAUSES['ranges'](out_of_range_view()) is False else set()
         states = list(reachable_states(rng, 40))
         for _ in range(20_000):
@@ -288,10 +351,19 @@ def what_is_wrong(engine, limits=()):
     return violation and violation[1]
 
 
+def wrong_fold(engine):
+    """The first clause that fails where records are folded."""
+    for case in ((2, 4, 2, 6, (), explore.TO_FOLD), (2, 5, 3, 10, (), explore.WALK)):
+        if violation := explore.explore(*case, engine=engine, limit=3_000).violation:
+            return violation[1][0]
+    violation = explore.runs_of(explore.folding_run, range(4), engine)[2]
+    return violation and violation[-1][0]
+
+
 def wrong_engine_is_caught(engine):
     if explore.explore(2, 2, 2, 4, engine=engine, limit=8_000).violation:
         return True
-    return explore.random_runs(range(40), engine)[1] is not None
+    return explore.runs_of(explore.random_run, range(40), engine)[2] is not None
 
 
 def out_of_range_view():
@@ -301,9 +373,11 @@ def out_of_range_view():
 
 
 def reachable_states(rng, runs):
-    """States of random runs, words and ghost."""
-    for _ in range(runs):
-        words, ghost = explore.open_words(2, 3, 3, 12), invariants.Ghost()
+    """States of random runs, words and ghost; of every fourth run, from a state on in which a record is to be folded."""
+    for run in range(runs):
+        first, ghost = explore.TO_FOLD + explore.dequeue(9) if run % 4 == 0 else [], invariants.Ghost()
+        packed, ghost = explore.state_after(explore.open_words(2, 3, 3, 12), first, im.Intake, ghost)
+        words = explore.unpacked(packed)
         for _ in range(120):
             call = rng.choice(list(explore.moves(words, (2, 3))))
             after, reply = explore.after(words, call, im.Intake)
@@ -341,8 +415,11 @@ def damaged_ghost(rng, ghost):
         'own': tuple(rng.sample(ghost.own, len(ghost.own)))[rng.randint(0, 1) :] + (rng.randint(0, 13),),
         'kept': damaged_past(rng, ghost.kept),
         'told': damaged_past(rng, ghost.told),
+        'entries': ghost.entries[:-1] + (rng.randint(0, 2),),
+        'gap': ghost.gap + (rng.randint(1, 4),),
+        'last': rng.randint(1, 6),
     }
-    field = rng.choice([None, 'own', 'told', 'told', *['kept'] * 4])
+    field = rng.choice([None, 'own', 'told', 'told', 'entries', 'gap', 'last', *['kept'] * 4])
     return ghost if field is None else ghost._replace(**{field: changes[field]})
 
 

@@ -9,6 +9,7 @@ import longest_enqueue as le
 from longest_enqueue import OURS, Reduction, Run, accepted, construct, search, starts
 from measures import most_enqueue_steps
 from step_counts import Tally
+from test_fold import stopped_front
 from test_model import D, E, S, ShiftsOnlyAfterOwnLink, end, going, refused
 
 # B, N, P, the accepted steps of the longest enqueue, and 5 x P + N + 6. With these sizes a search over every state, and
@@ -19,19 +20,19 @@ SEARCHED = (
     (4, 2, 1, 9, 13),
     (2, 2, 2, 11, 18),
 )
-# and by longest_enqueue.py as a program, which takes from ten seconds to seven minutes.
+# and by longest_enqueue.py as a program, which takes from a quarter of a minute to over one.
 SEARCHED_LONG = (
     (3, 2, 2, 11, 18),
     (4, 2, 2, 11, 18),
     (2, 3, 2, 11, 19),
-    (3, 3, 2, 11, 19),
-    (2, 4, 2, 11, 20),
-    (2, 5, 2, 12, 21),
     (2, 2, 3, 14, 23),
-    (3, 2, 3, 11, 23),
 )
 # With these there is none by the proof: they reach the number of `EnqueueEndsSooner` (crates/ordering).
 PROVED = (
+    (3, 3, 2, 11, 19),
+    (2, 4, 2, 11, 20),
+    (2, 5, 2, 12, 21),
+    (3, 2, 3, 11, 23),
     (2, 2, 4, 16, 28),
     (3, 5, 4, 17, 31),
     (2, 8, 16, 50, 94),
@@ -123,9 +124,11 @@ class Search(unittest.TestCase):
     def test_reduction(self):
         """A reduction that leaves out what some rule looks at. A call on reduced words is answered as on the words that
         were reduced, numbers aside, and leads to words that reduce to the same."""
-        rng, lower = random.Random(24), 0
-        for _ in range(50):
+        rng, lower, gaps = random.Random(24), 0, 0
+        for run in range(60):
             words = Run(rng.randint(2, 3), rng.randint(2, 5), rng.randint(1, 4)).words
+            if run % 3 == 0:
+                words = stopped_front(lambda *sizes: im.Recorder(*sizes), N=rng.randint(4, 6)).words
             for k in range(160):
                 if k % 20 == 0:
                     threads = rng.sample(range(words[2] + 1), rng.randint(1, words[2] + 1))
@@ -135,11 +138,19 @@ class Search(unittest.TestCase):
                     replies = accepted(these, reduction.call(call)), accepted(reduced, call)
                     self.assertEqual(replies[0][0], replies[1][0])
                     self.assertEqual(Reduction(these.w).words(), Reduction(reduced.w).words())
-                lower += reduction.down > 0
+                lower += reduction.down(reduction.last) > 0
+                gaps += has_gap(reduction.words())
                 these = im.Intake(words)
                 accepted(these, list(le.moves(words))[rng.choice(threads)])
                 words = these.w
         self.assertGreater(lower, 1_000)
+        self.assertGreater(gaps, 500)
+
+
+def has_gap(words):
+    """Whether places along the list skip some."""
+    places = sorted(p for p, use in zip(im.record_parts(words, im.PLACE), im.record_parts(words, im.USE)) if use == im.USE_LINKED)
+    return places[-1] - places[0] >= len(places)
 
 
 class GoesBackNowhere(im.Intake):

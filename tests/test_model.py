@@ -1,5 +1,5 @@
 """The model against document 01 and U1 to U3 of document 02: runs, claims, records that are let go, numbers of steps,
-refusals, damaged stores, and the four traps. test_drain.py has U5."""
+refusals, damaged stores, and the four traps. test_drain.py has U5, test_fold.py U6, test_room.py how long a store lasts."""
 
 import random
 import unittest
@@ -876,37 +876,6 @@ def stopped_holder_run(engine):
     return enqueue_whole(recorder, 2, 4), recorder.call(('s', 1))
 
 
-class Room(unittest.TestCase):
-    """docs/STEPS.md, "Room"."""
-
-    def test_claims_within_the_room(self):
-        """A step in phase 4 that meets 8 while the positions from the head to the tail are within the room: N = 2 P + 3 and a little
-        more, threads stopped for long at random."""
-        rng, within, dry = random.Random(21), 0, 0
-        while within < 600 or dry < 20:
-            P = rng.randint(1, 3)
-            B, N = rng.randint(2, 3), 2 * P + 3 + rng.randint(0, 3)
-            words = [0] * needed_words(B, N, P)
-            open_store(words, B, N, P, 400)
-            stopped = [0] * (P + 1)
-            for _ in range(rng.randrange(50, 900)):
-                t = rng.randint(0, P) if rng.random() < 0.8 else rng.randint(1, P)
-                if stopped[t]:
-                    stopped[t] -= 1
-                    continue
-                if rng.random() < 0.02:
-                    stopped[t] = rng.randrange(300)
-                idle = words[16 + 8 * t] == 0
-                claims = t > 0 and words[16 + 8 * t] == 4
-                room = words[im.TAIL] - words[im.HEAD_POSITION] <= B * (N - 2 * P - 3)
-                reply = im.do(words, (('e', t, 7) if t else ('d',)) if idle else ('s', t))
-                if claims and room:
-                    self.assertNotEqual(reply, ('refused', 8), (B, N, P))
-                    within += 1
-                elif claims and reply == ('refused', 8):
-                    dry += 1
-
-
 EACH_CALL = ((start_enqueue, (1, 5)), (start_dequeue, ()), (start_drain, (1,)), (step, (0,)))
 
 
@@ -1124,8 +1093,8 @@ class Damage(unittest.TestCase):
     def test_retired_records_that_are_held_or_claimed(self):
         """A free map that looks at held words alone, at claimed words alone, or at some phases."""
         words = opened(2, 3, 1, 4)
-        for use_of_record in (35, 45, 55):
-            words[use_of_record] = 3
+        for record in (32, 42, 52):
+            words[record], words[record + 3] = 1, 3
         self.assertEqual(im.free_records(words), [0, 1, 2])
         words[24:32] = [2, 1, 5, 0, 3, 0, 0, 0]
         self.assertEqual(im.free_records(words), [0, 1])
@@ -1146,11 +1115,13 @@ def random_store(rng):
     B, N, P, M = rng.randint(2, 3), rng.randint(2, 4), rng.randint(1, 2), rng.randint(1, 9)
     words = [B, N, P, M, 16, 16 + 8 * (P + 1), rng.randint(0, M), rng.randint(1, N), rng.randint(1, N)]
     words += [rng.randint(0, M), rng.randint(0, M), rng.randint(1, N)] + [0] * 4
+    word_12 = rng.randint(0, 1)
     for t in range(P + 1):
         by_phase = im.thread_limits(N, M)[1 if t else 0]
         phase = rng.randrange(len(by_phase))
         words += [phase] + [rng.randint(0, min(limit, 12)) for limit in by_phase[phase][1:-1]]
         words.append(step_counts.drawn(rng) if phase else 0)
+    words[12] = word_12 if words[16] in (3, 4) else 0
     for _ in range(N):
         words += [rng.choice((0, 1, 1, 2, 2, 3, 4, 500_002)), rng.randint(0, N), rng.randint(0, N), rng.randint(0, 3)]
         for _ in range(B):

@@ -3,7 +3,7 @@
  * CONTESTANT is the name that bench.c knows it by, LABEL the one that it prints. */
 #include "bench.h"
 
-enum { TAIL = 6, TAIL_RECORD, HEAD_RECORD, HEAD_POSITION, STARTS, LAST_CLAIMED };
+enum { TAIL = 6, TAIL_RECORD, HEAD_RECORD, HEAD_POSITION, STARTS, LAST_CLAIMED, ALL_HANDLED };
 enum { PHASE, CALL, VALUE, POSITION, HELD, CLAIMED, BACKED, STEPS };
 enum { CURSOR_RECORD = 1, CURSOR_POSITION, FOUND_RECORD, FOUND_POSITION, ITEM_NUMBER, ITEM_VALUE, SCANNED = CURSOR_POSITION };
 enum { PLACE, NEXT, PREV, USE };
@@ -114,7 +114,7 @@ static uint32_t admit(Store *z, uint32_t *s, size_t words) {
     z->drain = record(z, z->N + 1);
     if (s[4] != 16 || s[5] != z->first || s[TAIL] > z->M || s[TAIL_RECORD] < 1 || s[TAIL_RECORD] > z->N || s[HEAD_RECORD] < 1 ||
         s[HEAD_RECORD] > z->N || s[HEAD_POSITION] > z->M || s[STARTS] > z->M || s[LAST_CLAIMED] < 1 || s[LAST_CLAIMED] > z->N ||
-        (s[12] | s[13] | s[14] | s[15]) != 0)
+        s[ALL_HANDLED] > (s[16] == 3 || s[16] == 4) || (s[13] | s[14] | s[15]) != 0)
         return 3;
     if (!consumer_ok(z, thread(z, 0))) return 3;
     for (uint32_t t = 1; t <= z->P; t++)
@@ -142,25 +142,47 @@ static uint32_t *entry(Store *z, uint32_t *r, uint32_t p) {
     return p < e && e <= p + z->B ? r + 4 + 3 * (p + z->B - e) : 0;
 }
 
-static int is_free(Store *z, uint32_t r) {
-    uint32_t use = record(z, r)[USE];
-    if (use != 3) return use == 0;
-    for (uint32_t t = 1; t <= z->P; t++)
-        if (thread(z, t)[HELD] == r || thread(z, t)[CLAIMED] == r) return 0;
-    return 1;
+/* what producers hold: the records, as bits, and the greatest place of a retired one */
+typedef struct {
+    uint64_t records;
+    uint32_t place;
+} Kept;
+
+static void keep(Store *z, Kept *k, uint32_t stored) {
+    if (!stored) return;
+    uint32_t *r = record(z, stored);
+    k->records |= UINT64_C(1) << (stored - 1);
+    if (r[USE] == 3 && r[PLACE] > k->place) k->place = r[PLACE];
+}
+
+static Kept kept(Store *z) {
+    Kept k = {0, 0};
+    for (uint32_t t = 1; t <= z->P; t++) {
+        keep(z, &k, thread(z, t)[HELD]);
+        keep(z, &k, thread(z, t)[CLAIMED]);
+    }
+    return k;
+}
+
+/* a retired record is free where no producer holds it or a retired record of greater place */
+static int is_free(Store *z, Kept k, uint32_t r) {
+    uint32_t *w = record(z, r);
+    if (w[USE] != 3) return w[USE] == 0;
+    return !(k.records >> (r - 1) & 1) && w[PLACE] >= k.place;
 }
 
 /* the first free record from one to another, or 0 */
-static uint32_t first_free(Store *z, uint32_t from, uint32_t to) {
+static uint32_t first_free(Store *z, Kept k, uint32_t from, uint32_t to) {
     for (uint32_t r = from; r <= to; r++)
-        if (is_free(z, r)) return r;
+        if (is_free(z, k, r)) return r;
     return 0;
 }
 
 /* takes the first free record after the one claimed last, past the end to the first; the one claimed last comes last */
 static int claim(Store *z, uint32_t *w, uint32_t phase) {
-    uint32_t *last = &z->s[LAST_CLAIMED], r = first_free(z, *last + 1, z->N);
-    if (!r) r = first_free(z, 1, *last);
+    Kept k = kept(z);
+    uint32_t *last = &z->s[LAST_CLAIMED], r = first_free(z, k, *last + 1, z->N);
+    if (!r) r = first_free(z, k, 1, *last);
     if (!r) return 0;
     clear(record(z, r), z->size);
     record(z, r)[USE] = 1;
@@ -275,8 +297,9 @@ static int fits(uint32_t n, Room room) { return room.words >= 2 * (int64_t)n; }
 /* where a dequeue answers empty */
 static uint32_t answer_empty(Store *z, Room room, uint32_t reply[4]) {
     uint32_t n = z->drain[COUNT];
-    if (!z->drain[LIMIT]) return end(thread(z, 0), 102);
-    return fits(n, room) ? hand_over(z, n, room, reply) : 15;
+    if (z->drain[LIMIT] && !fits(n, room)) return 15;
+    z->s[ALL_HANDLED] = 0;
+    return z->drain[LIMIT] ? hand_over(z, n, room, reply) : end(thread(z, 0), 102);
 }
 
 /* whether a drain with n items ends where a dequeue replies its item */
@@ -342,8 +365,16 @@ static uint32_t consume(Store *z, Room room, uint32_t reply[4]) {
         if (w[CURSOR_POSITION] == z->B * r[PLACE]) {
             if (w[CURSOR_RECORD] == s[TAIL_RECORD]) return answer_empty(z, room, reply);
             if (!cross(z, r, &to, &at)) return 9;
+            if (s[ALL_HANDLED] && w[CURSOR_RECORD] != s[HEAD_RECORD]) {
+                uint32_t prev = r[PREV];
+                if (!prev) return 9;
+                record(z, prev)[NEXT] = to;
+                record(z, to)[PREV] = prev;
+                r[USE] = 3;
+            }
             w[CURSOR_RECORD] = to;
             w[CURSOR_POSITION] = at;
+            s[ALL_HANDLED] = 1;
             return 100;
         }
         if (w[CURSOR_POSITION] == s[TAIL]) return answer_empty(z, room, reply);
@@ -356,10 +387,12 @@ static uint32_t consume(Store *z, Room room, uint32_t reply[4]) {
             w[FOUND_POSITION] = w[CURSOR_POSITION];
             w[CURSOR_RECORD] = s[HEAD_RECORD];
             w[CURSOR_POSITION] = s[HEAD_POSITION];
+            s[ALL_HANDLED] = 0;
             w[PHASE] = 5;
         } else {
             if (w[CURSOR_POSITION] == z->M) return 9;
             w[CURSOR_POSITION]++;
+            if (e[0] == 0) s[ALL_HANDLED] = 0;
             w[PHASE] = 3;
         }
         return 100;
@@ -458,7 +491,7 @@ static uint32_t step(uint32_t *s, size_t words, uint32_t t, uint32_t *buffer, si
     if (t > z.P) return 4;
     uint32_t *w = thread(&z, t), steps = w[STEPS], answer;
     if (!w[PHASE]) return 7;
-    if (steps == MOST_STEPS) return t && w[PHASE] == 4 && !first_free(&z, 1, z.N) ? 8 : 9; /* no step may be added; 8 comes first */
+    if (steps == MOST_STEPS) return t && w[PHASE] == 4 && !first_free(&z, kept(&z), 1, z.N) ? 8 : 9; /* no step may be added; 8 comes first */
     answer = t ? produce(&z, t) : consume(&z, room, reply);
     if (answer < 100) return answer;
     if (answer == 100) w[STEPS] = steps + 1;

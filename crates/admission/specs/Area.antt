@@ -11,7 +11,7 @@ use Rattle.rules.specs.Sizes.{Sizes, contentWords, firstDrain, mostDrained}
 use Rattle.rules.specs.Cell.{reader, consumer, drain, pair}
 use Rattle.rules.specs.Range.{every, pairInRange, areaInRange, drainInRange}
 use Rattle.store.specs.Words.{word-at}
-use Rattle.admission.specs.Rows.{every-same}
+use Rattle.records.specs.Rows.{every-same}
 
 group : (a b x : Bool) → ((a && b) && x) ≡ (a && (b && x))
 group true b x = refl

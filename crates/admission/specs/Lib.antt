@@ -1,5 +1,4 @@
 pub mod Refusal
 pub mod Rows
 pub mod Admit
-pub mod Bounds
 pub mod Area

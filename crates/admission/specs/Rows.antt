@@ -7,22 +7,14 @@ use native.Mathlib.Omega.{arith}
 use lib.Dec.{leb, eqb}
 use lib.ListN.{length, getD, drop}
 use borrow.Author.Tests.{eq-eqb, ne-eqb, le-leb, lt-leb}
-use Rattle.rules.specs.Sizes.{Sizes, mostSteps, contentWords, lastClaimedWord, firstSpare, threadWords}
-use Rattle.rules.specs.Cell.{reader, content, lastClaimed, spare, consumer, producer}
-use Rattle.rules.specs.Range.{Sort, unused, exactly, number, link, record-number, most, any, ofSort, ofSorts, every, threadInRange, producerInRange, consumerInRange, contentsInRange, contentSorts, lastClaimedSort, spareSorts, producerSorts, consumerSorts, idleSorts, placedSorts, frontSorts, cursorSorts, lastProducerPhase, lastConsumerPhase}
+use Rattle.rules.specs.Sizes.{Sizes, mostSteps, contentWords, lastClaimedWord, allHandledWord, firstSpare, threadWords}
+use Rattle.rules.specs.Cell.{reader, content, lastClaimed, allHandled, spare, consumer, producer}
+use Rattle.rules.specs.Range.{Sort, unused, exactly, number, link, record-number, most, any, ofSort, ofSorts, threadInRange, producerInRange, consumerInRange, contentsInRange, contentSorts, lastClaimedSort, spareSorts, producerSorts, consumerSorts, idleSorts, placedSorts, frontSorts, cursorSorts, lastProducerPhase, lastConsumerPhase, mostAllHandled}
 use Rattle.rules.specs.Update.{both, true-false}
 use Rattle.rules.specs.Request.{sizesOf}
 use Rattle.store.specs.Caps.{cap, mostWord}
 use Rattle.store.specs.Words.{word-at}
-
--- words k, k + 1, .. of a row are at most these
-abbrev pub atMost : (ℕ → ℕ) → ℕ → List ℕ → Bool
-atMost row k [] = true
-atMost row k (b ∷ bs) = leb (row k) b && atMost row (suc k) bs
-
--- the words from `at` on
-abbrev pub from : List ℕ → ℕ → ℕ → ℕ
-from m at k = getD m (at + k) 0
+use Rattle.records.specs.Rows.{atMost, from}
 
 -- sorts that are bounds
 abbrev capped : Sort → Bool
@@ -127,17 +119,12 @@ cursor-phase (suc (suc (suc zero))) l h = refl
 cursor-phase (suc (suc (suc (suc zero)))) l h = refl
 cursor-phase (suc (suc (suc (suc (suc p))))) l h = absurd (omega arith)
 
--- tests that agree below n
-pub every-same : (n : ℕ) (p q : ℕ → Bool) → ((i : ℕ) → i < n → p i ≡ q i) → every n p ≡ every n q
-every-same zero p q h = refl
-every-same (suc n) p q h = ap₂ _&&_ (every-same n p q (λ i l. h i (omega arith))) (h n (omega arith))
-
 -- contents word by word, words 0 to 3 being the sizes
 pub contents-test : (z : Sizes) (m : List ℕ) → z ≡ sizesOf m
     → contentsInRange z (reader z m)
-    ≡ (ofSorts z (λ k. getD m k 0) 4 (drop 4 (contentSorts z)) && (ofSort z lastClaimedSort (getD m lastClaimedWord 0) && ofSorts z (λ k. getD m (firstSpare + k) 0) 0 spareSorts))
+    ≡ (ofSorts z (λ k. getD m k 0) 4 (drop 4 (contentSorts z)) && (ofSort z lastClaimedSort (getD m lastClaimedWord 0) && (leb (getD m allHandledWord 0) (mostAllHandled (getD m contentWords 0)) && ofSorts z (λ k. getD m (firstSpare + k) 0) 0 spareSorts)))
 contents-test z m e =
-    rw (word 0 (omega arith), word 1 (omega arith), word 2 (omega arith), word 3 (omega arith), word 4 (omega arith), word 5 (omega arith), word 6 (omega arith), word 7 (omega arith), word 8 (omega arith), word 9 (omega arith), word 10 (omega arith), word-at z m lastClaimed tt, spared 0 (omega arith), spared 1 (omega arith), spared 2 (omega arith), spared 3 (omega arith), eq-eqb (getD m 0 0) (z .B) (sym (ap (λ (y : Sizes). y .B) e)), eq-eqb (getD m 1 0) (z .N) (sym (ap (λ (y : Sizes). y .N) e)), eq-eqb (getD m 2 0) (z .P) (sym (ap (λ (y : Sizes). y .P) e)), eq-eqb (getD m 3 0) (z .M) (sym (ap (λ (y : Sizes). y .M) e))) refl
+    rw (word 0 (omega arith), word 1 (omega arith), word 2 (omega arith), word 3 (omega arith), word 4 (omega arith), word 5 (omega arith), word 6 (omega arith), word 7 (omega arith), word 8 (omega arith), word 9 (omega arith), word 10 (omega arith), word-at z m lastClaimed tt, word-at z m allHandled tt, word-at z m (consumer 0) (omega arith), spared 0 (omega arith), spared 1 (omega arith), spared 2 (omega arith), eq-eqb (getD m 0 0) (z .B) (sym (ap (λ (y : Sizes). y .B) e)), eq-eqb (getD m 1 0) (z .N) (sym (ap (λ (y : Sizes). y .N) e)), eq-eqb (getD m 2 0) (z .P) (sym (ap (λ (y : Sizes). y .P) e)), eq-eqb (getD m 3 0) (z .M) (sym (ap (λ (y : Sizes). y .M) e))) refl
   where
     word : (k : ℕ) → k < lastClaimedWord → reader z m (content k) ≡ getD m k 0
     word k h = word-at z m (content k) h

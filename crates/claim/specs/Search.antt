@@ -7,7 +7,8 @@ use native.Mathlib.Numerals.{add-one}
 use lib.Dec.{eqb}
 use Rattle.rules.specs.Sizes.{Sizes}
 use Rattle.rules.specs.Cell.{Reader, lastClaimed, held, claimed}
-use Rattle.rules.specs.Free.{holds, free, firstFrom, nextFree}
+use Rattle.rules.specs.Free.{free, firstFrom, nextFree}
+use Rattle.claim.specs.Keeping.{holds}
 
 -- the next producer does not hold record r
 pub not-next : (σ : Reader) (r t : ℕ) {x y : ℕ} → σ (held (t + 1)) ≡ x → σ (claimed (t + 1)) ≡ y

@@ -1,15 +1,15 @@
-// The consumer's phases 1 to 4, a function each (document 01, "Calls"). The words are admitted. A phase that may end a drain is lent the
-// buffer (document 02, U5).
+// The consumer's phases 1 and 2, a function each, and crossings (document 01, "Calls"). The words are admitted. A phase that may end a drain is
+// lent the buffer (document 02, U5).
 ghost use mathlib.Core.Path.{_≡_};
 ghost use mathlib.Core.List.{[], _∷_};
 ghost use Prim.Native.Nat.{_<_};
 ghost use Rattle.rules.specs.Cell.{writes, _:=_, headRecord, headPosition, used};
-ghost use Rattle.rules.specs.Rule.{goes, cross};
-ghost use Rattle.rules.specs.Consumer.{moveHead, front, readTail, scan, readEntry};
+ghost use Rattle.rules.specs.Rule.{goes};
+ghost use Rattle.rules.specs.Consumer.{moveHead, front, readTail};
 ghost use Rattle.store.specs.Shape.{sizes};
 ghost use Rattle.store.specs.Outcome.{left, does};
 ghost use Rattle.store.specs.Store.{Room, Admitted};
-ghost use Rattle.dequeue.specs.Crossing.{Crossed, toCursor};
+ghost use Rattle.dequeue.specs.Crossing.{Crossed};
 use draining::end_empty;
 use store::Reply;
 use store::Shape;
@@ -23,10 +23,8 @@ use store::put_cursor;
 use store::put_found;
 use store::put_head;
 use store::put_use;
-use store::read_consumer;
 use store::read_contents;
 use store::read_drain;
-use store::record_end;
 use store::slot_in;
 use store::state;
 use store::usage;
@@ -133,67 +131,6 @@ pub fn read_tail(s: &mut [u32], z: Shape, b: &mut [u32], from: u32) -> Reply
         return Reply::Refused(9);
     }
     put_cursor(s, z, q.head_record, q.head_position + 1);
-    put_consumer(s, z, word::PHASE, phase::SCAN);
-    Reply::Going
-}
-
-// Cross to next, the cursor at its first position.
-fn move_cursor(s: &mut [u32], z: Shape, r: u32) -> Reply
-    requires { ⌜ Admitted (sizes z) (now s) ⌝ }
-    requires { ⌜ r < z .records ⌝ }
-    ensures { λ a. ⌜ left a (now (s .exit)) ≡ does (λ z σ. cross z σ r toCursor) z (now (s .entry)) ⌝ }
-{
-    let Crossing::To { link, position } = cross_from(s, z, r) else {
-        return Reply::Refused(9);
-    };
-    put_cursor(s, z, link, position);
-    Reply::Going
-}
-
-// 3. If the cursor stands at its record's end: empty if that is the tail record, otherwise cross to next, the cursor at its
-// first position (so in every crossing); stay. Else read tail: cursor at tail is empty; otherwise to 4.
-pub fn scan_on(s: &mut [u32], z: Shape, b: &mut [u32], from: u32) -> Reply
-    requires { ⌜ Admitted (sizes z) (now s) ⌝ }
-    ensures { λ r. ⌜ left r (now (s .exit)) (now (b .exit)) from ≡ does scan z (now (s .entry)) (now (b .entry)) from ⌝ }
-{
-    let c = read_consumer(s, z);
-    if c.cursor_record == 0 {
-        return Reply::Refused(9);
-    }
-    let q = read_contents(s, z);
-    if c.cursor_position != record_end(s, z, c.cursor_record - 1) {
-        if c.cursor_position == q.tail {
-            return end_empty(s, z, b, from);
-        }
-        put_consumer(s, z, word::PHASE, phase::READ_ENTRY);
-        return Reply::Going;
-    }
-    if q.tail_record == c.cursor_record {
-        return end_empty(s, z, b, from);
-    }
-    move_cursor(s, z, c.cursor_record - 1)
-}
-
-// 4. Read the entry: set makes it found, and the cursor returns to the head; to 5. Otherwise advance; to 3.
-pub fn read_entry(s: &mut [u32], z: Shape) -> Reply
-    requires { ⌜ Admitted (sizes z) (now s) ⌝ }
-    ensures { λ r. ⌜ left r (now (s .exit)) ≡ does readEntry z (now (s .entry)) ⌝ }
-{
-    let c = read_consumer(s, z);
-    let Slot::At { record, index } = slot_in(s, z, c.cursor_record, c.cursor_position) else {
-        return Reply::Refused(9);
-    };
-    if entry(s, z, record, index, word::STATE) == state::SET {
-        let q = read_contents(s, z);
-        put_found(s, z, c.cursor_record, c.cursor_position);
-        put_cursor(s, z, q.head_record, q.head_position);
-        put_consumer(s, z, word::PHASE, phase::RESCAN);
-        return Reply::Going;
-    }
-    if z.starts <= c.cursor_position {
-        return Reply::Refused(9);
-    }
-    put_consumer(s, z, word::CURSOR_POSITION, c.cursor_position + 1);
     put_consumer(s, z, word::PHASE, phase::SCAN);
     Reply::Going
 }

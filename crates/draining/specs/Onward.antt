@@ -12,7 +12,7 @@ use borrow.Rule.Slice.PartMut.{midOf, putMid}
 use borrow.Author.Tests.{le-ltb, ltb-false}
 use Rattle.history.specs.Linearization.{Item}
 use Rattle.rules.specs.Sizes.{Sizes, mostDrained, firstDrain}
-use Rattle.rules.specs.Cell.{Reader, reader, Write, writes, _:=_, clearConsumer, clearDrain, consumerPhase, foundRecord, foundPosition, itemNumber, itemValue, scanned, drainLimit, pair}
+use Rattle.rules.specs.Cell.{Reader, reader, Write, write, writes, _:=_, clearConsumer, clearDrain, consumerPhase, foundRecord, foundPosition, itemNumber, itemValue, scanned, drainLimit, pair}
 use Rattle.rules.specs.Rule.{Effect, reply, drained, goes}
 use Rattle.rules.specs.Consumer.{pairAt, itemsMarked, goesOn}
 use Rattle.rules.specs.Request.{applied, itemWords}
@@ -83,6 +83,12 @@ module _ (z : Sizes) (m b : List ℕ) (i n : ℕ) (xs : List Item) (ws : List Wr
   pub turned-down : ltb (length b) (i + 2 * n) ≡ true → left (Refused 15) m b i ≡ leaves z m (reply (drained xs) ws) b i
   unfolding applied
   turned-down e = rw (is, e) refl
+
+-- The drain ends after one write more, which leaves its items.
+pub ends-after : (z : Sizes) (m b : List ℕ) (i n : ℕ) (w : Write) → itemsMarked (reader z (write z m w)) n ≡ itemsMarked (reader z m) n → i + 2 * n ≤ length b
+    → leaves z (write z m w) (endsWith n z (reader z (write z m w))) b i ≡ leaves z m (reply (drained (itemsMarked (reader z m) n)) (w ∷ clearConsumer ∷ clearDrain ∷ [])) b i
+unfolding applied writes
+ends-after z m b i n w items room = rw (items, length-marked (reader z m) n, le-ltb (length b) (i + 2 * n) room) refl
 
 -- The code goes on from the words after a step's writes, where the rule speaks of those before.
 module _ (z : Sizes) (m b : List ℕ) (i n : ℕ) (xs : List Item) (ws : List Write) where

@@ -19,6 +19,7 @@ use store::clear_consumer;
 use store::clear_drain;
 use store::drain_at;
 use store::phase;
+use store::put_all_handled;
 use store::put_consumer;
 use store::put_found;
 use store::put_item;
@@ -63,19 +64,21 @@ fn end_with(s: &mut [u32], z: Shape, n: u32, b: &mut [u32], from: u32) -> Reply
     Reply::Drained(n)
 }
 
-// The dequeue ends and answers empty. A drain ends with the items that it has marked, 0 for none.
+// The dequeue ends and answers empty. A drain ends with the items that it has marked, 0 for none. What the scan has read is zero then.
 pub fn end_empty(s: &mut [u32], z: Shape, b: &mut [u32], from: u32) -> Reply
     requires { ⌜ Admitted (sizes z) (now s) ⌝ }
     ensures { λ r. ⌜ left r (now (s .exit)) (now (b .exit)) from ≡ does endsEmpty z (now (s .entry)) (now (b .entry)) from ⌝ }
 {
     let d = read_drain(s, z);
     if d.limit == 0 {
+        put_all_handled(s, z, 0);
         clear_consumer(s, z);
         return Reply::Empty;
     }
     if too_short(b, from, d.count) {
         return Reply::Refused(15);
     }
+    put_all_handled(s, z, 0);
     end_with(s, z, d.count, b, from)
 }
 

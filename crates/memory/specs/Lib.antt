@@ -1,5 +1,7 @@
+pub mod Listed
 pub mod Chain
 pub mod Memory
+pub mod Trails
 pub mod LastRecord
 pub mod OtherThreads
 pub mod NextFree
@@ -7,4 +9,7 @@ pub mod Loose
 pub mod Claiming
 pub mod Linking
 pub mod Retiring
+pub mod RetireHead
+pub mod Folding
+pub mod GoingBack
 pub mod Light

@@ -10,37 +10,45 @@ use Rattle.rules.specs.Sizes.{Sizes}
 use Rattle.rules.specs.Cell.{Reader, Write, producer, part, entry}
 use Rattle.rules.specs.Update.{after}
 use Rattle.rules.specs.InRange.{InSort, others-untouched}
-use Rattle.memory.specs.Memory.{Holdable, Held, Blank, Claimed, ThreadOk, rowOf}
+use Rattle.memory.specs.Memory.{Holdable, Held, Blank, Claimed, TrailFrom, ThreadOk, rowOf}
+use Rattle.memory.specs.Trails.{SameWay, trail-from-stays}
 
-module _ (N lo lo′ : ℕ) (σ σ′ : Reader) where
-  pub held-kept : (x : ℕ) → ((r : ℕ) → x ≡ suc r → Holdable lo σ r → Holdable lo′ σ′ r) → Held lo σ x → Held lo′ σ′ x
+module _ (z : Sizes) (σ σ′ : Reader) where
+  pub held-kept : (x : ℕ) → ((r : ℕ) → x ≡ suc r → Holdable σ r → Holdable σ′ r) → Held σ x → Held σ′ x
   held-kept zero f h = h
   held-kept (suc r) f h = f r refl h
 
-  claimed-kept : (x : ℕ) → ((r : ℕ) → x ≡ suc r → Blank N σ r → Blank N σ′ r) → Claimed N σ x → Claimed N σ′ x
+  claimed-kept : (x : ℕ) → ((r : ℕ) → x ≡ suc r → Blank (z .N) σ r → Blank (z .N) σ′ r) → Claimed (z .N) σ x → Claimed (z .N) σ′ x
   claimed-kept zero f h = h
   claimed-kept (suc r) f h = f r refl h
 
-  -- A thread's clause is kept where the records that it holds and has claimed are.
+  -- A thread's clause is kept where the records that it holds and has claimed are, and its way back.
   pub thread-kept : (row : ℕ → ℕ)
-      → ((r : ℕ) → row 4 ≡ suc r → Holdable lo σ r → Holdable lo′ σ′ r)
-      → ((r : ℕ) → row 5 ≡ suc r → Blank N σ r → Blank N σ′ r)
-      → ThreadOk N lo σ row → ThreadOk N lo′ σ′ row
-  thread-kept row f g i =
+      → ((r : ℕ) → row 4 ≡ suc r → Holdable σ r → Holdable σ′ r)
+      → ((r : ℕ) → row 5 ≡ suc r → Blank (z .N) σ r → Blank (z .N) σ′ r)
+      → (row 0 ≡ 7 → TrailFrom (z .B) σ (row 3) (row 4) → TrailFrom (z .B) σ′ (row 3) (row 4))
+      → ThreadOk z σ row → ThreadOk z σ′ row
+  thread-kept row f g h i =
       record {
         holding = held-kept (row 4) f (i .holding);
         claiming = claimed-kept (row 5) g (i .claiming);
         has-held = i .has-held;
         has-claimed = i .has-claimed;
+        trail = λ e. h e (i .trail e);
       }
 
 -- A record whose words stay as they were may be held, or is claimed, as before.
 abbrev pub Untouched : Reader → Reader → ℕ → Type 0
 Untouched σ σ′ x = ((k : ℕ) → σ′ (part x k) ≡ σ (part x k)) × ((i k : ℕ) → σ′ (entry x i k) ≡ σ (entry x i k))
 
-pub holdable-kept : (lo : ℕ) (σ σ′ : Reader) (x : ℕ) → ((k : ℕ) → σ′ (part x k) ≡ σ (part x k)) → Holdable lo σ x → Holdable lo σ′ x
-holdable-kept lo σ σ′ x e (inl u) = inl (e 3 ∙ u)
-holdable-kept lo σ σ′ x e (inr u) = inr (e 3 ∙ u .0, (λ q. u .1 (sym (e 1) ∙ q)), rw (e 0) (u .2))
+pub holdable-kept : (σ σ′ : Reader) (x : ℕ) → ((k : ℕ) → σ′ (part x k) ≡ σ (part x k)) → Holdable σ x → Holdable σ′ x
+holdable-kept σ σ′ x e (inl u) = inl (e 3 ∙ u)
+holdable-kept σ σ′ x e (inr u) = inr (e 3 ∙ u)
+
+-- A way back stays where what it goes by does, of all linked and retired records.
+pub trail-kept : (z : Sizes) (σ σ′ : Reader) (L x : ℕ) → ((y : ℕ) → Holdable σ y → SameWay σ σ′ y)
+    → TrailFrom (z .B) σ L x → TrailFrom (z .B) σ′ L x
+trail-kept z σ σ′ L x same = trail-from-stays (z .B) σ σ′ L x (λ r e y b. same y)
 
 pub blank-kept : (N : ℕ) (σ σ′ : Reader) (x : ℕ) → Untouched σ σ′ x → Blank N σ x → Blank N σ′ x
 blank-kept N σ σ′ x e b =

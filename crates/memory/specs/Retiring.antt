@@ -1,92 +1,105 @@
--- Retiring the head record keeps the records' invariant.
-use mathlib.Core.Path.{_≡_, refl, ap, sym, _∙_}
-use mathlib.Core.Logic.{inl, inr}
-use mathlib.Core.List.{List, [], _∷_}
-use Prim.Native.Nat.{ℕ, suc, _<_}
+-- Retiring a linked record keeps the records' invariant. (`RetireHead` and `Folding` are its two cases.)
+use mathlib.Core.Path.{_≡_, ap, sym, _∙_, subst, fun-ext}
+use mathlib.Core.Logic.{inl, inr, _≢_}
+use mathlib.Core.Bool.{Bool, false}
+use Prim.Native.Nat.{ℕ, suc, _+_, _*_, _≤_, _<_}
 use native.Mathlib.Decide.{ℕ-discrete}
+use native.Mathlib.Nat.{lt-of-mul-lt-mul-left}
 use native.Mathlib.Omega.{arith}
-use borrow.Author.Tests.{eq-eqb, ne-eqb}
 use Rattle.rules.specs.Sizes.{Sizes}
-use Rattle.rules.specs.Cell.{Reader, Write, _:=_, headRecord, headPosition, cursorRecord, foundRecord, place, next, used, state}
-use Rattle.rules.specs.Update.{after}
-use Rattle.memory.specs.Chain.{chain-shrinks}
-use Rattle.memory.specs.Memory.{ChainShape, Holdable, Blank, rowOf, Memory}
-use Rattle.memory.specs.OtherThreads.{thread-kept}
+use Rattle.rules.specs.Cell.{Reader, part, entry, producer, tailRecord, headRecord, cursorRecord, foundRecord, place, next, prev, used, state}
+use Rattle.memory.specs.Memory.{ChainShape, ListedIn, ChainOf, Holdable, Blank, Ends, TrailFrom, Retired, rowOf, Linked, Memory, retired-kept}
+use Rattle.memory.specs.OtherThreads.{thread-kept, blank-kept}
+use Rattle.memory.specs.Trails.{trail-retires}
 
--- What the consumer writes when record n takes h's place as head record, at position p.
-abbrev pub retireWrites : (h n p : ℕ) → List Write
-retireWrites h n p = headRecord := suc n ∷ headPosition := p ∷ used h := 3 ∷ []
+-- Position L is awaited: the record that it is in is in the list.
+pub record Awaited (B : ℕ) (g : ChainShape) (L : ℕ) : Type 0 where
+  pub at : ℕ
+  pub listed : ListedIn g at
+  pub before-end : L < B * at
+  pub from-start : B * at ≤ L + B
 
-module _ (z : Sizes) (σ : Reader) (g : ChainShape) (m : Memory z σ g) (p : ℕ) (more : g .lo < g .tp)
-    (no-cursor : σ cursorRecord ≡ 0) (no-found : σ foundRecord ≡ 0)
-    (handled : (i : ℕ) → i < z .B → σ (state (g .at (g .lo)) i) ≡ 1 → ⊥) where
-  abbrev h : ℕ
-  h = g .at (g .lo)
+-- Its place, where position L lies before the end of a place k that is not in the list.
+pub awaited-below : (B : ℕ) (g : ChainShape) (L k : ℕ) (a : Awaited B g L) → L < B * k → (ListedIn g k → ⊥) → a .at < k
+awaited-below B g L k a l n =
+    let w : a .at < suc k = lt-of-mul-lt-mul-left B (omega (arith, a .from-start)) in
+    let d : a .at ≡ k → ⊥ = λ e. n (subst (ListedIn g) e (a .listed)) in
+    omega arith
 
-  abbrev σ′ : Reader
-  σ′ = after σ (retireWrites h (g .at (suc (g .lo))) p)
+-- What a step that retires linked record h leaves of the records and threads.
+pub record Retires (z : Sizes) (σ σ′ : Reader) (g : ChainShape) (h : ℕ) : Type 0 where
+  pub was : σ (used h) ≡ 2
+  pub gone : σ′ (used h) ≡ 3
+  pub before : σ (place h) < g .tp
+  pub onward : σ′ (next h) ≢ 0
+  pub places : (x : ℕ) → σ′ (place x) ≡ σ (place x)
+  pub uses : (x : ℕ) → (x ≡ h → ⊥) → σ′ (used x) ≡ σ (used x)
+  pub others : (x : ℕ) → (σ (used x) ≡ 2 → ⊥) → (k : ℕ) → σ′ (part x k) ≡ σ (part x k)
+  pub entries : (x i k : ℕ) → σ′ (entry x i k) ≡ σ (entry x i k)
+  pub rows : (u k : ℕ) → σ′ (producer u k) ≡ σ (producer u k)
+  pub handled : (i : ℕ) → i < z .B → σ (state h i) ≡ 1 → ⊥
 
-  abbrev pub shrunk : ChainShape
-  shrunk = record { lo = suc (g .lo); tp = g .tp; hi = g .hi; at = g .at }
+module _ (z : Sizes) (σ σ′ : Reader) (g : ChainShape) (m : Memory z σ g) (h : ℕ) (s : Retires z σ σ′ g h) (lo′ : ℕ) (gap′ : ℕ → Bool) where
+  abbrev pub without : ChainShape
+  without = record { lo = lo′; tp = g .tp; hi = g .hi; at = g .at; gap = gap′ }
 
-  used-h : σ′ (used h) ≡ 3
-  used-h = rw (eq-eqb h h refl) refl
+  -- a record that is not linked is another one
+  not-h : (x : ℕ) → (σ (used x) ≡ 2 → ⊥) → x ≡ h → ⊥
+  not-h x n e = n (rw e (s .was))
 
-  others : (x : ℕ) → (x ≡ h → ⊥) → σ′ (used x) ≡ σ (used x)
-  others x n = rw (ne-eqb h x (λ e. n (sym e))) refl
+  still : (x : ℕ) → Dec (x ≡ h) → Holdable σ x → Holdable σ′ x
+  still x (yes e) u = inr (rw e (s .gone))
+  still x (no n) (inl u) = inl (s .uses x n ∙ u)
+  still x (no n) (inr u) = inr (s .uses x n ∙ u)
 
-  next-h : σ (next h) ≡ suc (g .at (suc (g .lo)))
-  next-h = m .chain .nexts (g .lo) (omega arith) (omega (arith, m .tail-last))
-
-  linked-h : σ (used h) ≡ 2
-  linked-h = m .chain .linked (g .lo) (omega arith) (omega (arith, m .tail-last))
-
-  place-h : σ (place h) ≡ g .lo
-  place-h = m .chain .placed (g .lo) (omega arith) (omega (arith, m .tail-last))
-
-  still : (x : ℕ) → Holdable (g .lo) σ x → Holdable (suc (g .lo)) σ′ x
-  still x held = go (ℕ-discrete x h) held
-    where
-      go : Dec (x ≡ h) → Holdable (g .lo) σ x → Holdable (suc (g .lo)) σ′ x
-      go (yes e) u =
-          inr (
-            ap (λ (y : ℕ). σ′ (used y)) e ∙ used-h,
-            (λ q. let w : σ (next x) ≡ σ (next h) = ap (λ (y : ℕ). σ (next y)) e in omega (arith, next-h)),
-            let w : σ (place x) ≡ σ (place h) = ap (λ (y : ℕ). σ (place y)) e in omega (arith, place-h),
-          )
-      go (no n) (inl u) = inl (others x n ∙ u)
-      go (no n) (inr u) = inr (others x n ∙ u .0, u .1, omega (arith, u .2))
-
-  -- a claimed record is not the head record
-  blank-still : (x : ℕ) → Blank (z .N) σ x → Blank (z .N) σ′ x
-  blank-still x b =
-      let n : x ≡ h → ⊥ = λ e. let w : σ (used x) ≡ σ (used h) = ap (λ (y : ℕ). σ (used y)) e in omega (arith, linked-h, b .claimed-use) in
+  still-retired : ((k : ℕ) → ListedIn without k → (k ≡ σ (place h) → ⊥) × ListedIn g k) → (x : ℕ) → σ′ (used x) ≡ 3 → Dec (x ≡ h) → Retired σ′ without x
+  still-retired fewer x u (yes e) =
       record {
-        fits = b .fits;
-        claimed-use = others x n ∙ b .claimed-use;
-        no-place = b .no-place;
-        no-next = b .no-next;
-        no-prev = b .no-prev;
-        no-entry = b .no-entry;
+        has-next = rw e (s .onward);
+        before-tail = rw e (rw (s .places h) (s .before));
+        not-listed = λ l. fewer (σ′ (place x)) l .0 (s .places x ∙ ap (λ (y : ℕ). σ (place y)) e);
       }
+  still-retired fewer x u (no n) =
+      let w : σ (used x) ≡ 3 = sym (s .uses x n) ∙ u in
+      let i = retired-kept σ σ′ g x (s .others x (λ l. omega arith)) (m .retired x w) in
+      record { has-next = i .has-next; before-tail = i .before-tail; not-listed = λ l. i .not-listed (fewer (σ′ (place x)) l .1) }
 
   still-unset : (x i : ℕ) → x < z .N → i < z .B → (σ′ (used x) ≡ 2 → ⊥) → σ (state x i) ≡ 1 → Dec (x ≡ h) → ⊥
-  still-unset x i a b n e (yes q) = handled i b (ap (λ (y : ℕ). σ (state y i)) (sym q) ∙ e)
-  still-unset x i a b n e (no q) = m .unset x i a b (λ l. n (others x q ∙ l)) e
+  still-unset x i a b n e (yes q) = s .handled i b (ap (λ (y : ℕ). σ (state y i)) (sym q) ∙ e)
+  still-unset x i a b n e (no q) = m .unset x i a b (λ l. n (s .uses x q ∙ l)) e
 
-  pub retire-keeps : Memory z (after σ (retireWrites (g .at (g .lo)) (g .at (suc (g .lo))) p)) shrunk
-  retire-keeps =
-      record {
-        head-tail = more;
-        tail-last = m .tail-last;
-        chain = chain-shrinks (omega (arith, m .head-tail, m .tail-last)) (m .chain) (λ x. σ′ (used x)) (omega (arith, m .tail-last)) used-h others;
-        tail-is = m .tail-is;
-        head-is = refl;
-        threads =
-            λ t. thread-kept (z .N) (g .lo) (suc (g .lo)) σ σ′ (rowOf σ t) (λ x e. still x) (λ x e. blank-still x) (m .threads t);
-        apart = m .apart;
-        cursor = rw no-cursor tt;
-        found = rw no-found tt;
-        unset = λ x i a b n e. still-unset x i a b n e (ℕ-discrete x h);
-        outside = m .outside;
-      }
+  module _ (chain : ChainOf z σ′ without) (fewer : (k : ℕ) → ListedIn without k → (k ≡ σ (place h) → ⊥) × ListedIn g k)
+      (head-tail : lo′ ≤ g .tp) (head-in : gap′ lo′ ≡ false) (tail-in : (k : ℕ) → g .tp ≤ k → gap′ k ≡ false)
+      (tail-kept : σ′ tailRecord ≡ σ tailRecord) (head-is : σ′ headRecord ≡ suc (g .at lo′))
+      (cursor : Linked σ′ (σ′ cursorRecord)) (found : Linked σ′ (σ′ foundRecord))
+      (on : (u : ℕ) → rowOf σ u 0 ≡ 7 → rowOf σ u 3 < z .B * σ (place h)
+      → (b : ℕ) × (σ′ (prev h) ≡ suc b) × (σ (place b) < σ (place h)) × Ends (z .B) σ′ (rowOf σ u 3) b) where
+    pub retiring-keeps : Memory z σ′ without
+    retiring-keeps =
+        record {
+          head-tail = head-tail;
+          tail-last = m .tail-last;
+          head-in = head-in;
+          tail-in = tail-in;
+          chain = chain;
+          retired = λ x u. still-retired fewer x u (ℕ-discrete x h);
+          tail-is = tail-kept ∙ m .tail-is;
+          head-is = head-is;
+          threads = λ u. rw (rows-same u) (thread-kept z σ σ′ (rowOf σ u) (λ x e. still x (ℕ-discrete x h)) (λ x e. blank-still x) (λ e. way u e) (m .threads u));
+          apart = λ u v x e f. m .apart u v x (sym (s .rows u 5) ∙ e) (sym (s .rows v 5) ∙ f);
+          cursor = cursor;
+          found = found;
+          unset = λ x i a b n e. still-unset x i a b n (sym (s .entries x i 0) ∙ e) (ℕ-discrete x h);
+          outside = λ u k n. s .rows u k ∙ m .outside u k n;
+        }
+      where
+        rows-same : (u : ℕ) → rowOf σ′ u ≡ rowOf σ u
+        rows-same u = fun-ext (s .rows u)
+
+        blank-still : (x : ℕ) → Blank (z .N) σ x → Blank (z .N) σ′ x
+        blank-still x b = blank-kept (z .N) σ σ′ x (s .others x (λ l. omega (arith, b .claimed-use)), s .entries x) b
+
+        way : (u : ℕ) → rowOf σ u 0 ≡ 7 → TrailFrom (z .B) σ (rowOf σ u 3) (rowOf σ u 4) → TrailFrom (z .B) σ′ (rowOf σ u 3) (rowOf σ u 4)
+        way u e =
+            trail-retires (z .B) σ σ′ (rowOf σ u 3) h (s .was) (s .gone) (s .places) (s .uses)
+            (λ y r. s .others y (λ l. omega arith) 2) (on u e) (rowOf σ u 4)

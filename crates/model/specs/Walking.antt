@@ -60,10 +60,11 @@ module _ (B : ℕ) (s : State) (i : Invariant B s) (t : ℕ) where
       (omega arith) m)
       (o .0))
 
-  pub go-back : (n v L k : ℕ) → s .producer t ≡ behind n v L (suc k) → Invariant B (goBack B s t n v L k)
-  go-back n v L k e =
+  -- to some record of smaller place
+  pub go-back : (n v L k j : ℕ) → s .producer t ≡ behind n v L k → j < k → Invariant B (goBack B s t n v L j)
+  go-back n v L k j e less =
       let o = producer-clause _ e in
-      choose n v L k _ e refl (o .0) (omega arith)
+      choose n v L j _ e refl (o .0) (omega arith)
 
 pub link-last : (B : ℕ) (s : State) → Invariant B s → Invariant B (linkLast s)
 link-last B s i =

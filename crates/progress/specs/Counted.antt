@@ -12,7 +12,7 @@ use Rattle.history.specs.Lists.{All}
 use Rattle.history.specs.Event.{History}
 use Rattle.criterion.specs.Members.{all-append}
 use Rattle.rules.specs.Sizes.{Sizes, mostSteps}
-use Rattle.rules.specs.Cell.{Cell, Reader, Write, _:=_, consumer, producer, part, entry, consumerPhase, cursorRecord, foundRecord, phase, stepCount, used}
+use Rattle.rules.specs.Cell.{Cell, Reader, Write, _:=_, consumer, producer, consumerPhase, phase, stepCount}
 use Rattle.rules.specs.Update.{areaOf, update, after, after-more, countOf, count-is, both, other-area}
 use Rattle.rules.specs.Range.{Sort, any, steps, consumerSorts, producerSorts, lastConsumerPhase, lastProducerPhase, ofSorts, consumerInRange, producerInRange}
 use Rattle.rules.specs.InRange.{OtherThread, writes-keep-range}
@@ -20,8 +20,7 @@ use Rattle.rules.specs.Readback.{WriteThere}
 use Rattle.rules.specs.Rule.{going}
 use Rattle.rules.specs.Request.{step}
 use Rattle.rules.specs.Play.{goneOn, recorded}
-use Rattle.memory.specs.Memory.{ThreadOk, rowOf, Linked}
-use Rattle.memory.specs.OtherThreads.{thread-kept, holdable-kept, blank-kept}
+use Rattle.memory.specs.Light.{rows-keep}
 use Rattle.simulation.specs.View.{Ghost}
 use Rattle.simulation.specs.Good.{Good, told, Goes, Moved}
 use Rattle.simulation.specs.Rows.{OfSort, consumer-row-of, producer-row-of}
@@ -48,21 +47,6 @@ abbrev pub withCount : Reader → (t n : ℕ) → Reader
 withCount τ t n = update τ (countOf t := n)
 
 module _ (z : Sizes) (τ : Reader) (δ : Ghost) (good : Good z τ δ) (n : ℕ) (fits : n ≤ mostSteps) where
-  -- What goes by the records and by words 0, 4 and 5 of a thread.
-  same-linked : (τ′ : Reader) → ((r : ℕ) → τ′ (used r) ≡ τ (used r)) → (x : ℕ) → Linked τ x → Linked τ′ x
-  same-linked τ′ same zero l = tt
-  same-linked τ′ same (suc r) l = same r ∙ l
-
-  same-thread : (τ′ : Reader) (t : ℕ) → ((r k : ℕ) → τ′ (part r k) ≡ τ (part r k)) → ((r i k : ℕ) → τ′ (entry r i k) ≡ τ (entry r i k))
-      → τ′ (producer t 0) ≡ τ (producer t 0) → τ′ (producer t 4) ≡ τ (producer t 4) → τ′ (producer t 5) ≡ τ (producer t 5)
-      → ThreadOk (z .N) (δ .shape .lo) τ′ (rowOf τ′ t)
-  same-thread τ′ t parts entries a b c =
-      let old = good .memory .threads t in
-      thread-kept (z .N) (δ .shape .lo) (δ .shape .lo) τ τ′ (rowOf τ′ t)
-      (λ x e. holdable-kept (δ .shape .lo) τ τ′ x (parts x))
-      (λ x e. blank-kept (z .N) τ τ′ x (parts x, entries x))
-      (record { holding = rw b (old .holding); claiming = rw c (old .claiming); has-held = rw (a, b) (old .has-held); has-claimed = rw (a, c) (old .has-claimed) })
-
   -- the consumer's
   consumer-row : τ consumerPhase ≢ 0 → consumerInRange z (withCount τ 0 n) ≡ true
   consumer-row busy =
@@ -83,25 +67,15 @@ module _ (z : Sizes) (τ : Reader) (δ : Ghost) (good : Good z τ δ) (n : ℕ) 
   consumer-counted busy =
       record {
         sizes = good .sizes;
-        range = writes-keep-range z 0 τ (consumer 7 := n ∷ []) (refl, tt) (good .range) (λ e. (consumer-row busy, good .range .draining)) (λ l. absurd (omega arith));
+        range = writes-keep-range z 0 τ (consumer 7 := n ∷ []) (refl, tt) (good .range) (λ e. (consumer-row busy, good .range .draining, good .range .scanning)) (λ l. absurd (omega arith));
         memory =
-            record {
-              head-tail = good .memory .head-tail;
-              tail-last = good .memory .tail-last;
-              chain = good .memory .chain;
-              tail-is = good .memory .tail-is;
-              head-is = good .memory .head-is;
-              threads = λ t. same-thread (withCount τ 0 n) t (λ x k. refl) (λ x i k. refl) refl refl refl;
-              apart = good .memory .apart;
-              cursor = same-linked (withCount τ 0 n) (λ x. refl) (τ cursorRecord) (good .memory .cursor);
-              found = same-linked (withCount τ 0 n) (λ x. refl) (τ foundRecord) (good .memory .found);
-              unset = good .memory .unset;
-              outside = good .memory .outside;
-            };
+            rows-keep z τ (withCount τ 0 n) (δ .shape) (good .memory) (record { parts = λ x k. refl; entries = λ x u i k. refl }) refl refl
+            (good .memory .cursor) (good .memory .found) (λ u. (refl, refl, refl, refl)) (good .memory .outside);
         agrees = good .agrees;
         model = good .model;
         formed = good .formed;
         pending = record { of-dequeue = good .pending .of-dequeue; of-drain = good .pending .of-drain; below = good .pending .below; some = good .pending .some };
+        read = good .read;
       }
 
   module _ (p : ℕ) (there : (1 ≤ suc p) × (suc p ≤ z .P)) where
@@ -126,23 +100,13 @@ module _ (z : Sizes) (τ : Reader) (δ : Ghost) (good : Good z τ δ) (n : ℕ) 
           sizes = good .sizes;
           range = writes-keep-range z (suc p) τ (producer (suc p) 7 := n ∷ []) (refl, tt) (good .range) (λ e. absurd (omega arith)) (λ l. producer-row busy);
           memory =
-              record {
-                head-tail = good .memory .head-tail;
-                tail-last = good .memory .tail-last;
-                chain = good .memory .chain;
-                tail-is = good .memory .tail-is;
-                head-is = good .memory .head-is;
-                threads = λ t. same-thread (withCount τ (suc p) n) t (λ x k. refl) (λ x i k. refl) refl refl refl;
-                apart = good .memory .apart;
-                cursor = same-linked (withCount τ (suc p) n) (λ x. refl) (τ cursorRecord) (good .memory .cursor);
-                found = same-linked (withCount τ (suc p) n) (λ x. refl) (τ foundRecord) (good .memory .found);
-                unset = good .memory .unset;
-                outside = λ t k o. untouched-row t k o;
-              };
+              rows-keep z τ (withCount τ (suc p) n) (δ .shape) (good .memory) (record { parts = λ x k. refl; entries = λ x u i k. refl }) refl refl
+              (good .memory .cursor) (good .memory .found) (λ u. (refl, refl, refl, refl)) untouched-row;
           agrees = good .agrees;
           model = good .model;
           formed = good .formed;
           pending = record { of-dequeue = good .pending .of-dequeue; of-drain = good .pending .of-drain; below = good .pending .below; some = good .pending .some };
+          read = good .read;
         }
       where
         untouched-row : (t k : ℕ) → ((1 ≤ t) × (t ≤ z .P) → ⊥) → withCount τ (suc p) n (producer t k) ≡ 0
@@ -182,7 +146,7 @@ module _ (z : Sizes) (σ τ : Reader) (γ δ : Ghost) (n : ℕ) where
         behind =
             λ l.
             let b = m .behind l in
-            record { same-head = b .same-head; same-first = b .same-first; same-records = b .same-records; was-gone = b .was-gone };
+            record { same-head = b .same-head; same-first = b .same-first; same-gaps = b .same-gaps; same-records = b .same-records; was-gone = b .was-gone };
       }
 
   told-counted : (t : ℕ) (h g : History) → told τ h ≡ goneOn σ τ g → told (withCount τ t n) h ≡ goneOn σ (withCount τ t n) g

@@ -1,7 +1,7 @@
 -- A dequeue's own steps lower what it has left, and so do a drain's.
-use mathlib.Core.Path.{_≡_, refl, ap, sym, _∙_}
+use mathlib.Core.Path.{_≡_, refl, ap, sym, _∙_, subst}
 use mathlib.Core.Logic.{_≢_}
-use mathlib.Core.Bool.{Bool, true, false, _&&_, _||_, cond, and-false}
+use mathlib.Core.Bool.{Bool, true, false, _&&_, _||_, not, cond, and-false}
 use mathlib.Core.List.{List, [], _∷_, _++_}
 use Prim.Native.Nat.{ℕ, zero, suc, _+_, _-_, _*_, _≤_, _<_}
 use native.Mathlib.Nat.{mul-comm}
@@ -12,20 +12,21 @@ use lib.ListN.{length, getD, length-append}
 use borrow.Author.Tests.{eq-eqb, ne-eqb, eqb-true, eqb-false, lt-ltb, le-ltb, ltb-true}
 use Rattle.history.specs.Linearization.{Item}
 use Rattle.rules.specs.Sizes.{Sizes}
-use Rattle.rules.specs.Cell.{Reader, Write, _:=_, clearConsumer, clearDrain, scanned, drain, drainLimit, drainCount, tail, tailRecord, headRecord, headPosition, consumerPhase, cursorRecord, cursorPosition, foundRecord, foundPosition, itemNumber, itemValue, place, next, used, state, entryNumber, entryValue}
+use Rattle.rules.specs.Cell.{Reader, Write, _:=_, clearConsumer, clearDrain, scanned, drain, drainLimit, drainCount, tail, tailRecord, headRecord, headPosition, allHandled, consumerPhase, cursorRecord, cursorPosition, foundRecord, foundPosition, itemNumber, itemValue, place, next, prev, used, state, entryNumber, entryValue}
 use Rattle.rules.specs.Update.{after, both, neither, and-true}
-use Rattle.rules.specs.Rule.{Effect, refuse, goes, upTo, atEnd, index}
-use Rattle.rules.specs.Consumer.{byState, itemsMarked, byCall, endsEmpty, repliesItem, goesOn, front, readTail, scan, readEntry, throughScan, rescanned, rescan, readItem, drainedAt, marks, keepItem, markHandled, retireHead, consumerRules, consumerStep}
-use Rattle.model.specs.State.{rescanning}
+use Rattle.rules.specs.Rule.{Effect, refuse, goes, need, upTo, atEnd, index}
+use Rattle.rules.specs.Consumer.{byState, itemsMarked, byCall, endsEmpty, repliesItem, goesOn, front, readTail, entered, folded, isRead, scan, stillHandled, readEntry, throughScan, rescanned, rescan, readItem, drainedAt, marks, keepItem, markHandled, retireHead, consumerRules, consumerStep}
+use Rattle.model.specs.State.{gone, rescanning}
 use Rattle.model.specs.Dequeues.{consumer-clause}
-use Rattle.memory.specs.Memory.{Memory}
+use Rattle.memory.specs.Listed.{onward}
+use Rattle.memory.specs.Memory.{ListedIn, Memory, last-listed}
 use Rattle.simulation.specs.View.{Ghost, placesOf, placeOf, view, codeOf}
-use Rattle.simulation.specs.Good.{Good, by-cond}
+use Rattle.simulation.specs.Good.{Good, Read, by-cond}
 use Rattle.simulation.specs.Limits.{limits}
 use Rattle.simulation.specs.DrainWords.{drain-in, marked-length}
 use Rattle.simulation.specs.ConsumerCursor.{linked-most}
 use Rattle.simulation.specs.ConsumerSteps.{consumer-at, head-placed, head-record-linked}
-use Rattle.progress.specs.Arithmetic.{count-most, count-less, count-below, scaled, scaled-less, triangle-less}
+use Rattle.progress.specs.Arithmetic.{count-most, count-grows, count-less, count-below, scaled, scaled-less, triangle-less}
 use Rattle.progress.specs.Measure.{rank, firstHandled, along, readSteps, itemSteps, itemsAfter, dequeueAt, consumerLeft}
 use Rattle.progress.specs.Leaves.{each-need, each-up-to, each-inside, each-cross}
 use Rattle.progress.specs.Lowers.{Lowers, refused-lowers, goes-lowers, empty-lowers, item-lowers, drained-lowers}
@@ -93,20 +94,21 @@ module _ (z : Sizes) (σ : Reader) (γ : Ghost) (good : Good z σ γ) where
   rank-below : (r : ℕ) → σ (used r) ≡ 2 → rank z σ (σ (place r)) < z .N
   rank-below r u = count-below (z .N) _ r (linked-most z σ γ good r u) (not-at r)
 
-  -- the record after a linked one is one place on
-  next-placed : (r n : ℕ) → σ (used r) ≡ 2 → σ (next r) ≡ suc n → σ (place n) ≡ suc (σ (place r))
+  -- the record after a linked one is of greater place
+  next-placed : (r n : ℕ) → σ (used r) ≡ 2 → σ (next r) ≡ suc n → σ (place r) < σ (place n)
   next-placed r n u e = go (decLt (σ (place r)) (γ .shape .hi))
     where
-      o : (γ .shape .lo ≤ σ (place r)) × (σ (place r) ≤ γ .shape .hi) × (γ .shape .at (σ (place r)) ≡ r)
+      o : ListedIn (γ .shape) (σ (place r)) × (γ .shape .at (σ (place r)) ≡ r)
       o = m .chain .only r u
 
-      go : Dec (σ (place r) < γ .shape .hi) → σ (place n) ≡ suc (σ (place r))
+      go : Dec (σ (place r) < γ .shape .hi) → σ (place r) < σ (place n)
       go (yes l) =
-          let is : n ≡ γ .shape .at (suc (σ (place r))) = omega (arith, ap (λ (x : ℕ). σ (next x)) (o .2), m .chain .nexts (σ (place r)) (o .0) l) in
-          ap (λ (x : ℕ). σ (place x)) is ∙ m .chain .placed (suc (σ (place r))) (omega (arith, o .0)) l
+          let w = onward (σ (place r)) (γ .shape .hi) (o .0) (last-listed m) l in
+          let is : n ≡ γ .shape .at (w .place) = omega (arith, ap (λ (x : ℕ). σ (next x)) (o .1), m .chain .nexts (σ (place r)) (w .place) (w .joined)) in
+          omega (arith, ap (λ (x : ℕ). σ (place x)) is, m .chain .placed (w .place) (w .joined .right), w .joined .rises)
       go (no l) =
-          let last : σ (place r) ≡ γ .shape .hi = omega (arith, o .1) in
-          absurd (omega (arith, ap (λ (x : ℕ). σ (next x)) (sym (o .2) ∙ ap (γ .shape .at) last), m .chain .last))
+          let last : σ (place r) ≡ γ .shape .hi = omega (arith, o .0 .to) in
+          absurd (omega (arith, ap (λ (x : ℕ). σ (next x)) (sym (o .1) ∙ ap (γ .shape .at) last), m .chain .last))
 
   -- a step from phase a to phase b, with n items marked after it
   moves-to : (a b hp′ lo′ c′ k′ f′ g′ n′ : ℕ) (ws : List Write) → σ consumerPhase ≡ a → after σ ws consumerPhase ≡ b → after σ ws headPosition ≡ hp′
@@ -137,16 +139,16 @@ module _ (z : Sizes) (σ : Reader) (γ : Ghost) (good : Good z σ γ) where
       u : σ (used h) ≡ 2
       u = head-record-linked z σ γ good h q
 
-      o : (γ .shape .lo ≤ σ (place h)) × (σ (place h) ≤ γ .shape .hi) × (γ .shape .at (σ (place h)) ≡ h)
+      o : ListedIn (γ .shape) (σ (place h)) × (γ .shape .at (σ (place h)) ≡ h)
       o = m .chain .only h u
 
       go : (j : ℕ) → σ (place h) ≡ j → σ (state h 0) ≡ 2
-      go zero x = absurd (omega (arith, o .0, good .model .places .first))
+      go zero x = absurd (omega (arith, o .0 .from, good .model .places .first))
       go (suc j) x =
-          let is : γ .shape .at (suc j) ≡ h = ap (γ .shape .at) (sym x) ∙ o .2 in
+          let is : γ .shape .at (suc j) ≡ h = ap (γ .shape .at) (sym x) ∙ o .1 in
           let below : z .B * j + 0 < hp = omega (arith, e, ap (λ (y : ℕ). z .B * y) x, two) in
           ap (λ (y : ℕ). σ (state y 0)) (sym is)
-          ∙ good .agrees .states j 0 (omega (arith, o .0)) (omega (arith, o .1)) (omega (arith, two))
+          ∙ good .agrees .states j 0 (rw x at (o .0)) (omega (arith, two))
           ∙ ap codeOf (good .model .entries .gone-below (z .B * j + 0) below)
 
   -- Its retirement leaves fewer of those.
@@ -176,8 +178,8 @@ module _ (z : Sizes) (σ : Reader) (γ : Ghost) (good : Good z σ γ) where
 
   ends-empty : Lowers z σ 0 (endsEmpty z σ)
   ends-empty =
-      by-cond (Lowers z σ 0) (eqb limit 0) _ _ (λ b. empty-lowers z σ (clearConsumer ∷ []) refl)
-      (λ b. drained-lowers z σ (itemsMarked σ marked) (clearConsumer ∷ clearDrain ∷ []) refl (let n : limit ≢ 0 = eqb-false limit 0 b in (omega arith, omega (arith, marked-length σ marked, counted))))
+      by-cond (Lowers z σ 0) (eqb limit 0) _ _ (λ b. empty-lowers z σ (allHandled := 0 ∷ clearConsumer ∷ []) refl)
+      (λ b. drained-lowers z σ (itemsMarked σ marked) (allHandled := 0 ∷ clearConsumer ∷ clearDrain ∷ []) refl (let n : limit ≢ 0 = eqb-false limit 0 b in (omega arith, omega (arith, marked-length σ marked, counted))))
 
   -- phase 1 leaves three steps at the least, and those after a move are no more than before
   three : (b : Bool) → 3 ≤ cond b (readSteps z σ) 3
@@ -265,10 +267,49 @@ module _ (z : Sizes) (σ : Reader) (γ : Ghost) (good : Good z σ γ) where
     ranked = rw placed (rank-below r linked)
 
     -- a crossing leads to a greater rank
-    crossed : (n j : ℕ) → σ (next r) ≡ suc n → σ (place n) ≡ suc j → (rank z σ k < rank z σ (suc j)) × (j ≡ k)
-    crossed n j w x =
-        let on : suc j ≡ suc (σ (place r)) = sym x ∙ next-placed r n linked w in
-        (rw placed (rank-grows r (suc j) linked (omega arith)), omega (arith, placed))
+    crossed : (n j : ℕ) → σ (next r) ≡ suc n → σ (place n) ≡ suc j → rank z σ k < rank z σ (suc j)
+    crossed n j w x = rw placed (rank-grows r (suc j) linked (omega (arith, next-placed r n linked w)))
+
+    -- the fold of a record that the scan has read: its rank is that of the next one then, and its first entry was handled
+    module _ (b n j : ℕ) (read : σ allHandled ≡ 1) (end : c ≡ z .B * σ (place r)) (e : σ consumerPhase ≡ 3) (w : σ (next r) ≡ suc n) (x : σ (place n) ≡ suc j) where
+      abbrev ws : List Write
+      ws = folded z σ r b n ++ entered z σ n (z .B * j)
+
+      still-ranked : rank z σ k ≤ rank z (after σ ws) (suc j)
+      still-ranked =
+          rw placed
+          (count-grows (z .N) _ _
+          (λ y h d.
+          let p = both (eqb (σ (used y)) 2) (ltb (σ (place y)) (σ (place r))) d in
+          let less : σ (place y) < σ (place r) = ltb-true (σ (place y)) (σ (place r)) (p .1) in
+          let other : r ≡ y → ⊥ = λ q. let same : σ (place r) ≡ σ (place y) = ap (λ (v : ℕ). σ (place v)) q in omega arith in
+          rw (ne-eqb r y other) (and-true (p .0) (lt-ltb (σ (place y)) (suc j) (omega (arith, next-placed r n linked w))))))
+
+      first-read : σ (state r 0) ≡ 2
+      first-read = go (σ (place r)) refl (m .chain .only r linked)
+        where
+          all : (q : ℕ) → z .B * k ≤ q + z .B → q < c → γ .entry q ≡ gone
+          all = subst (Read (z .B) (γ .entry)) (consumer-at z σ γ good 3 e) (good .read read)
+
+          go : (i : ℕ) → σ (place r) ≡ i → ListedIn (γ .shape) (σ (place r)) × (γ .shape .at (σ (place r)) ≡ r) → σ (state r 0) ≡ 2
+          go zero y o = absurd (omega (arith, o .0 .from, good .model .places .first))
+          go (suc i) y o =
+              let is : γ .shape .at (suc i) ≡ r = ap (γ .shape .at) (sym y) ∙ o .1 in
+              let bound : z .B * σ (place r) ≡ z .B * i + z .B = ap (λ (v : ℕ). z .B * v) y ∙ omega arith in
+              ap (λ (v : ℕ). σ (state v 0)) (sym is)
+              ∙ good .agrees .states i 0 (rw y at (o .0)) (omega (arith, two))
+              ∙ ap codeOf (all (z .B * i + 0) (omega (arith, ap (λ (v : ℕ). z .B * v) placed)) (omega (arith, two)))
+
+      fewer : firstHandled z (after σ ws) < firstHandled z σ
+      fewer = fewer-first-handled r ws linked first-read (λ y. refl) (λ y. refl)
+
+      fold-lowers : Lowers z σ 0 (goes ws)
+      fold-lowers =
+          from-to 3 3 hp lo (z .B * j) (suc j) f g ws e e refl refl refl x refl refl (λ d. refl) (omega arith)
+          (omega (
+            arith,
+            scaled-less (suc (2 * z .B)) (z .N - rank z (after σ ws) (suc j) + firstHandled z (after σ ws)) (z .N - rank z σ k + firstHandled z σ) (omega (arith, still-ranked, fewer)),
+          ))
 
   -- 3.
   scan-lowers : σ consumerPhase ≡ 3 → Lowers z σ 0 (scan z σ)
@@ -280,14 +321,21 @@ module _ (z : Sizes) (σ : Reader) (γ : Ghost) (good : Good z σ γ) where
       (λ b.
       by-cond (Lowers z σ 0) (eqb (σ tailRecord) (suc r)) _ _ (λ d. ends-empty)
       (λ d.
-      each-cross (Lowers z σ 0) (refused-lowers z σ 0) z σ r (λ n x. goes (cursorRecord := suc n ∷ cursorPosition := x ∷ []))
+      each-cross (Lowers z σ 0) (refused-lowers z σ 0) z σ r
+      (λ n x. cond (isRead z σ r) (need (σ (prev r)) λ i. goes (folded z σ r i n ++ entered z σ n x)) (goes (entered z σ n x)))
       (λ n j w x.
-      let on = crossed r q n j w x in
-      from-to 3 3 hp lo (z .B * j) (suc j) f g (cursorRecord := suc n ∷ cursorPosition := z .B * j ∷ []) e e refl refl refl x refl refl (λ d. refl) (omega arith)
+      by-cond (Lowers z σ 0) (isRead z σ r) _ _
+      (λ y.
+      each-need (Lowers z σ 0) (refused-lowers z σ 0) (σ (prev r)) _
+      (λ i v.
+      fold-lowers r q i n j (eqb-true (σ allHandled) 1 (both (eqb (σ allHandled) 1) (not (eqb (σ headRecord) (suc r))) y .0))
+      (eqb-true c (z .B * σ (place r)) b) e w x))
+      (λ y.
+      from-to 3 3 hp lo (z .B * j) (suc j) f g (entered z σ n (z .B * j)) e e refl refl refl x refl refl (λ d. refl) (omega arith)
       (omega (
         arith,
-        scaled-less (suc (2 * z .B)) (z .N - rank z σ (suc j) + firstHandled z σ) (z .N - rank z σ k + firstHandled z σ) (omega (arith, on .0, ranked r q)),
-      )))))
+        scaled-less (suc (2 * z .B)) (z .N - rank z σ (suc j) + firstHandled z σ) (z .N - rank z σ k + firstHandled z σ) (omega (arith, crossed r q n j w x, ranked r q)),
+      ))))))
       (λ b.
       by-cond (Lowers z σ 0) (eqb c (σ tail)) _ _ (λ d. ends-empty)
       (λ d. from-to 3 4 hp lo c k f g (consumerPhase := 4 ∷ []) e refl refl refl refl refl refl refl (λ d. refl) (omega arith) (omega arith))))
@@ -305,13 +353,13 @@ module _ (z : Sizes) (σ : Reader) (γ : Ghost) (good : Good z σ γ) where
       (λ r q.
       each-inside (Lowers z σ 0) (refused-lowers z σ 0) z σ r c
       (λ i. cond (eqb (σ (state r i)) 1)
-      (goes (foundRecord := suc r ∷ foundPosition := c ∷ cursorRecord := σ headRecord ∷ cursorPosition := hp ∷ consumerPhase := 5 ∷ []))
-      (upTo (z .M) (suc c) (goes (cursorPosition := suc c ∷ consumerPhase := 3 ∷ []))))
+      (goes (foundRecord := suc r ∷ foundPosition := c ∷ cursorRecord := σ headRecord ∷ cursorPosition := hp ∷ allHandled := 0 ∷ consumerPhase := 5 ∷ []))
+      (upTo (z .M) (suc c) (goes (cursorPosition := suc c ∷ allHandled := stillHandled z σ r i ∷ consumerPhase := 3 ∷ []))))
       (λ l d.
       let inside-k : c < z .B * k = rw (placed r q) l in
       by-cond (Lowers z σ 0) (eqb (σ (state r (index z σ r c))) 1) _ _
       (λ b.
-      from-to 4 5 hp lo hp lo c k (foundRecord := suc r ∷ foundPosition := c ∷ cursorRecord := σ headRecord ∷ cursorPosition := hp ∷ consumerPhase := 5 ∷ []) e refl refl refl refl refl refl (sym (placed r q)) (λ d. refl) (omega arith)
+      from-to 4 5 hp lo hp lo c k (foundRecord := suc r ∷ foundPosition := c ∷ cursorRecord := σ headRecord ∷ cursorPosition := hp ∷ allHandled := 0 ∷ consumerPhase := 5 ∷ []) e refl refl refl refl refl refl (sym (placed r q)) (λ d. refl) (omega arith)
       (omega (
         arith,
         two,
@@ -321,7 +369,7 @@ module _ (z : Sizes) (σ : Reader) (γ : Ghost) (good : Good z σ γ) where
       (λ b.
       each-up-to (Lowers z σ 0) (refused-lowers z σ 0) (z .M) (suc c) _
       (λ x.
-      from-to 4 3 hp lo (suc c) k f g (cursorPosition := suc c ∷ consumerPhase := 3 ∷ []) e refl refl refl refl refl refl refl (λ d. refl) (omega arith) (omega arith)))))
+      from-to 4 3 hp lo (suc c) k f g (cursorPosition := suc c ∷ allHandled := stillHandled z σ r (index z σ r c) ∷ consumerPhase := 3 ∷ []) e refl refl refl refl refl refl refl (λ d. refl) (omega arith) (omega arith)))))
 
   -- 5. The cursor is before found along the list.
   module _ (e : σ consumerPhase ≡ 5) where
@@ -365,11 +413,10 @@ module _ (z : Sizes) (σ : Reader) (γ : Ghost) (good : Good z σ γ) where
         each-cross (Lowers z σ 0) (refused-lowers z σ 0) z σ r (λ n x. rescanned z σ x f (cursorRecord := suc n ∷ cursorPosition := x ∷ []) [])
         (λ n j w x.
         let end : c ≡ z .B * k = eqb-true c (z .B * σ (place r)) b ∙ ap (λ (y : ℕ). z .B * y) (sym (placed r q)) in
-        let on = crossed r q n j w x in
         settles (z .B * j) f (cursorRecord := suc n ∷ cursorPosition := z .B * j ∷ []) [] less
         (λ d.
         from-to 5 5 hp lo (z .B * j) (suc j) f g (cursorRecord := suc n ∷ cursorPosition := z .B * j ∷ []) e e refl refl refl x refl refl (λ d. refl) (omega arith)
-        (omega (arith, scaled-less (suc (z .B)) (rank z σ k) (rank z σ (suc j)) (on .0))))
+        (omega (arith, scaled-less (suc (z .B)) (rank z σ k) (rank z σ (suc j)) (crossed r q n j w x))))
         refl
         (λ d. refl)))
         (λ b.

@@ -4,7 +4,6 @@ use mathlib.Core.Logic.{inl, inr, ⊎-elim, _≢_}
 use mathlib.Core.Bool.{Bool, true, false, _&&_, cond, and-false}
 use mathlib.Core.List.{List, [], _∷_}
 use Prim.Native.Nat.{ℕ, zero, suc, _+_, _-_, _*_, _≤_, _<_}
-use native.Mathlib.Nat.{mul-suc}
 use native.Mathlib.Decide.{ℕ-discrete}
 use native.Mathlib.Omega.{arith}
 use lib.Dec.{leb, ltb, eqb}
@@ -13,20 +12,20 @@ use borrow.Author.Tests.{eq-eqb, ne-eqb, eqb-true, eqb-false, leb-true, leb-fals
 use Rattle.rules.specs.Sizes.{Sizes}
 use Rattle.rules.specs.Cell.{Reader, Write, _:=_, clearProducer, tail, tailRecord, phase, position, held, claimed, backed, place, next, prev, used, state, entryNumber, entryValue, call, value}
 use Rattle.rules.specs.Update.{after, both, and-true}
-use Rattle.rules.specs.Range.{record-number}
+use Rattle.rules.specs.Range.{link, record-number}
 use Rattle.rules.specs.Rule.{refuse, reply, ended, goes, index}
 use Rattle.rules.specs.Producer.{choose, takePosition, loadTail, lookNext, claim, claimRecord, linked, linkClaimed, shiftTail, goBack, writeEntry, setEntry, claimAhead, linkAhead, producerRules, producerStep}
-use Rattle.model.specs.State.{behind}
 use Rattle.model.specs.Walking.{producer-clause}
-use Rattle.model.specs.Bounds.{behind-past-first}
 use Rattle.model.specs.Count.{take-room}
-use Rattle.memory.specs.Memory.{Holdable, Memory, held-is, claimed-is, rowOf}
+use Rattle.memory.specs.Memory.{Holdable, Memory, held-is, claimed-is, rowOf, tail-listed, tail-joined}
+use Rattle.memory.specs.GoingBack.{goes-back}
 use Rattle.memory.specs.Loose.{Loose, LooseChoice}
 use Rattle.memory.specs.Claiming.{claimWrites}
 use Rattle.simulation.specs.View.{Ghost, placesOf, placeOf, producerAt, view}
 use Rattle.simulation.specs.Good.{Good, by-cond}
 use Rattle.simulation.specs.Limits.{limits}
 use Rattle.simulation.specs.Rows.{has-sort}
+use Rattle.simulation.specs.Awaiting.{behind-awaited}
 use Rattle.simulation.specs.ProducerSteps.{own-words, seen-at}
 use Rattle.simulation.specs.RecordSteps.{place-same}
 use Rattle.progress.specs.Arithmetic.{count-less, count-below, count-below-two, count-some, ahead-less, ahead-next, ahead-within, ahead-some}
@@ -83,12 +82,12 @@ module _ (z : Sizes) (σ : Reader) (γ : Ghost) (good : Good z σ γ) (p : ℕ) 
   m = good .memory
 
   tail-placed : tp ≡ γ .shape .tp
-  tail-placed = ap (placeOf (placesOf σ)) (m .tail-is) ∙ m .chain .placed (γ .shape .tp) (m .head-tail) (m .tail-last)
+  tail-placed = ap (placeOf (placesOf σ)) (m .tail-is) ∙ m .chain .placed (γ .shape .tp) (tail-listed m)
 
   tail-linked : (r : ℕ) → σ tailRecord ≡ suc r → σ (used r) ≡ 2
   tail-linked r q =
       let is : γ .shape .at (γ .shape .tp) ≡ r = omega (arith, m .tail-is) in
-      ap (λ (x : ℕ). σ (used x)) (sym is) ∙ m .chain .linked (γ .shape .tp) (m .head-tail) (m .tail-last)
+      ap (λ (x : ℕ). σ (used x)) (sym is) ∙ m .chain .linked (γ .shape .tp) (tail-listed m)
 
   some-entries : 0 < z .B
   some-entries = omega (arith, limits z (good .sizes) .two-entries)
@@ -277,8 +276,8 @@ module _ (z : Sizes) (σ : Reader) (γ : Ghost) (good : Good z σ γ) (p : ℕ) 
           let same : k ≡ tp = ap (placeOf (placesOf σ)) (q ∙ sym b) in
           let is : h ≡ γ .shape .at (γ .shape .tp) = omega (arith, m .tail-is) in
           let more : γ .shape .tp < γ .shape .hi = omega (arith, clause .0, clause .2, tail-placed) in
-          let next-is : n ≡ γ .shape .at (suc (γ .shape .tp)) = omega (arith, ap (λ (x : ℕ). σ (next x)) is, m .chain .nexts (γ .shape .tp) (m .head-tail) more) in
-          omega (arith, tail-placed, ap (λ (x : ℕ). σ (place x)) next-is, m .chain .placed (suc (γ .shape .tp)) (omega (arith, m .head-tail)) more)
+          let next-is : n ≡ γ .shape .at (suc (γ .shape .tp)) = omega (arith, ap (λ (x : ℕ). σ (next x)) is, m .chain .nexts (γ .shape .tp) (suc (γ .shape .tp)) (tail-joined m more)) in
+          omega (arith, tail-placed, ap (λ (x : ℕ). σ (place x)) next-is, m .chain .placed (suc (γ .shape .tp)) (tail-joined m more .right))
 
       -- the tail record has moved on
       passed : (h : ℕ) → σ (held (suc p)) ≡ suc h → σ tailRecord ≢ suc h → suc k ≤ tp
@@ -287,12 +286,12 @@ module _ (z : Sizes) (σ : Reader) (γ : Ghost) (good : Good z σ γ) (p : ℕ) 
           placed : k ≡ σ (place h)
           placed = ap (placeOf (placesOf σ)) q
 
-          go : Dec (k ≡ tp) → Holdable (γ .shape .lo) σ h → suc k ≤ tp
+          go : Dec (k ≡ tp) → Holdable σ h → suc k ≤ tp
           go (no d) held = omega (arith, clause .0, clause .2, tail-placed)
           go (yes d) (inl u) =
-              let is : γ .shape .at (γ .shape .tp) ≡ h = ap (γ .shape .at) (sym tail-placed ∙ sym d ∙ placed) ∙ m .chain .only h u .2 in
+              let is : γ .shape .at (γ .shape .tp) ≡ h = ap (γ .shape .at) (sym tail-placed ∙ sym d ∙ placed) ∙ m .chain .only h u .1 in
               absurd (n (m .tail-is ∙ ap suc is))
-          go (yes d) (inr u) = omega (arith, placed, u .2, m .head-tail, tail-placed)
+          go (yes d) (inr u) = omega (arith, placed, m .retired h u .before-tail, tail-placed)
 
   -- 7.
   back-lowers : σ (phase (suc p)) ≡ 7 → Lowers z σ (suc p) (goBack z σ (suc p))
@@ -303,7 +302,7 @@ module _ (z : Sizes) (σ : Reader) (γ : Ghost) (good : Good z σ γ) (p : ℕ) 
       each-need (Lowers z σ (suc p)) (refused-lowers z σ (suc p)) (σ (prev h)) _
       (λ r w.
       let before = back h r q w in
-      let placed : σ (place r) + 1 ≡ k = before .0 in
+      let placed : σ (place r) < k = before .0 in
       let fits : r < z .N = before .1 in
       let low : L < z .B * σ (place r) = before .2 in
       let passes : isBetween z σ L k r ≡ true =
@@ -326,37 +325,18 @@ module _ (z : Sizes) (σ : Reader) (γ : Ghost) (good : Good z σ γ) (p : ℕ) 
       fails : (r : ℕ) → isBetween z σ L (σ (place r)) r ≡ false
       fails r = rw (le-ltb (σ (place r)) (σ (place r)) (omega arith), and-false (ltb L (z .B * σ (place r)))) refl
 
-      -- prev of the held record: one place before, with L before it
-      back : (h r : ℕ) → σ (held (suc p)) ≡ suc h → σ (prev h) ≡ suc r → (σ (place r) + 1 ≡ k) × (r < z .N) × (L < z .B * σ (place r))
-      back h r q w = go (σ (place h)) refl
-        where
-          placed : k ≡ σ (place h)
-          placed = ap (placeOf (placesOf σ)) q
-
-          seen : view σ γ .producer (suc p) ≡ behind (σ (call (suc p))) (σ (value (suc p))) L k
-          seen = seen-at z σ γ good (suc p) there 7 e
-
-          past : γ .shape .lo < k
-          past = behind-past-first (z .B) (view σ γ) (good .model) (suc p) _ _ _ _ seen
-
-          far : L + z .B < z .B * k
-          far = producer-clause (z .B) (view σ γ) (good .model) (suc p) _ seen .2
-
-          linked-still : Holdable (γ .shape .lo) σ h → σ (used h) ≡ 2
-          linked-still (inl u) = u
-          linked-still (inr u) = absurd (omega (arith, u .2, past, placed))
-
-          go : (j : ℕ) → σ (place h) ≡ j → (σ (place r) + 1 ≡ k) × (r < z .N) × (L < z .B * σ (place r))
-          go zero x = absurd (omega (arith, past, placed))
-          go (suc j) x =
-              let o = m .chain .only h (linked-still (held-is m (suc p) h q)) in
-              let is : γ .shape .at (suc j) ≡ h = ap (γ .shape .at) (sym x) ∙ o .2 in
-              let low : γ .shape .lo ≤ j = omega (arith, past, placed) in
-              let high : j < γ .shape .hi = omega (arith, o .1) in
-              let same : r ≡ γ .shape .at j = omega (arith, ap (λ (y : ℕ). σ (prev y)) is, m .chain .prevs j low high) in
-              let at-j : σ (place r) ≡ j = ap (λ (y : ℕ). σ (place y)) same ∙ m .chain .placed j low (omega arith) in
-              let product : z .B * k ≡ z .B * σ (place r) + z .B = ap (λ (y : ℕ). z .B * y) (placed ∙ x ∙ ap suc (sym at-j)) ∙ mul-suc (z .B) (σ (place r)) in
-              (omega (arith, placed), omega (arith, same, m .chain .fits j low (omega arith)), omega (arith, far))
+      -- prev of the held record: of a smaller place, with L before its end
+      back : (h r : ℕ) → σ (held (suc p)) ≡ suc h → σ (prev h) ≡ suc r → (σ (place r) < k) × (r < z .N) × (L < z .B * σ (place r))
+      back h r q w =
+          let placed : k ≡ σ (place h) = ap (placeOf (placesOf σ)) q in
+          let a = behind-awaited z σ γ good (suc p) _ _ _ _ (seen-at z σ γ good (suc p) there 7 e) in
+          let b = goes-back m (suc p) h e q (a .1) (rw placed at (a .0)) in
+          let same : b .to ≡ r = omega (arith, b .back) in
+          let fits : h < z .N = omega (arith, own-words z σ γ good (suc p) there 7 e .held) in (
+            omega (arith, placed, rw same at (b .falls)),
+            omega (arith, has-sort z link (σ (prev h)) (good .range .words (prev h) (fits, omega arith))),
+            rw same at (b .past),
+          )
 
   -- 8.
   write-lowers : σ (phase (suc p)) ≡ 8 → Lowers z σ (suc p) (writeEntry z σ (suc p))

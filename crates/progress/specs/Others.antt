@@ -11,7 +11,7 @@ use Rattle.rules.specs.Cell.{Reader, producer, consumer, drain, drainCount, tai
 use Rattle.rules.specs.Update.{both, and-true}
 use Rattle.model.specs.State.{Entry, blank, put, gone}
 use Rattle.model.specs.Walking.{producer-clause}
-use Rattle.memory.specs.Memory.{Linked}
+use Rattle.memory.specs.Memory.{ListedIn, Linked, tail-listed}
 use Rattle.simulation.specs.View.{Ghost, placesOf, placeOf, view, codeOf}
 use Rattle.simulation.specs.Good.{Good, Behind, Moved}
 use Rattle.simulation.specs.Limits.{limits}
@@ -35,32 +35,38 @@ module _ (z : Sizes) (σ σ′ : Reader) (γ γ′ : Ghost) (good : Good z σ γ
     abbrev same : Behind σ σ′ γ γ′
     same = moved .behind a-producer
 
+    -- a listed place stays listed; one up to the old last place was so before
+    stays-listed : (j : ℕ) → ListedIn (γ .shape) j → ListedIn (γ′ .shape) j
+    stays-listed j l = record { from = omega (arith, same .same-first, l .from); to = omega (arith, moved .last-grows, l .to); no-gap = same .same-gaps j ∙ l .no-gap }
+
+    was-listed : (j : ℕ) → ListedIn (γ′ .shape) j → j ≤ γ .shape .hi → ListedIn (γ .shape) j
+    was-listed j l h = record { from = omega (arith, same .same-first, l .from); to = h; no-gap = sym (same .same-gaps j) ∙ l .no-gap }
+
     -- a linked record stays linked in its place
     stays-linked : (r : ℕ) → σ (used r) ≡ 2 → (σ′ (used r) ≡ 2) × (σ′ (place r) ≡ σ (place r))
     stays-linked r u =
         let o = good .memory .chain .only r u in
-        let is : γ′ .shape .at (σ (place r)) ≡ r = same .same-records (σ (place r)) (o .1) ∙ o .2 in
-        let low : γ′ .shape .lo ≤ σ (place r) = omega (arith, same .same-first, o .0) in
-        let high : σ (place r) ≤ γ′ .shape .hi = omega (arith, moved .last-grows, o .1) in (
-          subst (λ (x : ℕ). σ′ (used x) ≡ 2) is (good′ .memory .chain .linked (σ (place r)) low high),
-          subst (λ (x : ℕ). σ′ (place x) ≡ σ (place r)) is (good′ .memory .chain .placed (σ (place r)) low high),
+        let is : γ′ .shape .at (σ (place r)) ≡ r = same .same-records (σ (place r)) (o .0 .to) ∙ o .1 in
+        let l = stays-listed (σ (place r)) (o .0) in (
+          subst (λ (x : ℕ). σ′ (used x) ≡ 2) is (good′ .memory .chain .linked (σ (place r)) l),
+          subst (λ (x : ℕ). σ′ (place x) ≡ σ (place r)) is (good′ .memory .chain .placed (σ (place r)) l),
         )
 
     -- one that is linked up to the old last place was so before
     was-linked : (r : ℕ) → σ′ (used r) ≡ 2 → σ′ (place r) ≤ γ .shape .hi → (σ (used r) ≡ 2) × (σ (place r) ≡ σ′ (place r))
     was-linked r u l =
         let o = good′ .memory .chain .only r u in
-        let is : γ .shape .at (σ′ (place r)) ≡ r = sym (same .same-records (σ′ (place r)) l) ∙ o .2 in
-        let low : γ .shape .lo ≤ σ′ (place r) = omega (arith, same .same-first, o .0) in (
-          subst (λ (x : ℕ). σ (used x) ≡ 2) is (good .memory .chain .linked (σ′ (place r)) low l),
-          subst (λ (x : ℕ). σ (place x) ≡ σ′ (place r)) is (good .memory .chain .placed (σ′ (place r)) low l),
+        let is : γ .shape .at (σ′ (place r)) ≡ r = sym (same .same-records (σ′ (place r)) l) ∙ o .1 in
+        let was = was-listed (σ′ (place r)) (o .0) l in (
+          subst (λ (x : ℕ). σ (used x) ≡ 2) is (good .memory .chain .linked (σ′ (place r)) was),
+          subst (λ (x : ℕ). σ (place x) ≡ σ′ (place r)) is (good .memory .chain .placed (σ′ (place r)) was),
         )
 
     -- one whose first entry is handled was linked, and it was handled before
     was-handled : (r : ℕ) → σ′ (used r) ≡ 2 → σ′ (state r 0) ≡ 2 → (σ (used r) ≡ 2) × (σ (state r 0) ≡ 2)
     was-handled r u h = go (σ′ (place r)) refl
       where
-        o : (γ′ .shape .lo ≤ σ′ (place r)) × (σ′ (place r) ≤ γ′ .shape .hi) × (γ′ .shape .at (σ′ (place r)) ≡ r)
+        o : ListedIn (γ′ .shape) (σ′ (place r)) × (γ′ .shape .at (σ′ (place r)) ≡ r)
         o = good′ .memory .chain .only r u
 
         some : 0 < z .B
@@ -68,10 +74,10 @@ module _ (z : Sizes) (σ σ′ : Reader) (γ γ′ : Ghost) (good : Good z σ γ
 
         before : (j : ℕ) → σ′ (place r) ≡ suc j → γ .entry (z .B * j + 0) ≡ gone → Dec (suc j ≤ γ .shape .hi) → (σ (used r) ≡ 2) × (σ (state r 0) ≡ 2)
         before j e was (yes l) =
-            let is : γ .shape .at (suc j) ≡ r = sym (same .same-records (suc j) l) ∙ ap (γ′ .shape .at) (sym e) ∙ o .2 in
-            let low : γ .shape .lo ≤ suc j = omega (arith, same .same-first, o .0) in (
+            let is : γ .shape .at (suc j) ≡ r = sym (same .same-records (suc j) l) ∙ ap (γ′ .shape .at) (sym e) ∙ o .1 in
+            let listed = was-listed (suc j) (rw e at (o .0)) l in (
               was-linked r u (omega arith) .0,
-              ap (λ (x : ℕ). σ (state x 0)) (sym is) ∙ good .agrees .states j 0 low l some ∙ ap codeOf was,
+              ap (λ (x : ℕ). σ (state x 0)) (sym is) ∙ good .agrees .states j 0 listed some ∙ ap codeOf was,
             )
         before j e was (no n) =
             absurd
@@ -79,17 +85,17 @@ module _ (z : Sizes) (σ σ′ : Reader) (γ γ′ : Ghost) (good : Good z σ γ
             (sym was ∙ good .model .entries .blank-ahead (z .B * j + 0) (omega (arith, scaled (z .B) (γ .shape .tp) j (omega (arith, good .memory .tail-last))))))
 
         go : (k : ℕ) → σ′ (place r) ≡ k → (σ (used r) ≡ 2) × (σ (state r 0) ≡ 2)
-        go zero e = absurd (omega (arith, o .0, good′ .model .places .first))
+        go zero e = absurd (omega (arith, o .0 .from, good′ .model .places .first))
         go (suc j) e =
-            let is : γ′ .shape .at (suc j) ≡ r = ap (γ′ .shape .at) (sym e) ∙ o .2 in
+            let is : γ′ .shape .at (suc j) ≡ r = ap (γ′ .shape .at) (sym e) ∙ o .1 in
             let code : codeOf (γ′ .entry (z .B * j + 0)) ≡ 2 =
-            sym (good′ .agrees .states j 0 (omega (arith, o .0)) (omega (arith, o .1)) some) ∙ ap (λ (x : ℕ). σ′ (state x 0)) is ∙ h in
+            sym (good′ .agrees .states j 0 (rw e at (o .0)) some) ∙ ap (λ (x : ℕ). σ′ (state x 0)) is ∙ h in
             before j e (same .was-gone (z .B * j + 0) (is-gone (γ′ .entry (z .B * j + 0)) code)) (decLe (suc j) (γ .shape .hi))
 
     -- a record number that the consumer has: its place stays, and is not past the last one
     seen-place : (x : ℕ) → Linked σ x → (placeOf (placesOf σ′) x ≡ placeOf (placesOf σ) x) × (placeOf (placesOf σ) x ≤ γ .shape .hi)
     seen-place zero l = (refl, omega arith)
-    seen-place (suc r) l = (stays-linked r l .1, good .memory .chain .only r l .1)
+    seen-place (suc r) l = (stays-linked r l .1, good .memory .chain .only r l .0 .to)
 
     ranks : (k : ℕ) → k ≤ γ .shape .hi → rank z σ′ k ≡ rank z σ k
     ranks k l =
@@ -152,7 +158,7 @@ module _ (z : Sizes) (σ σ′ : Reader) (γ γ′ : Ghost) (good : Good z σ γ
   module _ (u : ℕ) (other : t ≡ u → ⊥) (there : (1 ≤ u) × (u ≤ z .P)) where
     tail-placed : (τ : Reader) (δ : Ghost) → Good z τ δ → placeOf (placesOf τ) (τ tailRecord) ≡ δ .shape .tp
     tail-placed τ δ g =
-        ap (placeOf (placesOf τ)) (g .memory .tail-is) ∙ g .memory .chain .placed (δ .shape .tp) (g .memory .head-tail) (g .memory .tail-last)
+        ap (placeOf (placesOf τ)) (g .memory .tail-is) ∙ g .memory .chain .placed (δ .shape .tp) (tail-listed (g .memory))
 
     load-less : (L h k tp tp′ : ℕ) → tp ≤ tp′ → loadSteps z σ′ L h k tp′ ≤ loadSteps z σ L h k tp
     load-less L h k tp tp′ l = omega (arith, ahead-less (z .B) L tp tp′ (omega (arith, limits z (good .sizes) .two-entries)) l)

@@ -18,7 +18,7 @@ use Rattle.rules.specs.Range.{inRange}
 use Rattle.rules.specs.Free.{nextFree}
 use Rattle.rules.specs.Rule.{Reply, ok, started, going, ended, empty, item, drained, Effect, refuse, reply, need, upTo, within, index, atEnd}
 use Rattle.rules.specs.Producer.{linked, takePosition, loadTail, lookNext, claimRecord, linkClaimed, shiftTail, goBack, writeEntry, setEntry, claimAhead, linkAhead, producerRules, producerStep}
-use Rattle.rules.specs.Consumer.{byState, endsEmpty, repliesItem, goesOn, front, readTail, scan, readEntry, rescan, readItem, drainedAt, marks, keepItem, markHandled, retireHead, consumerRules, consumerStep}
+use Rattle.rules.specs.Consumer.{byState, endsEmpty, repliesItem, goesOn, front, readTail, isRead, scan, readEntry, rescan, readItem, drainedAt, marks, keepItem, markHandled, retireHead, consumerRules, consumerStep}
 use Rattle.rules.specs.Request.{Request, startEnqueue, startDequeue, startDrain, step, startingEnqueue, startingDequeue, startingDrain, phaseStep, countKept, counted, stepping, effect, sizesOf, admitted}
 use Rattle.rules.specs.Update.{countOf, count-is, both, neither}
 use Rattle.rules.specs.Readback.{WriteThere}
@@ -85,6 +85,10 @@ module _ (z : Sizes) (σ : Reader) (range : InRange z σ) (t : ℕ) where
   unfolding isLink
   next-most r h = part-link range r 1 (h, omega arith) refl
 
+  prev-most : (r : ℕ) → r < z .N → σ (prev r) ≤ z .N
+  unfolding isLink
+  prev-most r h = part-link range r 2 (h, omega arith) refl
+
   tail-most : σ tailRecord ≤ z .N
   unfolding isLink
   tail-most = content-link range 7 (omega arith) refl
@@ -135,7 +139,10 @@ module _ (z : Sizes) (σ : Reader) (range : InRange z σ) (t : ℕ) where
   scan-sound =
       needs (σ cursorRecord) _ cursor-most
       λ r l. either (atEnd z σ r (σ cursorPosition)) _ _
-      (either (eqb (σ tailRecord) (suc r)) _ _ empty-sound (needs (σ (next r)) _ (next-most r l) λ n k. places (σ (place n)) _ λ y. up-to (z .M) (z .B * y) _ (omega arith)))
+      (either (eqb (σ tailRecord) (suc r)) _ _ empty-sound
+      (needs (σ (next r)) _ (next-most r l)
+      λ n k. places (σ (place n)) _
+      λ y. up-to (z .M) (z .B * y) _ (either (isRead z σ r) _ _ (needs (σ (prev r)) _ (prev-most r l) λ q j. omega arith) (omega arith))))
       (either (eqb (σ cursorPosition) (σ tail)) _ _ empty-sound (omega arith))
 
   read-entry-sound : S (readEntry z σ)

@@ -1,18 +1,20 @@
 -- Two stores that differ only in which records are used: what is the same in both under a renaming of the records. Renamed
--- writes keep it, where they link or hold only what is the same.
+-- writes keep it, where they link, hold and retire only what is the same.
 use mathlib.Core.Path.{_≡_, refl, ap, sym, _∙_}
 use mathlib.Core.Logic.{_⊎_, ⊎-elim}
 use mathlib.Core.Bool.{Bool, true, false, cond}
 use mathlib.Core.List.{List, [], _∷_}
 use Prim.Native.Nat.{ℕ, zero, suc}
-use Rattle.rules.specs.Cell.{Cell, content, lastClaimed, spare, consumer, producer, part, entry, drain, pair, Reader, Area, contents, ofConsumer, ofProducer, ofRecord, ofDrain, Write, _:=_, clear, place, next, used, held}
+use Rattle.rules.specs.Cell.{Cell, content, lastClaimed, allHandled, spare, consumer, producer, part, entry, drain, pair, Reader, Area, contents, ofScan, spares, ofConsumer, ofProducer, ofRecord, ofDrain, Write, _:=_, clear, place, next, prev, used, phase, held}
 use Rattle.rules.specs.Update.{areaOf, sameArea, same, update, after, same-eq, same-cell, same-area, same-area-eq}
 use Rattle.renaming.specs.Renaming.{Renaming, renamed, isLink, seen, cellTo, areaTo, writeTo, writesTo}
+use Rattle.renaming.specs.Ways.{Reaches}
 
 -- Every cell but a record's and the one that holds the record claimed last: which it is says nothing of what can be reached.
 abbrev pub NoRecord : Cell → Type 0
 NoRecord (content k) = Unit
 NoRecord lastClaimed = ⊥
+NoRecord allHandled = Unit
 NoRecord (spare k) = Unit
 NoRecord (consumer k) = Unit
 NoRecord (producer u k) = Unit
@@ -38,18 +40,33 @@ pub record Body (f : ℕ → ℕ) (σ τ : Reader) (r : ℕ) : Type 0 where
   pub onward : Same f σ τ (next r)
   pub entries : (i k : ℕ) → Same f σ τ (entry r i k)
 
+-- A record has the same place and prev.
+abbrev pub SameBack : (ℕ → ℕ) → Reader → Reader → ℕ → Type 0
+SameBack f σ τ y = Same f σ τ (place y) × Same f σ τ (prev y)
+
+-- The way back from record x is the same: every retired record that it reaches is so.
+abbrev pub WayAlike : (ℕ → ℕ) → Reader → Reader → ℕ → Type 0
+WayAlike f σ τ x = (y : ℕ) → Reaches σ x y → σ (used y) ≡ 3 → SameBack f σ τ y
+
 pub record Alike (f : ℕ → ℕ) (σ τ : Reader) : Type 0 where
   pub words : (c : Cell) → NoRecord c → Same f σ τ c
   pub kinds : (r : ℕ) → kind (τ (used (f r))) ≡ kind (σ (used r))
   pub linked : (r : ℕ) → σ (used r) ≡ 2 → Body f σ τ r
   pub holding : (t r : ℕ) → σ (held t) ≡ suc r → Same f σ τ (place r)
+  -- a producer in phase 7 goes back by the same records
+  pub ways : (t x : ℕ) → σ (phase t) ≡ 7 → σ (held t) ≡ suc x → WayAlike f σ τ x
 
--- What is linked, or held, after some writes was so before, or is the same.
+-- What is linked, held, or on a way back, after some writes was so before, or is the same.
 abbrev pub LinksSame : (ℕ → ℕ) → Reader → Reader → List Write → Type 0
 LinksSame f σ τ ws = (r : ℕ) → after σ ws (used r) ≡ 2 → (σ (used r) ≡ 2) ⊎ Body f σ τ r
 
 abbrev pub HoldsSame : (ℕ → ℕ) → Reader → Reader → List Write → Type 0
 HoldsSame f σ τ ws = (t r : ℕ) → after σ ws (held t) ≡ suc r → (σ (held t) ≡ suc r) ⊎ Same f σ τ (place r)
+
+abbrev pub WaysSame : (ℕ → ℕ) → Reader → Reader → List Write → Type 0
+WaysSame f σ τ ws =
+    (t x : ℕ) → after σ ws (phase t) ≡ 7 → after σ ws (held t) ≡ suc x
+    → (y : ℕ) → Reaches (after σ ws) x y → after σ ws (used y) ≡ 3 → SameBack f σ τ y
 
 -- A store is like itself.
 pub alike-itself : (σ : Reader) → Alike (λ r. r) σ σ
@@ -59,6 +76,7 @@ alike-itself σ =
       kinds = λ r. refl;
       linked = λ r u. record { placed = refl; onward = sym (same-link (σ (next r))); entries = λ i k. refl };
       holding = λ t r e. refl;
+      ways = λ t x e q y r u. (refl, sym (same-link (σ (prev y))));
     }
   where
     same-link : (x : ℕ) → renamed (λ r. r) x ≡ x
@@ -72,6 +90,7 @@ alike-itself σ =
     same-word : (c : Cell) → NoRecord c → Same (λ r. r) σ σ c
     same-word (content k) n = same-seen (isLink (content k)) (σ (content k))
     same-word lastClaimed n = absurd n
+    same-word allHandled n = refl
     same-word (spare k) n = same-seen (isLink (spare k)) (σ (spare k))
     same-word (consumer k) n = same-seen (isLink (consumer k)) (σ (consumer k))
     same-word (producer t k) n = same-seen (isLink (producer t k)) (σ (producer t k))
@@ -88,6 +107,7 @@ module _ {N : ℕ} (ρ : Renaming N) where
   cell-back : (c : Cell) → cellTo (ρ .from) (cellTo f c) ≡ c
   cell-back (content k) = refl
   cell-back lastClaimed = refl
+  cell-back allHandled = refl
   cell-back (spare k) = refl
   cell-back (consumer k) = refl
   cell-back (producer t k) = refl
@@ -98,6 +118,8 @@ module _ {N : ℕ} (ρ : Renaming N) where
 
   area-back : (a : Area) → areaTo (ρ .from) (areaTo f a) ≡ a
   area-back contents = refl
+  area-back ofScan = refl
+  area-back spares = refl
   area-back ofConsumer = refl
   area-back (ofProducer t) = refl
   area-back (ofRecord r) = ap ofRecord (ρ .from-to r)
@@ -106,6 +128,7 @@ module _ {N : ℕ} (ρ : Renaming N) where
   area-to : (d : Cell) → areaOf (cellTo f d) ≡ areaTo f (areaOf d)
   area-to (content k) = refl
   area-to lastClaimed = refl
+  area-to allHandled = refl
   area-to (spare k) = refl
   area-to (consumer k) = refl
   area-to (producer t k) = refl
@@ -185,15 +208,19 @@ module _ {N : ℕ} (ρ : Renaming N) where
       go true l q = ap kind (q ∙ sym l)
       go false l q = ap kind q ∙ e ∙ ap kind (sym l)
 
-  -- Renamed writes, where what is linked or held afterwards was so before or is the same.
-  pub alike-after : (σ τ : Reader) → Alike f σ τ → (ws : List Write) → LinksSame f σ τ ws → HoldsSame f σ τ ws
+  -- Renamed writes, where what is linked, held or on a way back afterwards was so before or is the same.
+  pub alike-after : (σ τ : Reader) → Alike f σ τ → (ws : List Write) → LinksSame f σ τ ws → HoldsSame f σ τ ws → WaysSame f σ τ ws
       → Alike f (after σ ws) (after τ (writesTo f ws))
-  alike-after σ τ a ws links holds =
+  alike-after σ τ a ws links holds ways =
       record {
         words = λ c n. same-after σ τ ws c (a .words c n);
         kinds = λ r. kind-after σ τ ws r (a .kinds r);
         linked = λ r u. ⊎-elim (λ l. body r (a .linked r l)) (body r) (links r u);
         holding = λ t r e. same-after σ τ ws (place r) (⊎-elim (a .holding t r) (λ s. s) (holds t r e));
+        ways =
+            λ t x e q y r u.
+            let b = ways t x e q y r u in
+            (same-after σ τ ws (place y) (b .0), same-after σ τ ws (prev y) (b .1));
       }
     where
       body : (r : ℕ) → Body f σ τ r → Body f (after σ ws) (after τ (writesTo f ws)) r

@@ -1,22 +1,28 @@
 -- The consumer's step on two stores alike, phases 1 to 8: answers alike. From what the stores share of linked records, the only
 -- ones that the consumer comes to.
-use mathlib.Core.Path.{_≡_, refl, ap}
-use mathlib.Core.Bool.{_||_, cond}
+use mathlib.Core.Path.{_≡_, refl, ap, sym, _∙_}
+use mathlib.Core.Bool.{_||_, not, cond}
 use mathlib.Core.List.{List, [], _∷_, _++_}
-use Prim.Native.Nat.{ℕ, zero, suc}
-use native.Mathlib.Omega.{arith}
+use Prim.Native.Nat.{ℕ, zero, suc, _*_}
 use lib.Dec.{leb, eqb}
+use borrow.Author.Tests.{eq-eqb, eqb-true}
 use Rattle.history.specs.Linearization.{Item}
 use Rattle.rules.specs.Sizes.{Sizes}
-use Rattle.rules.specs.Cell.{Reader, Write, _:=_, clearConsumer, clearDrain, scanned, drainLimit, drainCount, pairNumber, pairValue, held, tail, tailRecord, headRecord, headPosition, consumerPhase, cursorRecord, cursorPosition, foundRecord, foundPosition, itemNumber, itemValue, place, used, state, entryNumber, entryValue}
-use Rattle.rules.specs.Update.{after}
+use Rattle.rules.specs.Cell.{Reader, Write, _:=_, clearConsumer, clearDrain, scanned, drainLimit, drainCount, pairNumber, pairValue, tail, tailRecord, headRecord, headPosition, allHandled, consumerPhase, cursorRecord, cursorPosition, foundRecord, foundPosition, itemNumber, itemValue, place, prev, used, state, entryNumber, entryValue}
+use Rattle.rules.specs.Update.{both, true-false, not-true}
 use Rattle.rules.specs.Rule.{Effect, going, empty, item, drained, reply, goes, atEnd, cross, need, upTo}
-use Rattle.rules.specs.Consumer.{itemsMarked, byCall, moveHead, byState, endsEmpty, repliesItem, goesOn, front, readTail, scan, readEntry, throughScan, rescanned, rescan, readItem, drainedAt, marks, keepItem, markHandled, retireHead}
+use Rattle.rules.specs.Consumer.{itemsMarked, byCall, moveHead, byState, endsEmpty, repliesItem, goesOn, front, readTail, entered, folded, isRead, scanCrosses, scan, stillHandled, readEntry, throughScan, rescanned, rescan, readItem, drainedAt, marks, keepItem, markHandled, retireHead}
+use Rattle.model.specs.State.{retiring}
+use Rattle.model.specs.Dequeues.{consumer-clause}
 use Rattle.memory.specs.Memory.{Memory}
-use Rattle.renaming.specs.Renaming.{renamed, writesTo}
+use Rattle.memory.specs.RetireHead.{retireWrites}
+use Rattle.simulation.specs.View.{view}
+use Rattle.simulation.specs.ConsumerSteps.{consumer-at, head-record-placed}
+use Rattle.renaming.specs.Renaming.{renamed}
 use Rattle.renaming.specs.Alike.{Alike}
-use Rattle.renaming.specs.AlikeEffects.{Like, not-relinked, by-refusal, by-cond, by-up-to, by-inside, by-need, by-cross, by-plain}
-use Rattle.renaming.specs.AlikeRecords.{Twins, head-linked, cursor-linked, found-linked, next-linked, tail-test}
+use Rattle.renaming.specs.AlikeEffects.{Like, by-refusal, by-cond, by-up-to, by-inside, by-need, by-cross, by-plain}
+use Rattle.renaming.specs.AlikeRecords.{Twins, head-linked, cursor-linked, found-linked, next-linked, tail-test, head-test}
+use Rattle.renaming.specs.AlikeRetires.{head-retires, folds}
 
 module _ {z : Sizes} {σ τ : Reader} (pair : Twins z σ τ) where
   abbrev f : ℕ → ℕ
@@ -52,13 +58,6 @@ module _ {z : Sizes} {σ τ : Reader} (pair : Twins z σ τ) where
   by-call : {x y x′ y′ : Effect} → Like z σ τ x x′ → Like z σ τ y y′ → Like z σ τ (byCall z σ x y) (byCall z τ x′ y′)
   by-call of-dequeue of-drain = by-cond (eqb (σ drainLimit) 0) (eqb (τ drainLimit) 0) (rw limit-same refl) (λ b. of-dequeue) (λ b. of-drain)
 
-  -- the same items are handed over
-  hands : (xs ys : List Item) → ys ≡ xs → (ws vs : List Write) → vs ≡ writesTo f ws
-      → ((s : ℕ) → after σ ws (used s) ≡ 2 → σ (used s) ≡ 2)
-      → ((t s : ℕ) → after σ ws (held t) ≡ suc s → σ (held t) ≡ suc s)
-      → Like z σ τ (reply (drained xs) ws) (reply (drained ys) vs)
-  hands xs ys same ws vs e links holds = rw same (by-plain (pair .stores) (drained xs) ws vs e links holds)
-
   abbrev cleared : List Write
   cleared = clearConsumer ∷ clearDrain ∷ []
 
@@ -67,8 +66,8 @@ module _ {z : Sizes} {σ τ : Reader} (pair : Twins z σ τ) where
 
   ends-empty : Like z σ τ (endsEmpty z σ) (endsEmpty z τ)
   ends-empty =
-      by-call (by-plain (pair .stores) empty (clearConsumer ∷ []) _ refl (λ s u. u) (λ t s e. e))
-      (hands _ _ all-same cleared cleared refl (λ s u. u) (λ t s e. e))
+      by-call (by-plain (pair .stores) empty (allHandled := 0 ∷ clearConsumer ∷ []) _ refl refl)
+      (rw all-same (by-plain (pair .stores) (drained (itemsMarked σ (σ drainCount))) (allHandled := 0 ∷ cleared) _ refl refl))
 
   tail-same : τ tail ≡ σ tail
   tail-same = a .words tail tt
@@ -111,41 +110,36 @@ module _ {z : Sizes} {σ τ : Reader} (pair : Twins z σ τ) where
   at-found : (k k′ : ℕ → Effect) → ((r : ℕ) → σ (used r) ≡ 2 → Like z σ τ (k r) (k′ (f r))) → Like z σ τ (need (σ foundRecord) k) (need (τ foundRecord) k′)
   at-found k k′ each = by-need (pair .stores) (σ foundRecord) (τ foundRecord) k k′ (a .words foundRecord tt) (λ r q. each r (found-linked m r q))
 
-  at-head : (k k′ : ℕ → Effect) → ((h : ℕ) → σ (used h) ≡ 2 → Like z σ τ (k h) (k′ (f h))) → Like z σ τ (need (σ headRecord) k) (need (τ headRecord) k′)
-  at-head k k′ each = by-need (pair .stores) (σ headRecord) (τ headRecord) k k′ head-same (λ h q. each h (head-linked m h q))
+  at-head : (k k′ : ℕ → Effect) → ((h : ℕ) → σ headRecord ≡ suc h → σ (used h) ≡ 2 → Like z σ τ (k h) (k′ (f h))) → Like z σ τ (need (σ headRecord) k) (need (τ headRecord) k′)
+  at-head k k′ each = by-need (pair .stores) (σ headRecord) (τ headRecord) k k′ head-same (λ h q. each h q (head-linked m h q))
 
   -- the move past the end of the head record
-  abbrev moved : (h n p : ℕ) → List Write
-  moved h n p = headRecord := suc n ∷ headPosition := p ∷ used h := 3 ∷ []
-
-  moves : (h : ℕ) → σ (used h) ≡ 2 → (k k′ : List Write → Effect) → ((n p : ℕ) → Like z σ τ (k (moved h n p)) (k′ (moved (f h) (f n) p)))
+  moves : (h : ℕ) → σ (used h) ≡ 2 → (k k′ : List Write → Effect) → ((n p : ℕ) → Like z σ τ (k (retireWrites h n p)) (k′ (retireWrites (f h) (f n) p)))
       → Like z σ τ (moveHead z σ h k) (moveHead z τ (f h) k′)
-  moves h u k k′ each = crosses h (λ n p. k (moved h n p)) (λ n p. k′ (moved (f h) n p)) u (λ n p l. each n p)
+  moves h u k k′ each = crosses h (λ n p. k (retireWrites h n p)) (λ n p. k′ (retireWrites (f h) n p)) u (λ n p l. each n p)
 
   -- 1. Front.
   pub front-alike : Like z σ τ (front z σ) (front z τ)
   unfolding front
   front-alike =
       at-head _ _
-      (λ h u.
+      (λ h q u.
       by-cond (atEnd z σ h (σ headPosition)) (atEnd z τ (f h) (τ headPosition)) (end-same h u _ _ position-same)
       (λ b.
       by-cond (eqb (σ tailRecord) (suc h)) (eqb (τ tailRecord) (suc (f h))) (tail-test pair h)
       (λ c. ends-empty)
-      (λ c.
-      moves h u goes goes
-      (λ n p. by-plain (pair .stores) going (moved h n p) _ refl (λ s w. not-relinked (eqb h s) 3 (σ (used s)) (λ x. omega arith) w) (λ t s e. e))))
+      (λ c. moves h u goes goes (λ n p. head-retires pair going h n p [] refl refl (eqb-true (σ headPosition) (z .B * σ (place h)) b))))
       (λ b.
       by-inside h (f h) (σ headPosition) (τ headPosition) (place-same h u) position-same
       (λ i.
       by-state (σ (state h i)) (τ (state (f h) i)) (state-same h u i)
       (by-cond (eqb (σ drainCount) 0) (eqb (τ drainCount) 0) (rw count-same refl)
-      (λ c. by-plain (pair .stores) going (consumerPhase := 2 ∷ []) _ refl (λ s w. w) (λ t s e. e))
+      (λ c. by-plain (pair .stores) going (consumerPhase := 2 ∷ []) _ refl refl)
       (λ c. ends-empty))
       (by-plain (pair .stores) going (foundRecord := suc h ∷ foundPosition := σ headPosition ∷ consumerPhase := 6 ∷ [])
-      (foundRecord := suc (f h) ∷ foundPosition := τ headPosition ∷ consumerPhase := 6 ∷ []) (rw position-same refl) (λ s w. w) (λ t s e. e))
+      (foundRecord := suc (f h) ∷ foundPosition := τ headPosition ∷ consumerPhase := 6 ∷ []) (rw position-same refl) refl)
       (by-up-to (z .M) (suc (σ headPosition)) (suc (τ headPosition)) (ap suc position-same)
-      (by-plain (pair .stores) going (headPosition := suc (σ headPosition) ∷ []) (headPosition := suc (τ headPosition) ∷ []) (rw position-same refl) (λ s w. w) (λ t s e. e))))))
+      (by-plain (pair .stores) going (headPosition := suc (σ headPosition) ∷ []) (headPosition := suc (τ headPosition) ∷ []) (rw position-same refl) refl)))))
 
   -- 2. Read tail.
   pub read-tail-alike : Like z σ τ (readTail z σ) (readTail z τ)
@@ -156,7 +150,24 @@ module _ {z : Sizes} {σ τ : Reader} (pair : Twins z σ τ) where
       (λ b.
       by-up-to (z .M) (suc (σ headPosition)) (suc (τ headPosition)) (ap suc position-same)
       (by-plain (pair .stores) going (cursorRecord := σ headRecord ∷ cursorPosition := suc (σ headPosition) ∷ consumerPhase := 3 ∷ [])
-      (cursorRecord := τ headRecord ∷ cursorPosition := suc (τ headPosition) ∷ consumerPhase := 3 ∷ []) (rw (head-same, position-same) refl) (λ s w. w) (λ t s e. e)))
+      (cursorRecord := τ headRecord ∷ cursorPosition := suc (τ headPosition) ∷ consumerPhase := 3 ∷ []) (rw (head-same, position-same) refl) refl))
+
+  -- the crossing of the scan, and the fold
+  handled-same : τ allHandled ≡ σ allHandled
+  handled-same = a .words allHandled tt
+
+  scan-crosses : (r : ℕ) → σ (used r) ≡ 2 → Like z σ τ (scanCrosses z σ r) (scanCrosses z τ (f r))
+  scan-crosses r u =
+      crosses r
+      (λ n p. cond (isRead z σ r) (need (σ (prev r)) λ q. goes (folded z σ r q n ++ entered z σ n p)) (goes (entered z σ n p)))
+      (λ n p. cond (isRead z τ (f r)) (need (τ (prev (f r))) λ q. goes (folded z τ (f r) q n ++ entered z τ n p)) (goes (entered z τ n p)))
+      u
+      (λ n p l.
+      by-cond (isRead z σ r) (isRead z τ (f r)) (rw (handled-same, head-test pair r) refl)
+      (λ b.
+      let w = both (eqb (σ allHandled) 1) (not (eqb (σ headRecord) (suc r))) b in
+      folds pair r n p u l (λ x. true-false (eq-eqb (σ headRecord) (suc r) x) (not-true (eqb (σ headRecord) (suc r)) (w .1))))
+      (λ b. by-plain (pair .stores) going (entered z σ n p) _ refl refl))
 
   -- 3. Scan.
   pub scan-alike : Like z σ τ (scan z σ) (scan z τ)
@@ -166,13 +177,11 @@ module _ {z : Sizes} {σ τ : Reader} (pair : Twins z σ τ) where
       (λ r u.
       by-cond (eqb (σ tailRecord) (suc r)) (eqb (τ tailRecord) (suc (f r))) (tail-test pair r)
       (λ c. ends-empty)
-      (λ c.
-      crosses r (λ n p. goes (cursorRecord := suc n ∷ cursorPosition := p ∷ [])) (λ n p. goes (cursorRecord := suc n ∷ cursorPosition := p ∷ [])) u
-      (λ n p l. by-plain (pair .stores) going (cursorRecord := suc n ∷ cursorPosition := p ∷ []) _ refl (λ s w. w) (λ t s e. e))))
+      (λ c. scan-crosses r u))
       (λ r u.
       by-cond (eqb (σ cursorPosition) (σ tail)) (eqb (τ cursorPosition) (τ tail)) (rw (cursor-same, tail-same) refl)
       (λ c. ends-empty)
-      (λ c. by-plain (pair .stores) going (consumerPhase := 4 ∷ []) _ refl (λ s w. w) (λ t s e. e)))
+      (λ c. by-plain (pair .stores) going (consumerPhase := 4 ∷ []) _ refl refl))
 
   -- 4. Read the entry.
   pub read-entry-alike : Like z σ τ (readEntry z σ) (readEntry z τ)
@@ -185,13 +194,14 @@ module _ {z : Sizes} {σ τ : Reader} (pair : Twins z σ τ) where
       by-cond (eqb (σ (state r i)) 1) (eqb (τ (state (f r) i)) 1) (rw (state-same r u i) refl)
       (λ b.
       by-plain (pair .stores) going
-      (foundRecord := suc r ∷ foundPosition := σ cursorPosition ∷ cursorRecord := σ headRecord ∷ cursorPosition := σ headPosition ∷ consumerPhase := 5 ∷ [])
-      (foundRecord := suc (f r) ∷ foundPosition := τ cursorPosition ∷ cursorRecord := τ headRecord ∷ cursorPosition := τ headPosition ∷ consumerPhase := 5 ∷ [])
-      (rw (cursor-same, head-same, position-same) refl) (λ s w. w) (λ t s e. e))
+      (foundRecord := suc r ∷ foundPosition := σ cursorPosition ∷ cursorRecord := σ headRecord ∷ cursorPosition := σ headPosition ∷ allHandled := 0 ∷ consumerPhase := 5 ∷ [])
+      (foundRecord := suc (f r) ∷ foundPosition := τ cursorPosition ∷ cursorRecord := τ headRecord ∷ cursorPosition := τ headPosition ∷ allHandled := 0 ∷ consumerPhase := 5 ∷ [])
+      (rw (cursor-same, head-same, position-same) refl) refl)
       (λ b.
       by-up-to (z .M) (suc (σ cursorPosition)) (suc (τ cursorPosition)) (ap suc cursor-same)
-      (by-plain (pair .stores) going (cursorPosition := suc (σ cursorPosition) ∷ consumerPhase := 3 ∷ []) (cursorPosition := suc (τ cursorPosition) ∷ consumerPhase := 3 ∷ [])
-      (rw cursor-same refl) (λ s w. w) (λ t s e. e)))))
+      (by-plain (pair .stores) going (cursorPosition := suc (σ cursorPosition) ∷ allHandled := stillHandled z σ r i ∷ consumerPhase := 3 ∷ [])
+      (cursorPosition := suc (τ cursorPosition) ∷ allHandled := stillHandled z τ (f r) i ∷ consumerPhase := 3 ∷ [])
+      (rw (cursor-same, state-same r u i, handled-same) refl) refl))))
 
   -- 5. Rescan. Found is the cursor's entry; the cursor returns to the head; the step goes to 6.
   abbrev refound : Reader → ℕ → List Write → List Write
@@ -216,22 +226,22 @@ module _ {z : Sizes} {σ τ : Reader} (pair : Twins z σ τ) where
       (λ n p. rescanned z τ p (τ foundPosition) (cursorRecord := suc n ∷ cursorPosition := p ∷ []) []) u
       (λ n p l.
       by-cond (eqb p (σ foundPosition)) (eqb p (τ foundPosition)) (rw found-same refl)
-      (λ c. by-plain (pair .stores) going (toItem σ) (toItem τ) (rw flag-same refl) (λ s w. w) (λ t s e. e))
-      (λ c. by-plain (pair .stores) going (cursorRecord := suc n ∷ cursorPosition := p ∷ []) _ refl (λ s w. w) (λ t s e. e))))
+      (λ c. by-plain (pair .stores) going (toItem σ) (toItem τ) (rw flag-same refl) refl)
+      (λ c. by-plain (pair .stores) going (cursorRecord := suc n ∷ cursorPosition := p ∷ []) _ refl refl)))
       (λ r u.
       by-inside r (f r) (σ cursorPosition) (τ cursorPosition) (place-same r u) cursor-same
       (λ i.
       by-cond (eqb (σ (state r i)) 1) (eqb (τ (state (f r) i)) 1) (rw (state-same r u i) refl)
       (λ c.
       by-cond (eqb (σ headPosition) (σ cursorPosition)) (eqb (τ headPosition) (τ cursorPosition)) (rw (position-same, cursor-same) refl)
-      (λ d. by-plain (pair .stores) going (refound σ r (toItem σ)) (refound τ (f r) (toItem τ)) (rw (cursor-same, flag-same) refl) (λ s w. w) (λ t s e. e))
-      (λ d. by-plain (pair .stores) going (refound σ r (toHead σ)) (refound τ (f r) (toHead τ)) (rw (cursor-same, head-same, position-same) refl) (λ s w. w) (λ t s e. e)))
+      (λ d. by-plain (pair .stores) going (refound σ r (toItem σ)) (refound τ (f r) (toItem τ)) (rw (cursor-same, flag-same) refl) refl)
+      (λ d. by-plain (pair .stores) going (refound σ r (toHead σ)) (refound τ (f r) (toHead τ)) (rw (cursor-same, head-same, position-same) refl) refl))
       (λ c.
       by-up-to (z .M) (suc (σ cursorPosition)) (suc (τ cursorPosition)) (ap suc cursor-same)
       (by-cond (eqb (suc (σ cursorPosition)) (σ foundPosition)) (eqb (suc (τ cursorPosition)) (τ foundPosition)) (rw (cursor-same, found-same) refl)
-      (λ d. by-plain (pair .stores) going (toItem σ) (toItem τ) (rw flag-same refl) (λ s w. w) (λ t s e. e))
+      (λ d. by-plain (pair .stores) going (toItem σ) (toItem τ) (rw flag-same refl) refl)
       (λ d.
-      by-plain (pair .stores) going (cursorPosition := suc (σ cursorPosition) ∷ []) (cursorPosition := suc (τ cursorPosition) ∷ []) (rw cursor-same refl) (λ s w. w) (λ t s e. e))))))
+      by-plain (pair .stores) going (cursorPosition := suc (σ cursorPosition) ∷ []) (cursorPosition := suc (τ cursorPosition) ∷ []) (rw cursor-same refl) refl)))))
 
   -- 6. Read call number and value.
   pub read-item-alike : Like z σ τ (readItem z σ) (readItem z τ)
@@ -244,7 +254,7 @@ module _ {z : Sizes} {σ τ : Reader} (pair : Twins z σ τ) where
       let number : τ (entryNumber (f r) i) ≡ σ (entryNumber r i) = a .linked r u .entries i 1 in
       let what : τ (entryValue (f r) i) ≡ σ (entryValue r i) = a .linked r u .entries i 2 in
       by-plain (pair .stores) going (itemNumber := σ (entryNumber r i) ∷ itemValue := σ (entryValue r i) ∷ consumerPhase := 7 ∷ [])
-      (itemNumber := τ (entryNumber (f r) i) ∷ itemValue := τ (entryValue (f r) i) ∷ consumerPhase := 7 ∷ []) (rw (number, what) refl) (λ s w. w) (λ t s e. e)))
+      (itemNumber := τ (entryNumber (f r) i) ∷ itemValue := τ (entryValue (f r) i) ∷ consumerPhase := 7 ∷ []) (rw (number, what) refl) refl))
 
   number-same : τ itemNumber ≡ σ itemNumber
   number-same = a .words itemNumber tt
@@ -253,11 +263,9 @@ module _ {z : Sizes} {σ τ : Reader} (pair : Twins z σ τ) where
   value-same = a .words itemValue tt
 
   -- where the item is replied
-  gives : (ws vs : List Write) → vs ≡ writesTo f ws
-      → ((s : ℕ) → after σ ws (used s) ≡ 2 → σ (used s) ≡ 2)
-      → ((t s : ℕ) → after σ ws (held t) ≡ suc s → σ (held t) ≡ suc s)
+  gives : (ws vs : List Write) → Like z σ τ (reply (item (σ itemNumber) (σ itemValue)) ws) (reply (item (σ itemNumber) (σ itemValue)) vs)
       → Like z σ τ (reply (item (σ itemNumber) (σ itemValue)) ws) (reply (item (τ itemNumber) (τ itemValue)) vs)
-  gives ws vs e links holds = rw (number-same, value-same) (by-plain (pair .stores) (item (σ itemNumber) (σ itemValue)) ws vs e links holds)
+  gives ws vs same = rw (number-same, value-same) same
 
   -- where a drain goes on, or ends
   goes-on : (n n′ : ℕ) (xs ys : List Item) (ws vs : List Write) → n′ ≡ n → ys ≡ xs
@@ -283,7 +291,7 @@ module _ {z : Sizes} {σ τ : Reader} (pair : Twins z σ τ) where
       (λ b.
       by-up-to (z .M) (suc (σ headPosition)) (suc (τ headPosition)) (ap suc position-same)
       (at-head _ _
-      (λ h l.
+      (λ h q l.
       by-cond (drainedAt z σ h (suc (σ headPosition))) (drainedAt z τ (f h) (suc (τ headPosition)))
       (rw (end-same h l (suc (σ headPosition)) (suc (τ headPosition)) (ap suc position-same), tail-test pair h) refl)
       (λ c. to-8)
@@ -308,13 +316,13 @@ module _ {z : Sizes} {σ τ : Reader} (pair : Twins z σ τ) where
       (λ b.
       marks-alike r i (keepItem z σ) (keepItem z τ) (goesOn z σ (suc (σ drainCount)) (now σ)) (goesOn z τ (suc (τ drainCount)) (now τ))
       (goes-on _ _ _ _ (state r i := 2 ∷ keepItem z σ) (state (f r) i := 2 ∷ keepItem z τ) (ap suc count-same) now-same
-      (by-plain (pair .stores) (drained (now σ)) ((state r i := 2 ∷ keepItem z σ) ++ cleared) ((state (f r) i := 2 ∷ keepItem z τ) ++ cleared) (rw (count-same, number-same, value-same) refl) (λ s w. w) (λ t s e. e))
-      (by-plain (pair .stores) going ((state r i := 2 ∷ keepItem z σ) ++ back) ((state (f r) i := 2 ∷ keepItem z τ) ++ back) (rw (count-same, number-same, value-same) refl) (λ s w. w) (λ t s e. e)))
+      (by-plain (pair .stores) (drained (now σ)) ((state r i := 2 ∷ keepItem z σ) ++ cleared) ((state (f r) i := 2 ∷ keepItem z τ) ++ cleared) (rw (count-same, number-same, value-same) refl) refl)
+      (by-plain (pair .stores) going ((state r i := 2 ∷ keepItem z σ) ++ back) ((state (f r) i := 2 ∷ keepItem z τ) ++ back) (rw (count-same, number-same, value-same) refl) refl))
       (goes-on _ _ _ _ (onward σ r i) (onward τ (f r) i) (ap suc count-same) now-same
-      (by-plain (pair .stores) (drained (now σ)) (onward σ r i ++ cleared) (onward τ (f r) i ++ cleared) (rw (count-same, number-same, value-same, position-same) refl) (λ s w. w) (λ t s e. e))
-      (by-plain (pair .stores) going (onward σ r i ++ back) (onward τ (f r) i ++ back) (rw (count-same, number-same, value-same, position-same) refl) (λ s w. w) (λ t s e. e)))
+      (by-plain (pair .stores) (drained (now σ)) (onward σ r i ++ cleared) (onward τ (f r) i ++ cleared) (rw (count-same, number-same, value-same, position-same) refl) refl)
+      (by-plain (pair .stores) going (onward σ r i ++ back) (onward τ (f r) i ++ back) (rw (count-same, number-same, value-same, position-same) refl) refl))
       (by-plain (pair .stores) going (state r i := 2 ∷ headPosition := suc (σ headPosition) ∷ toRetire (keepItem z σ))
-      (state (f r) i := 2 ∷ headPosition := suc (τ headPosition) ∷ toRetire (keepItem z τ)) (rw (count-same, number-same, value-same, position-same) refl) (λ s w. w) (λ t s e. e)))
+      (state (f r) i := 2 ∷ headPosition := suc (τ headPosition) ∷ toRetire (keepItem z τ)) (rw (count-same, number-same, value-same, position-same) refl) refl))
       (λ b. by-refusal 9)
 
   pub mark-handled-alike : Like z σ τ (markHandled z σ) (markHandled z τ)
@@ -326,23 +334,25 @@ module _ {z : Sizes} {σ τ : Reader} (pair : Twins z σ τ) where
       (λ i.
       by-call
       (marks-alike r i [] [] (repliesItem z σ) (repliesItem z τ)
-      (gives (state r i := 2 ∷ clearConsumer ∷ []) (state (f r) i := 2 ∷ clearConsumer ∷ []) refl (λ s w. w) (λ t s e. e))
-      (gives (state r i := 2 ∷ headPosition := suc (σ headPosition) ∷ clearConsumer ∷ []) (state (f r) i := 2 ∷ headPosition := suc (τ headPosition) ∷ clearConsumer ∷ []) (rw position-same refl) (λ s w. w) (λ t s e. e))
-      (by-plain (pair .stores) going (state r i := 2 ∷ headPosition := suc (σ headPosition) ∷ toRetire []) (state (f r) i := 2 ∷ headPosition := suc (τ headPosition) ∷ toRetire []) (rw position-same refl) (λ s w. w) (λ t s e. e)))
+      (gives _ _ (by-plain (pair .stores) _ (state r i := 2 ∷ clearConsumer ∷ []) _ refl refl))
+      (gives _ _ (by-plain (pair .stores) _ (state r i := 2 ∷ headPosition := suc (σ headPosition) ∷ clearConsumer ∷ []) _ (rw position-same refl) refl))
+      (by-plain (pair .stores) going (state r i := 2 ∷ headPosition := suc (σ headPosition) ∷ toRetire []) (state (f r) i := 2 ∷ headPosition := suc (τ headPosition) ∷ toRetire []) (rw position-same refl) refl))
       (drain-marks r i)))
 
   -- 8. The move past the end of the head record. Reply item, or as a drain goes on.
-  pub retire-head-alike : Like z σ τ (retireHead z σ) (retireHead z τ)
+  pub retire-head-alike : σ consumerPhase ≡ 8 → Like z σ τ (retireHead z σ) (retireHead z τ)
   unfolding retireHead
-  retire-head-alike =
+  retire-head-alike e =
       at-head _ _
-      (λ h u.
+      (λ h q u.
+      let end : σ headPosition ≡ z .B * σ (place h) =
+      consumer-clause (z .B) (view σ (pair .γ)) (pair .good .model) retiring (consumer-at z σ (pair .γ) (pair .good) 8 e) .0
+      ∙ ap (λ (x : ℕ). z .B * x) (sym (head-record-placed z σ (pair .γ) (pair .good) h q)) in
       moves h u
       (λ ws. byCall z σ (repliesItem z σ ws) (goesOn z σ (σ drainCount) (itemsMarked σ (σ drainCount)) ws))
       (λ ws. byCall z τ (repliesItem z τ ws) (goesOn z τ (τ drainCount) (itemsMarked τ (τ drainCount)) ws))
       (λ n p.
-      let unlinked : (s : ℕ) → cond (eqb h s) 3 (σ (used s)) ≡ 2 → σ (used s) ≡ 2 = λ s w. not-relinked (eqb h s) 3 (σ (used s)) (λ x. omega arith) w in
-      by-call (gives (moved h n p ++ (clearConsumer ∷ [])) (moved (f h) (f n) p ++ (clearConsumer ∷ [])) refl unlinked (λ t s e. e))
-      (goes-on _ _ _ _ (moved h n p) (moved (f h) (f n) p) count-same all-same
-      (by-plain (pair .stores) (drained (itemsMarked σ (σ drainCount))) (moved h n p ++ cleared) (moved (f h) (f n) p ++ cleared) refl unlinked (λ t s e. e))
-      (by-plain (pair .stores) going (moved h n p ++ back) (moved (f h) (f n) p ++ back) refl unlinked (λ t s e. e)))))
+      by-call (gives _ _ (head-retires pair _ h n p (clearConsumer ∷ []) refl refl end))
+      (goes-on _ _ _ _ (retireWrites h n p) (retireWrites (f h) (f n) p) count-same all-same
+      (head-retires pair _ h n p cleared refl refl end)
+      (head-retires pair going h n p back refl refl end))))

@@ -1,18 +1,20 @@
 -- Answers alike: the same refusal, or the same reply with writes that leave stores alike. To show two answers of a rule alike,
 -- show it at each leaf.
-use mathlib.Core.Path.{_≡_, refl, subst⁻¹}
-use mathlib.Core.Logic.{inl}
+use mathlib.Core.Path.{_≡_, refl, sym, _∙_, subst⁻¹}
+use mathlib.Core.Logic.{_⊎_, inl, inr}
 use mathlib.Core.Bool.{Bool, true, false, cond}
 use mathlib.Core.List.{List}
 use Prim.Native.Nat.{ℕ, zero, suc, _*_}
-use native.Mathlib.Omega.{arith}
 use lib.Dec.{leb}
 use Rattle.rules.specs.Sizes.{Sizes}
-use Rattle.rules.specs.Cell.{Reader, Write, place, next, used, held}
+use Rattle.rules.specs.Cell.{Reader, Write, producer, phase, held, place, next, used}
 use Rattle.rules.specs.Update.{after}
 use Rattle.rules.specs.Rule.{Reply, Effect, refuse, reply, need, upTo, within, index, inside, cross}
 use Rattle.renaming.specs.Renaming.{Renaming, renamed, writesTo}
-use Rattle.renaming.specs.Alike.{Alike, LinksSame, HoldsSame, alike-after}
+use Rattle.renaming.specs.Ways.{Reaches}
+use Rattle.renaming.specs.Plain.{allPlain, Plain, plain-writes}
+use Rattle.renaming.specs.Alike.{Body, Alike, LinksSame, HoldsSame, WaysSame, alike-after}
+use Rattle.renaming.specs.AlikeWays.{WasRetired, NewlyRetired, way-after}
 
 -- Two stores that are alike under some renaming.
 pub record Stores (z : Sizes) (σ τ : Reader) : Type 0 where
@@ -27,16 +29,6 @@ Answers z σ τ (reply r ws) (reply s vs) = (r ≡ s) × Stores z (after σ ws) 
 
 pub record Like (z : Sizes) (σ τ : Reader) (x y : Effect) : Type 0 where
   pub answers : Answers z σ τ x y
-
--- a word that was cleared, or is as it was
-pub not-cleared : (b : Bool) (x s : ℕ) → cond b 0 x ≡ suc s → x ≡ suc s
-not-cleared true x s e = absurd (omega arith)
-not-cleared false x s e = e
-
--- a use other than 2 that was written, or as it was
-pub not-relinked : (b : Bool) (v x : ℕ) → (v ≡ 2 → ⊥) → cond b v x ≡ 2 → x ≡ 2
-not-relinked true v x n e = absurd (n e)
-not-relinked false v x n e = e
 
 module _ {z : Sizes} {σ τ : Reader} where
   pub by-refusal : (n : ℕ) → Like z σ τ (refuse n) (refuse n)
@@ -82,15 +74,35 @@ module _ {z : Sizes} {σ τ : Reader} where
         placed n l (suc q) = by-up-to (z .M) (z .B * q) (z .B * q) refl (h n (z .B * q) l)
 
     -- the same reply, with renamed writes
-    pub by-reply : (r : Reply) (ws vs : List Write) → vs ≡ writesTo f ws → LinksSame f σ τ ws → HoldsSame f σ τ ws
+    pub by-reply : (r : Reply) (ws vs : List Write) → vs ≡ writesTo f ws → LinksSame f σ τ ws → HoldsSame f σ τ ws → WaysSame f σ τ ws
         → Like z σ τ (reply r ws) (reply r vs)
-    by-reply r ws vs e links holds =
+    by-reply r ws vs e links holds ways =
         let same : Alike f (after σ ws) (after τ vs) =
-        subst⁻¹ (λ (l : List Write). Alike f (after σ ws) (after τ l)) e (alike-after (stores .renaming) σ τ a ws links holds) in
+        subst⁻¹ (λ (l : List Write). Alike f (after σ ws) (after τ l)) e (alike-after (stores .renaming) σ τ a ws links holds ways) in
         record { answers = (refl, record { renaming = stores .renaming; alike = same }) }
 
-    -- the same where nothing comes to be linked or held
-    pub by-plain : (r : Reply) (ws vs : List Write) → vs ≡ writesTo f ws
-        → ((s : ℕ) → after σ ws (used s) ≡ 2 → σ (used s) ≡ 2) → ((t s : ℕ) → after σ ws (held t) ≡ suc s → σ (held t) ≡ suc s)
+    -- The same where the first ones, to κ, write no producer's word, and the rest are plain: from what they link, and what they retire on a way back.
+    pub by-records : {κ : Reader} (r : Reply) (ws vs : List Write) → vs ≡ writesTo f ws → Plain κ (after σ ws)
+        → ((t k : ℕ) → κ (producer t k) ≡ σ (producer t k))
+        → ((s : ℕ) → κ (used s) ≡ 2 → (σ (used s) ≡ 2) ⊎ Body f σ τ s)
+        → ((t x y : ℕ) → σ (phase t) ≡ 7 → σ (held t) ≡ suc x → Reaches σ x y → κ (used y) ≡ 3 → WasRetired σ κ y ⊎ NewlyRetired f σ τ κ y)
         → Like z σ τ (reply r ws) (reply r vs)
-    by-plain r ws vs e links holds = by-reply r ws vs e (λ s u. inl (links s u)) (λ t s u. inl (holds t s u))
+    by-records {κ} r ws vs e p rows links retires =
+        by-reply r ws vs e (λ s u. links s (sym (p .uses s) ∙ u)) (λ t s u. inl (held-before t s u))
+        (λ t x d q.
+        way-after a (after σ ws) x (a .ways t x (back-before t d) (held-before t x q))
+        (λ y i u. rest-plain y (retires t x y (back-before t d) (held-before t x q) i (sym (p .uses y) ∙ u))))
+      where
+        held-before : (t s : ℕ) → after σ ws (held t) ≡ suc s → σ (held t) ≡ suc s
+        held-before t s u = sym (rows t 4) ∙ p .holds t s u
+
+        back-before : (t : ℕ) → after σ ws (phase t) ≡ 7 → σ (phase t) ≡ 7
+        back-before t u = sym (rows t 0) ∙ p .backs t u
+
+        rest-plain : (y : ℕ) → WasRetired σ κ y ⊎ NewlyRetired f σ τ κ y → WasRetired σ (after σ ws) y ⊎ NewlyRetired f σ τ (after σ ws) y
+        rest-plain y (inl o) = inl (o .0, p .prevs y ∙ o .1)
+        rest-plain y (inr o) = inr (record { same = o .same; ends = λ w q u. o .ends w (sym (p .prevs y) ∙ q) (sym (p .uses w) ∙ u) })
+
+    -- The same where all of them are plain.
+    pub by-plain : (r : Reply) (ws vs : List Write) → vs ≡ writesTo f ws → allPlain ws ≡ true → Like z σ τ (reply r ws) (reply r vs)
+    by-plain r ws vs e h = by-records r ws vs e (plain-writes σ ws h) (λ t k. refl) (λ s u. inl u) (λ t x y d q i u. inl (u, refl))

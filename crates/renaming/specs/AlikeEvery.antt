@@ -1,14 +1,11 @@
 -- Every request on two stores alike that only the engine has written is answered alike, whichever loose record each claim takes, if both
 -- claims find one or neither does. From the phases, one by one.
 use mathlib.Core.Path.{_≡_, refl, ap, sym, _∙_}
-use mathlib.Core.Logic.{_≢_}
 use mathlib.Core.Bool.{_||_, not}
 use mathlib.Core.List.{List, [], _∷_, _++_, append-nil}
-use Prim.Native.Nat.{ℕ, zero, suc, _≤_}
-use native.Mathlib.Omega.{arith}
+use Prim.Native.Nat.{ℕ, zero, suc}
 use lib.Dec.{eqb, ltb}
 use lib.ListN.{getD}
-use borrow.Author.Tests.{eqb-false, ltb-false}
 use Rattle.rules.specs.Sizes.{Sizes, between, mostSteps, mostDrained}
 use Rattle.rules.specs.Cell.{Reader, Write, _:=_, consumer, producer, starts, consumerPhase, drainLimit, phase, call, value, stepCount}
 use Rattle.rules.specs.Update.{update, after, after-more, countOf, count-is}
@@ -25,8 +22,8 @@ use Rattle.renaming.specs.AlikeConsumer.{front-alike, read-tail-alike, s
 
 -- The count is written alike.
 with-count : {z : Sizes} {σ τ : Reader} → Stores z σ τ → (t n : ℕ) → Stores z (update σ (countOf t := n)) (update τ (countOf t := n))
-with-count s zero n = by-plain s going (consumer 7 := n ∷ []) _ refl (λ r u. u) (λ u r e. e) .answers .1
-with-count s (suc p) n = by-plain s going (producer (suc p) 7 := n ∷ []) _ refl (λ r u. u) (λ u r e. e) .answers .1
+with-count s zero n = by-plain s going (consumer 7 := n ∷ []) _ refl refl .answers .1
+with-count s (suc p) n = by-plain s going (producer (suc p) 7 := n ∷ []) _ refl refl .answers .1
 
 module _ (z : Sizes) (σ τ : Reader) (t k : ℕ) where
   kept-alike : (r : Reply) (ws vs : List Write) → Stores z (after σ ws) (after τ vs)
@@ -75,23 +72,24 @@ module _ {z : Sizes} {σ τ : Reader} (pair : Twins z σ τ) where
 
   consumer-alike : Like z σ τ (consumerStep z σ) (consumerStep z τ)
   unfolding consumerStep
-  consumer-alike = rw consumer-phase (by-phase (σ consumerPhase))
+  consumer-alike = rw consumer-phase (by-phase (σ consumerPhase) refl)
     where
-      by-phase : (p : ℕ) → Like z σ τ (getD consumerRules p (λ z σ. refuse 7) z σ) (getD consumerRules p (λ z σ. refuse 7) z τ)
-      by-phase zero = idle-alike
-      by-phase (suc zero) = front-alike pair
-      by-phase (suc (suc zero)) = read-tail-alike pair
-      by-phase (suc (suc (suc zero))) = scan-alike pair
-      by-phase (suc (suc (suc (suc zero)))) = read-entry-alike pair
-      by-phase (suc (suc (suc (suc (suc zero))))) = rescan-alike pair
-      by-phase (suc (suc (suc (suc (suc (suc zero)))))) = read-item-alike pair
-      by-phase (suc (suc (suc (suc (suc (suc (suc zero))))))) = mark-handled-alike pair
-      by-phase (suc (suc (suc (suc (suc (suc (suc (suc zero)))))))) = retire-head-alike pair
-      by-phase (suc (suc (suc (suc (suc (suc (suc (suc (suc p))))))))) = idle-alike
+      by-phase : (p : ℕ) → σ consumerPhase ≡ p
+          → Like z σ τ (getD consumerRules p (λ z σ. refuse 7) z σ) (getD consumerRules p (λ z σ. refuse 7) z τ)
+      by-phase zero e = idle-alike
+      by-phase (suc zero) e = front-alike pair
+      by-phase (suc (suc zero)) e = read-tail-alike pair
+      by-phase (suc (suc (suc zero))) e = scan-alike pair
+      by-phase (suc (suc (suc (suc zero)))) e = read-entry-alike pair
+      by-phase (suc (suc (suc (suc (suc zero))))) e = rescan-alike pair
+      by-phase (suc (suc (suc (suc (suc (suc zero)))))) e = read-item-alike pair
+      by-phase (suc (suc (suc (suc (suc (suc (suc zero))))))) e = mark-handled-alike pair
+      by-phase (suc (suc (suc (suc (suc (suc (suc (suc zero)))))))) e = retire-head-alike pair e
+      by-phase (suc (suc (suc (suc (suc (suc (suc (suc (suc p))))))))) e = idle-alike
 
-  producer-alike : (t : ℕ) → (1 ≤ t) × (t ≤ z .P) → (c d : ℕ) → BothChoose z σ τ c d → Like z σ τ (producerStep c z σ t) (producerStep d z τ t)
+  producer-alike : (t c d : ℕ) → BothChoose z σ τ c d → Like z σ τ (producerStep c z σ t) (producerStep d z τ t)
   unfolding producerStep
-  producer-alike t is c d both = rw (phase-same t) (by-phase (σ (phase t)) refl)
+  producer-alike t c d both = rw (phase-same t) (by-phase (σ (phase t)) refl)
     where
       by-phase : (p : ℕ) → σ (phase t) ≡ p
           → Like z σ τ (getD (producerRules c) p (λ z σ t. refuse 7) z σ t) (getD (producerRules d) p (λ z σ t. refuse 7) z τ t)
@@ -102,7 +100,7 @@ module _ {z : Sizes} {σ τ : Reader} (pair : Twins z σ τ) where
       by-phase (suc (suc (suc (suc zero)))) e = claim-record-alike pair t c d both
       by-phase (suc (suc (suc (suc (suc zero))))) e = link-claimed-alike pair t
       by-phase (suc (suc (suc (suc (suc (suc zero)))))) e = shift-tail-alike pair t
-      by-phase (suc (suc (suc (suc (suc (suc (suc zero))))))) e = go-back-alike pair t is e
+      by-phase (suc (suc (suc (suc (suc (suc (suc zero))))))) e = go-back-alike pair t e
       by-phase (suc (suc (suc (suc (suc (suc (suc (suc zero)))))))) e = write-entry-alike pair t
       by-phase (suc (suc (suc (suc (suc (suc (suc (suc (suc zero))))))))) e = set-entry-alike pair t
       by-phase (suc (suc (suc (suc (suc (suc (suc (suc (suc (suc zero)))))))))) e = claim-ahead-alike pair t c d both
@@ -121,10 +119,9 @@ module _ {z : Sizes} {σ τ : Reader} (pair : Twins z σ τ) where
       (λ i. idle-alike)
       (λ i. consumer-alike))
       (λ e.
-      let n : t ≢ 0 = eqb-false t 0 e in
       by-cond (eqb (σ (phase t)) 0) (eqb (τ (phase t)) 0) (rw (phase-same t) refl)
       (λ i. idle-alike)
-      (λ i. producer-alike t (omega arith, ltb-false (z .P) t b) c d both)))
+      (λ i. producer-alike t c d both)))
 
   step-alike : (c d : ℕ) → BothChoose z σ τ c d → (t : ℕ) → Like z σ τ (stepping c t z σ) (stepping d t z τ)
   unfolding stepping
@@ -144,15 +141,14 @@ module _ {z : Sizes} {σ τ : Reader} (pair : Twins z σ τ) where
       (λ d. by-refusal 6)
       (λ d.
       rw count
-      (by-plain (pair .stores) (started (suc (σ starts))) (starts := suc (σ starts) ∷ phase t := 1 ∷ call t := suc (σ starts) ∷ value t := v ∷ []) _ refl
-      (λ s u. u) (λ u s e. e)))))
+      (by-plain (pair .stores) (started (suc (σ starts))) (starts := suc (σ starts) ∷ phase t := 1 ∷ call t := suc (σ starts) ∷ value t := v ∷ []) _ refl refl))))
 
   start-dequeue-alike : Like z σ τ (startingDequeue z σ) (startingDequeue z τ)
   unfolding startingDequeue
   start-dequeue-alike =
       by-cond (not (eqb (σ consumerPhase) 0)) (not (eqb (τ consumerPhase) 0)) (rw consumer-phase refl)
       (λ b. by-refusal 5)
-      (λ b. by-plain (pair .stores) ok (consumerPhase := 1 ∷ []) _ refl (λ s u. u) (λ u s e. e))
+      (λ b. by-plain (pair .stores) ok (consumerPhase := 1 ∷ []) _ refl refl)
 
   start-drain-alike : (n : ℕ) → Like z σ τ (startingDrain n z σ) (startingDrain n z τ)
   unfolding startingDrain
@@ -162,7 +158,7 @@ module _ {z : Sizes} {σ τ : Reader} (pair : Twins z σ τ) where
       (λ b.
       by-cond (not (between 1 mostDrained n)) (not (between 1 mostDrained n)) refl
       (λ c. by-refusal 14)
-      (λ c. by-plain (pair .stores) ok (drainLimit := n ∷ consumerPhase := 1 ∷ []) _ refl (λ s u. u) (λ u s e. e)))
+      (λ c. by-plain (pair .stores) ok (drainLimit := n ∷ consumerPhase := 1 ∷ []) _ refl refl))
 
   pub answer-alike : (c d : ℕ) → BothChoose z σ τ c d → (q : Request) → Like z σ τ (effectTaking c q z σ) (effectTaking d q z τ)
   answer-alike c d both (startEnqueue t v) = start-enqueue-alike t v

@@ -1,8 +1,12 @@
 pub mod Renaming
+pub mod Ways
+pub mod Plain
 pub mod Alike
+pub mod AlikeWays
 pub mod AlikeEffects
 pub mod AlikeRecords
 pub mod AlikeProducer
+pub mod AlikeRetires
 pub mod AlikeConsumer
 pub mod AlikeClaims
 pub mod AlikeEvery

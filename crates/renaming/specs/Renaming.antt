@@ -9,7 +9,7 @@ use native.Mathlib.Decide.{ℕ-discrete}
 use native.Mathlib.Omega.{arith}
 use lib.Dec.{eqb}
 use borrow.Author.Tests.{eq-eqb, ne-eqb}
-use Rattle.rules.specs.Cell.{Cell, content, lastClaimed, spare, consumer, producer, part, entry, drain, pair, Area, contents, ofConsumer, ofProducer, ofRecord, ofDrain, Write, _:=_, clear}
+use Rattle.rules.specs.Cell.{Cell, content, lastClaimed, allHandled, spare, consumer, producer, part, entry, drain, pair, Area, contents, ofScan, spares, ofConsumer, ofProducer, ofRecord, ofDrain, Write, _:=_, clear}
 
 -- One number for each record, another for each, and the way back.
 pub record Renaming (N : ℕ) : Type 0 where
@@ -55,6 +55,7 @@ eqb-renamed ρ x r = eqb-alike (renamed (ρ .to) x) (suc (ρ .to r)) x (suc r) (
 abbrev pub isLink : Cell → Bool
 isLink (content k) = eqb k 7 || eqb k 8
 isLink lastClaimed = true
+isLink allHandled = false
 isLink (spare k) = false
 isLink (consumer k) = eqb k 1 || eqb k 3
 isLink (producer t k) = eqb k 4 || eqb k 5
@@ -70,6 +71,7 @@ seen f c x = cond (isLink c) (renamed f x) x
 abbrev pub cellTo : (ℕ → ℕ) → Cell → Cell
 cellTo f (content k) = content k
 cellTo f lastClaimed = lastClaimed
+cellTo f allHandled = allHandled
 cellTo f (spare k) = spare k
 cellTo f (consumer k) = consumer k
 cellTo f (producer t k) = producer t k
@@ -80,6 +82,8 @@ cellTo f (pair i k) = pair i k
 
 abbrev pub areaTo : (ℕ → ℕ) → Area → Area
 areaTo f contents = contents
+areaTo f ofScan = ofScan
+areaTo f spares = spares
 areaTo f ofConsumer = ofConsumer
 areaTo f (ofProducer t) = ofProducer t
 areaTo f (ofRecord r) = ofRecord (f r)

@@ -1,20 +1,21 @@
 -- Where cells are: a cell that is there has an address inside its area and the store, and an address has one cell.
 use mathlib.Core.Path.{_≡_, refl, ap, ap₂, sym, _∙_}
 use mathlib.Core.Bool.{Bool, true, false, _&&_, cond}
-use Prim.Native.Nat.{ℕ, _+_, _-_, _*_, _/_, _%_, _≤_, _<_}
+use Prim.Native.Nat.{ℕ, suc, _+_, _-_, _*_, _/_, _%_, _≤_, _<_}
 use native.Mathlib.Nat.{mul-le-mul-right}
 use native.Mathlib.Omega.{arith}
 use lib.Arith.{digits-div, digits-mod}
 use lib.Dec.{leb, ltb}
 use borrow.Author.Tests.{lt-ltb, le-ltb, ltb-true, le-leb, leb-true}
-use Rattle.rules.specs.Sizes.{Sizes, contentWords, lastClaimedWord, firstSpare, threadWords, recordWords, firstRecord, mostDrained, drainWords, firstDrain, storeWords}
-use Rattle.rules.specs.Cell.{Cell, content, lastClaimed, spare, consumer, producer, part, entry, drain, pair, address, there, Area, contents, ofConsumer, ofProducer, ofRecord, ofDrain, areaStart, areaWords}
+use Rattle.rules.specs.Sizes.{Sizes, contentWords, lastClaimedWord, allHandledWord, firstSpare, threadWords, recordWords, firstRecord, mostDrained, firstDrain, storeWords}
+use Rattle.rules.specs.Cell.{Cell, content, lastClaimed, allHandled, spare, consumer, producer, part, entry, drain, pair, address, there, Area, contents, ofScan, spares, ofConsumer, ofProducer, ofRecord, ofDrain, areaStart, areaWords}
 use Rattle.rules.specs.Update.{areaOf, both, and-true}
 
 -- A store of these sizes has the cell.
 abbrev pub There : Sizes → Cell → Type 0
 There z (content k) = k < lastClaimedWord
 There z lastClaimed = Unit
+There z allHandled = Unit
 There z (spare k) = firstSpare + k < contentWords
 There z (consumer k) = k < threadWords
 There z (producer t k) = (1 ≤ t) × (t ≤ z .P) × (k < threadWords)
@@ -26,6 +27,7 @@ There z (pair i k) = (i < mostDrained) × (k < 2)
 pub there-is : (z : Sizes) (c : Cell) → There z c → there z c ≡ true
 there-is z (content k) h = lt-ltb k lastClaimedWord h
 there-is z lastClaimed h = refl
+there-is z allHandled h = refl
 there-is z (spare k) h = lt-ltb (firstSpare + k) contentWords h
 there-is z (consumer k) h = lt-ltb k threadWords h
 there-is z (producer t k) h = and-true (and-true (le-leb 1 t (h .0)) (le-leb t (z .P) (h .1))) (lt-ltb k threadWords (h .2))
@@ -37,6 +39,7 @@ there-is z (pair i k) h = and-true (lt-ltb i mostDrained (h .0)) (lt-ltb k 2 (h 
 pub there-has : (z : Sizes) (c : Cell) → there z c ≡ true → There z c
 there-has z (content k) e = ltb-true k lastClaimedWord e
 there-has z lastClaimed e = tt
+there-has z allHandled e = tt
 there-has z (spare k) e = ltb-true (firstSpare + k) contentWords e
 there-has z (consumer k) e = ltb-true k threadWords e
 there-has z (producer t k) e =
@@ -54,6 +57,8 @@ there-has z (pair i k) e = let p = both (ltb i mostDrained) (ltb k 2) e in (ltb-
 -- A store of these sizes has the area.
 abbrev pub AreaThere : Sizes → Area → Type 0
 AreaThere z contents = Unit
+AreaThere z ofScan = Unit
+AreaThere z spares = Unit
 AreaThere z ofConsumer = Unit
 AreaThere z (ofProducer t) = (1 ≤ t) × (t ≤ z .P)
 AreaThere z (ofRecord r) = r < z .N
@@ -62,6 +67,7 @@ AreaThere z ofDrain = Unit
 pub area-there : (z : Sizes) (c : Cell) → There z c → AreaThere z (areaOf c)
 area-there z (content k) h = tt
 area-there z lastClaimed h = tt
+area-there z allHandled h = tt
 area-there z (spare k) h = tt
 area-there z (consumer k) h = tt
 area-there z (producer t k) h = (h .0, h .1)
@@ -75,6 +81,7 @@ pub address-in : (z : Sizes) (c : Cell) → There z c
     → (areaStart z (areaOf c) ≤ address z c) × (address z c < areaStart z (areaOf c) + areaWords z (areaOf c))
 address-in z (content k) h = omega arith
 address-in z lastClaimed h = omega arith
+address-in z allHandled h = omega arith
 address-in z (spare k) h = omega arith
 address-in z (consumer k) h = omega arith
 address-in z (producer t k) h = omega arith
@@ -85,6 +92,8 @@ address-in z (pair i k) h = omega arith
 
 pub area-below : (z : Sizes) (a : Area) → AreaThere z a → areaStart z a + areaWords z a ≤ storeWords z
 area-below z contents h = omega arith
+area-below z ofScan h = omega arith
+area-below z spares h = omega arith
 area-below z ofConsumer h = omega arith
 area-below z (ofProducer t) h = omega arith
 area-below z (ofRecord r) h = omega (arith, mul-le-mul-right (recordWords z) h)
@@ -100,8 +109,11 @@ inRecord r o = cond (ltb o 4) (part r o) (entry r ((o - 4) / 3) ((o - 4) % 3))
 unfoldable pub inDrain : (offset : ℕ) → Cell
 inDrain o = cond (ltb o 2) (drain o) (pair ((o - 2) / 2) ((o - 2) % 2))
 
+unfoldable pub inScan : (offset : ℕ) → Cell
+inScan o = cond (ltb o 1) allHandled (spare (o - 1))
+
 unfoldable pub inContents : (offset : ℕ) → Cell
-inContents o = cond (ltb o lastClaimedWord) (content o) (cond (ltb o firstSpare) lastClaimed (spare (o - firstSpare)))
+inContents o = cond (ltb o lastClaimedWord) (content o) (cond (ltb o allHandledWord) lastClaimed (inScan (o - allHandledWord)))
 
 unfoldable pub cellAt : Sizes → ℕ → Cell
 cellAt z n =
@@ -116,6 +128,12 @@ module _ (z : Sizes) where
   at-contents : (o : ℕ) → o < contentWords → cellAt z o ≡ inContents o
   unfolding cellAt
   at-contents o h = rw (lt-ltb o contentWords h)
+
+  at-scan : (o : ℕ) → o < contentWords - allHandledWord → cellAt z (allHandledWord + o) ≡ inScan o
+  unfolding inContents
+  at-scan o h =
+      at-contents (allHandledWord + o) (omega arith)
+      ∙ rw (le-ltb (allHandledWord + o) lastClaimedWord (omega arith), le-ltb (allHandledWord + o) allHandledWord (omega arith)) (ap inScan (omega arith))
 
   at-consumer : (k : ℕ) → k < threadWords → cellAt z (contentWords + k) ≡ consumer k
   unfolding cellAt
@@ -148,13 +166,14 @@ module _ (z : Sizes) where
 
   -- Every cell that is there is the cell at its address.
   cell-at : (c : Cell) → There z c → cellAt z (address z c) ≡ c
-  unfolding inRecord inContents inDrain
+  unfolding inRecord inContents inScan inDrain
   cell-at (content k) h = at-contents k (omega arith) ∙ rw (lt-ltb k lastClaimedWord h) refl
   cell-at lastClaimed h = at-contents lastClaimedWord (omega arith)
+  cell-at allHandled h = at-contents allHandledWord (omega arith)
   cell-at (spare k) h =
-      at-contents (firstSpare + k) h
-      ∙ rw (le-ltb (firstSpare + k) lastClaimedWord (omega arith), le-ltb (firstSpare + k) firstSpare (omega arith))
-      (ap spare (omega arith))
+      ap (cellAt z) (omega arith)
+      ∙ at-scan (suc k) (omega arith)
+      ∙ rw (le-ltb (suc k) 1 (omega arith)) (ap spare (omega arith))
   cell-at (consumer k) h = at-consumer k h
   cell-at (producer t k) h = at-producer t k (h .0) (h .1) (h .2)
   cell-at (part r k) h = at-record r k (h .0) (omega arith) ∙ rw (lt-ltb k 4 (h .1)) refl
@@ -182,18 +201,22 @@ module _ (z : Sizes) where
   in-drain-area o true = refl
   in-drain-area o false = refl
 
-  in-contents-area : (o : ℕ) (b c : Bool) → areaOf (cond b (content o) (cond c lastClaimed (spare (o - firstSpare)))) ≡ contents
-  in-contents-area o true c = refl
-  in-contents-area o false true = refl
-  in-contents-area o false false = refl
+  in-contents-area : (o : ℕ) (b : Bool) → areaOf (cond b (content o) lastClaimed) ≡ contents
+  in-contents-area o true = refl
+  in-contents-area o false = refl
 
   -- Every address in an area is that of one of its cells.
   area-at : (a : Area) → AreaThere z a → (o : ℕ) → o < areaWords z a → areaOf (cellAt z (areaStart z a + o)) ≡ a
-  unfolding inRecord inContents inDrain
+  unfolding inRecord inContents inScan inDrain
   area-at contents h o l =
       ap (λ (x : ℕ). areaOf (cellAt z x)) (omega arith)
-      ∙ ap areaOf (at-contents o l)
-      ∙ in-contents-area o (ltb o lastClaimedWord) (ltb o firstSpare)
+      ∙ ap areaOf (at-contents o (omega arith))
+      ∙ rw (lt-ltb o allHandledWord l) (in-contents-area o (ltb o lastClaimedWord))
+  area-at ofScan h o l = ap areaOf (at-scan o (omega arith)) ∙ rw (lt-ltb o 1 l) refl
+  area-at spares h o l =
+      ap (λ (x : ℕ). areaOf (cellAt z x)) (omega arith)
+      ∙ ap areaOf (at-scan (suc o) (omega arith))
+      ∙ rw (le-ltb (suc o) 1 (omega arith)) refl
   area-at ofConsumer h o l = ap areaOf (at-consumer o l)
   area-at (ofProducer t) h o l = ap areaOf (at-producer t o (h .0) (h .1) l)
   area-at (ofRecord r) h o l = ap areaOf (at-record r o h l) ∙ in-record-area r o (ltb o 4)

@@ -1,18 +1,19 @@
 -- The words of a store under their names, how they are read off the lent words, and writes (document 01, "Store").
 use mathlib.Core.Bool.{Bool, true, _&&_, cond}
 use mathlib.Core.List.{List, [], _∷_}
-use Prim.Native.Nat.{ℕ, _+_, _*_}
+use Prim.Native.Nat.{ℕ, _+_, _-_, _*_}
 use lib.Dec.{leb, ltb, eqb}
 use lib.ListN.{getD, set, replicate}
 use lib.Seq.{sets}
-use Rattle.rules.specs.Sizes.{Sizes, contentWords, lastClaimedWord, firstSpare, threadWords, recordWords, firstRecord, mostDrained, drainWords, firstDrain}
+use Rattle.rules.specs.Sizes.{Sizes, contentWords, lastClaimedWord, allHandledWord, firstSpare, threadWords, recordWords, firstRecord, mostDrained, drainWords, firstDrain}
 
--- A cell is a word with a name: a word of the contents (0 to 10), the record claimed last (word 11), a spare word (12 to 15), a word
--- of the consumer (thread 0), of a producer (threads 1 to P), of a record before its entries, of an entry, of the drain area before its
--- pairs, of a pair.
+-- A cell is a word with a name: a word of the contents (0 to 10), the record claimed last (word 11), what the scan has read (word 12), a
+-- spare word (13 to 15), a word of the consumer (thread 0), of a producer (threads 1 to P), of a record before its entries, of an entry, of
+-- the drain area before its pairs, of a pair.
 pub data Cell : Type 0 where
   content : (k : ℕ) → Cell
   lastClaimed : Cell
+  allHandled : Cell
   spare : (k : ℕ) → Cell
   consumer : (k : ℕ) → Cell
   producer : (t k : ℕ) → Cell
@@ -86,6 +87,9 @@ itemValue = consumer 6
 abbrev pub scanned : Cell
 scanned = consumer 2
 
+-- Word 12, `allHandled`, is 1 in phases 3 and 4 while the cursor's record was entered at its first entry and every entry read in it so far was
+-- handled, and 0 otherwise (document 02, U6).
+
 -- Thread t's phase, and the accepted steps of the call that it has under way (document 02, U3).
 abbrev pub threadPhase : (t : ℕ) → Cell
 threadPhase t = cond (eqb t 0) consumerPhase (phase t)
@@ -133,6 +137,7 @@ pairValue i = pair i 1
 abbrev pub address : Sizes → Cell → ℕ
 address z (content k) = k
 address z lastClaimed = lastClaimedWord
+address z allHandled = allHandledWord
 address z (spare k) = firstSpare + k
 address z (consumer k) = contentWords + k
 address z (producer t k) = contentWords + threadWords * t + k
@@ -145,6 +150,7 @@ address z (pair i k) = firstDrain z + (2 + 2 * i + k)
 abbrev pub there : Sizes → Cell → Bool
 there z (content k) = ltb k lastClaimedWord
 there z lastClaimed = true
+there z allHandled = true
 there z (spare k) = ltb (firstSpare + k) contentWords
 there z (consumer k) = ltb k threadWords
 there z (producer t k) = leb 1 t && leb t (z .P) && ltb k threadWords
@@ -161,9 +167,12 @@ Reader = Cell → ℕ
 unfoldable pub reader : Sizes → List ℕ → Reader
 reader z m c = cond (there z c) (getD m (address z c) 0) 0
 
--- The words that belong together: the contents (words 0 to 15), the consumer's, a producer's, a record's, the drain area's.
+-- The words that belong together: the contents up to word 11, the scan's (word 12), the spare ones, the consumer's, a producer's, a record's, the
+-- drain area's.
 pub data Area : Type 0 where
   contents : Area
+  ofScan : Area
+  spares : Area
   ofConsumer : Area
   ofProducer : (t : ℕ) → Area
   ofRecord : (r : ℕ) → Area
@@ -172,13 +181,17 @@ pub data Area : Type 0 where
 -- its first word, and how many it has
 abbrev pub areaStart : Sizes → Area → ℕ
 areaStart z contents = 0
+areaStart z ofScan = allHandledWord
+areaStart z spares = firstSpare
 areaStart z ofConsumer = contentWords
 areaStart z (ofProducer t) = contentWords + threadWords * t
 areaStart z (ofRecord r) = firstRecord z + r * recordWords z
 areaStart z ofDrain = firstDrain z
 
 abbrev pub areaWords : Sizes → Area → ℕ
-areaWords z contents = contentWords
+areaWords z contents = allHandledWord
+areaWords z ofScan = 1
+areaWords z spares = contentWords - firstSpare
 areaWords z ofConsumer = threadWords
 areaWords z (ofProducer t) = threadWords
 areaWords z (ofRecord r) = recordWords z

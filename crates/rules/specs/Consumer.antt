@@ -1,4 +1,4 @@
--- The consumer's phases 1 to 8 (document 01, "Calls"; document 02, U2 and U5). Each rule stands under the sentence that it renders.
+-- The consumer's phases 1 to 8 (document 01, "Calls"; document 02, U2, U5 and U6). Each rule stands under the sentence that it renders.
 -- A drain runs the phases of a dequeue.
 use mathlib.Core.Bool.{Bool, _&&_, _||_, not, cond}
 use mathlib.Core.List.{List, [], _∷_, _++_}
@@ -7,7 +7,7 @@ use lib.Dec.{eqb}
 use lib.ListN.{getD}
 use Rattle.history.specs.Linearization.{Item}
 use Rattle.rules.specs.Sizes.{Sizes}
-use Rattle.rules.specs.Cell.{Reader, Write, _:=_, clearConsumer, clearDrain, tail, tailRecord, headRecord, headPosition, consumerPhase, cursorRecord, cursorPosition, foundRecord, foundPosition, itemNumber, itemValue, scanned, drainLimit, drainCount, pairNumber, pairValue, used, state, entryNumber, entryValue}
+use Rattle.rules.specs.Cell.{Reader, Write, _:=_, clearConsumer, clearDrain, tail, tailRecord, headRecord, headPosition, allHandled, consumerPhase, cursorRecord, cursorPosition, foundRecord, foundPosition, itemNumber, itemValue, scanned, drainLimit, drainCount, pairNumber, pairValue, next, prev, used, state, entryNumber, entryValue}
 use Rattle.rules.specs.Rule.{Effect, refuse, reply, empty, item, drained, goes, need, upTo, atEnd, inside, cross}
 
 -- an entry's state by cases: empty, set, handled
@@ -32,8 +32,8 @@ module _ (z : Sizes) (σ : Reader) where
   -- The dequeue ends and answers empty. A drain ends with the items that it has marked, 0 for none; what it used is zero.
   abbrev pub endsEmpty : Effect
   endsEmpty =
-      byCall (reply empty (clearConsumer ∷ []))
-      (reply (drained (itemsMarked σ (σ drainCount))) (clearConsumer ∷ clearDrain ∷ []))
+      byCall (reply empty (allHandled := 0 ∷ clearConsumer ∷ []))
+      (reply (drained (itemsMarked σ (σ drainCount))) (allHandled := 0 ∷ clearConsumer ∷ clearDrain ∷ []))
 
   -- A dequeue replies its item. Its writes come after these.
   abbrev pub repliesItem : List Write → Effect
@@ -79,15 +79,35 @@ module _ (z : Sizes) (σ : Reader) where
       (upTo (z .M) (suc (σ headPosition))
       (goes (cursorRecord := σ headRecord ∷ cursorPosition := suc (σ headPosition) ∷ consumerPhase := 3 ∷ [])))
 
+  -- The scan crosses to record n, at position p, and enters it at its first entry.
+  abbrev pub entered : (n p : ℕ) → List Write
+  entered n p = cursorRecord := suc n ∷ cursorPosition := p ∷ allHandled := 1 ∷ []
+
+  -- Record r is folded: its prev q and its next n are joined to each other, and it is retired. It keeps its own links.
+  abbrev pub folded : (r q n : ℕ) → List Write
+  folded r q n = next q := suc n ∷ prev n := suc q ∷ used r := 3 ∷ []
+
+  -- The scan has read all entries of record r as handled, and it is not the head record.
+  abbrev pub isRead : (r : ℕ) → Bool
+  isRead r = eqb (σ allHandled) 1 && not (eqb (σ headRecord) (suc r))
+
+  -- The crossing of the scan out of record r, which is not the tail record. If it is read, the same step folds it.
+  abbrev pub scanCrosses : (r : ℕ) → Effect
+  scanCrosses r =
+      cross z σ r λ n p. cond (isRead r) (need (σ (prev r)) λ q. goes (folded r q n ++ entered n p)) (goes (entered n p))
+
   -- 3. If the cursor stands at its record's end: empty if that is the tail record, otherwise cross to next, the cursor at its
   -- first position (so in every crossing); stay. Else read tail: cursor at tail is empty; otherwise to 4.
   unfoldable pub scan : Effect
   scan =
       need (σ cursorRecord)
       λ r. cond (atEnd z σ r (σ cursorPosition))
-      (cond (eqb (σ tailRecord) (suc r)) endsEmpty
-      (cross z σ r λ n p. goes (cursorRecord := suc n ∷ cursorPosition := p ∷ [])))
+      (cond (eqb (σ tailRecord) (suc r)) endsEmpty (scanCrosses r))
       (cond (eqb (σ cursorPosition) (σ tail)) endsEmpty (goes (consumerPhase := 4 ∷ [])))
+
+  -- What the scan has read, with entry i of record r.
+  abbrev pub stillHandled : (r i : ℕ) → ℕ
+  stillHandled r i = cond (eqb (σ (state r i)) 2) (σ allHandled) 0
 
   -- 4. Read the entry: set makes it found, and the cursor returns to the head; to 5. Otherwise advance; to 3.
   unfoldable pub readEntry : Effect
@@ -100,9 +120,11 @@ module _ (z : Sizes) (σ : Reader) where
       ∷ foundPosition := σ cursorPosition
       ∷ cursorRecord := σ headRecord
       ∷ cursorPosition := σ headPosition
+      ∷ allHandled := 0
       ∷ consumerPhase := 5
       ∷ []))
-      (upTo (z .M) (suc (σ cursorPosition)) (goes (cursorPosition := suc (σ cursorPosition) ∷ consumerPhase := 3 ∷ [])))
+      (upTo (z .M) (suc (σ cursorPosition))
+      (goes (cursorPosition := suc (σ cursorPosition) ∷ allHandled := stillHandled r i ∷ consumerPhase := 3 ∷ [])))
 
   -- When the cursor's position then equals that of found, the same step goes to 6; otherwise stay. (What moved is written
   -- first; in 6 the cursor is not in use, and a drain notes that it came through the scan.)

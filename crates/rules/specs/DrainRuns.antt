@@ -1,20 +1,24 @@
 -- Runs with drains (document 02, U5), computed: the replies, the history, and what the last call leaves in its buffer and in the drain area.
 use mathlib.Core.Path.{_≡_, ap, _∙_}
+use mathlib.Core.Bool.{true, _&&_}
 use mathlib.Core.List.{List, [], _∷_, _++_, map, reverse}
 use Prim.Native.Nat.{ℕ}
 use lib.ListN.{replicate}
 use Rattle.history.specs.Event.{History, enqueueStarted, enqueueEnded, dequeueStarted, gaveItem, gaveEmpty}
 use Rattle.history.specs.Linearization.{Item}
 use Rattle.rules.specs.Sizes.{Sizes, storeWords}
-use Rattle.rules.specs.Cell.{Write, reader, writes, _:=_, headPosition, consumerPhase, foundRecord, foundPosition, itemNumber, itemValue, scanned, stepCount, drainLimit, drainCount, pairNumber, pairValue, state, next, place}
+use Rattle.rules.specs.Cell.{Write, reader, writes, _:=_, consumerPhase, foundRecord, itemNumber, itemValue, scanned, stepCount, drainLimit, drainCount, pairNumber, pairValue, state}
 use Rattle.rules.specs.Free.{free, nextFree}
-use Rattle.rules.specs.Rule.{Reply, Response, refused, accepted, ok, started, going, ended, empty, item, drained}
+use Rattle.rules.specs.Rule.{Response, refused, accepted, ok, started, going, ended, item, drained}
 use Rattle.rules.specs.Producer.{takePosition, loadTail, lookNext, claimRecord, linkClaimed, shiftTail, goBack, writeEntry, setEntry, claimAhead, linkAhead, producerStep}
 use Rattle.rules.specs.Consumer.{front, readTail, scan, readEntry, rescan, readItem, markHandled, retireHead, consumerStep}
 use Rattle.rules.specs.Request.{startEnqueue, startDequeue, startDrain, step, Invocation, lending, Result, applied, opened, startingEnqueue, startingDequeue, startingDrain, phaseStep, counted, stepping, effect, result}
 use Rattle.rules.specs.Play.{Played, playOne}
 use Rattle.rules.specs.Quick.{quickResult, result-is, withResult}
-use Rattle.rules.specs.Runs.{sized, times, plain, first, ends, begun, call, playedOn, quickOn, played-on, repliesTo, quickReplies, replies-to, map-same}
+use Rattle.rules.specs.Update.{both}
+use Rattle.rules.specs.Lengths.{lengths-as-written}
+use Rattle.rules.specs.Runs.{sized, times, plain, first, ends, begun, call, playedOn, quickOn, played-on, repliesTo, quickReplies, replies-to, computed}
+use Rattle.rules.specs.Sameness.{passes-after, Sameness, lists, responses, events, wordLists}
 
 -- Calls on an opened store whose cells were then written so, and a last one; what they come to.
 pub record DrainRun : Type 0 where
@@ -33,6 +37,27 @@ pub record Outcome : Type 0 where
   pub history : History
   pub buffer : List ℕ
   pub area : List ℕ
+
+outcomes : Sameness Outcome
+unfolding responses events wordLists
+outcomes =
+    record {
+      test =
+          λ x y.
+          responses .test (x .replies) (y .replies)
+          && (events .test (x .history) (y .history) && (wordLists .test (x .buffer) (y .buffer) && wordLists .test (x .area) (y .area)));
+      sound =
+          λ x y e.
+          let a = both (responses .test (x .replies) (y .replies)) _ e in
+          let b = both (events .test (x .history) (y .history)) _ (a .1) in
+          let c = both (wordLists .test (x .buffer) (y .buffer)) (wordLists .test (x .area) (y .area)) (b .1) in
+          λ i. record {
+            replies = responses .sound (x .replies) (y .replies) (a .0) i;
+            history = events .sound (x .history) (y .history) (b .0) i;
+            buffer = wordLists .sound (x .buffer) (y .buffer) (c .0) i;
+            area = wordLists .sound (x .area) (y .area) (c .1) i;
+          };
+    }
 
 abbrev openedAs : DrainRun → List ℕ
 openedAs d = writes (d .sizes) (opened (d .sizes) (replicate (storeWords (d .sizes)) 0)) (d .cells)
@@ -230,9 +255,12 @@ drainRuns =
     }
     ∷ []
 
+drain-runs-pass : lists outcomes .test (map quickOutcome drainRuns) (map expected drainRuns) ≡ true
+unfolding quickOutcome lists responses events wordLists outcomes
+drain-runs-pass = passes-after lengths-as-written
+
 pub drain-runs-as-written : map outcome drainRuns ≡ map expected drainRuns
-unfolding quickOutcome
-drain-runs-as-written = map-same outcome quickOutcome outcome-is drainRuns
+drain-runs-as-written = computed outcomes outcome quickOutcome expected outcome-is drainRuns drain-runs-pass
 
 -- Steps of the consumer on stores that the engine did not write: the cells that were written on an opened one, and the reply.
 pub record DrainProbe : Type 0 where
@@ -279,6 +307,9 @@ drainProbes =
     ∷ record { cells = consumerPhase := 1 ∷ scanned := 1 ∷ []; reply = refused 3 }
     ∷ []
 
+drain-probes-pass : lists responses .test (map quickProbed drainProbes) (map (λ p. p .reply ∷ []) drainProbes) ≡ true
+unfolding quickProbed lists responses
+drain-probes-pass = passes-after drain-runs-as-written
+
 pub drain-probes-as-written : map probed drainProbes ≡ map (λ p. p .reply ∷ []) drainProbes
-unfolding quickProbed
-drain-probes-as-written = map-same probed quickProbed probed-is drainProbes
+drain-probes-as-written = computed responses probed quickProbed (λ p. p .reply ∷ []) probed-is drainProbes drain-probes-pass

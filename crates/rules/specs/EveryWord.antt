@@ -9,9 +9,9 @@ use lib.Dec.{ltb}
 use lib.ListN.{length, getD, take, length-take}
 use lib.Seq.{ext-getD, getD-take}
 use borrow.Author.Tests.{ltb-true, ltb-false}
-use Rattle.rules.specs.Sizes.{Sizes, contentWords, lastClaimedWord, firstSpare, threadWords, recordWords, firstRecord, firstDrain, storeWords}
-use Rattle.rules.specs.Cell.{Cell, content, lastClaimed, spare, consumer, producer, part, entry, drain, pair, address, Reader, reader}
-use Rattle.rules.specs.Address.{There, there-is, inContents, inRecord, inDrain, cellAt}
+use Rattle.rules.specs.Sizes.{Sizes, contentWords, lastClaimedWord, allHandledWord, threadWords, recordWords, firstRecord, firstDrain, storeWords}
+use Rattle.rules.specs.Cell.{Cell, content, lastClaimed, allHandled, spare, consumer, producer, part, entry, drain, pair, address, Reader, reader}
+use Rattle.rules.specs.Address.{There, there-is, inContents, inScan, inRecord, inDrain, cellAt}
 
 -- The cell is there, at word n.
 pub record Names (z : Sizes) (n : ℕ) (c : Cell) : Type 0 where
@@ -20,14 +20,18 @@ pub record Names (z : Sizes) (n : ℕ) (c : Cell) : Type 0 where
 
 module _ (z : Sizes) where
   contents-named : (n : ℕ) → n < contentWords → Names z n (inContents n)
-  unfolding inContents
-  contents-named n h = go (ltb n lastClaimedWord) refl (ltb n firstSpare) refl
+  unfolding inContents inScan
+  contents-named n h = go (ltb n lastClaimedWord) refl (ltb n allHandledWord) refl (ltb (n - allHandledWord) 1) refl
     where
-      go : (b : Bool) → ltb n lastClaimedWord ≡ b → (c : Bool) → ltb n firstSpare ≡ c
-          → Names z n (cond b (content n) (cond c lastClaimed (spare (n - firstSpare))))
-      go true e c f = record { there = ltb-true n lastClaimedWord e; at = refl }
-      go false e true f = record { there = tt; at = omega (arith, ltb-false n lastClaimedWord e, ltb-true n firstSpare f) }
-      go false e false f = let l = ltb-false n firstSpare f in record { there = omega arith; at = omega arith }
+      go : (b : Bool) → ltb n lastClaimedWord ≡ b → (c : Bool) → ltb n allHandledWord ≡ c → (d : Bool) → ltb (n - allHandledWord) 1 ≡ d
+          → Names z n (cond b (content n) (cond c lastClaimed (cond d allHandled (spare (n - allHandledWord - 1)))))
+      go true e c f d g = record { there = ltb-true n lastClaimedWord e; at = refl }
+      go false e true f d g = record { there = tt; at = omega (arith, ltb-false n lastClaimedWord e, ltb-true n allHandledWord f) }
+      go false e false f true g = record { there = tt; at = omega (arith, ltb-false n allHandledWord f, ltb-true (n - allHandledWord) 1 g) }
+      go false e false f false g =
+          let l = ltb-false n allHandledWord f in
+          let m = ltb-false (n - allHandledWord) 1 g in
+          record { there = omega arith; at = omega arith }
 
   -- a word of record r, o words into it
   record-named : (n r o : ℕ) → r < z .N → o < recordWords z → firstRecord z + r * recordWords z + o ≡ n → Names z n (inRecord r o)

@@ -1,20 +1,26 @@
--- Holding and free records (document 01, "Store" and "Calls"), and the record that a claim takes (document 02, U1).
+-- Holding and free records (document 01, "Store" and "Calls"; document 02, U6), and the record that a claim takes (document 02, U1).
 use mathlib.Core.Bool.{Bool, true, false, _&&_, _||_, not}
 use Prim.Native.Nat.{ℕ, zero, suc, _-_}
-use lib.Dec.{eqb}
+use lib.Dec.{ltb, eqb}
 use Rattle.rules.specs.Sizes.{Sizes}
-use Rattle.rules.specs.Cell.{Reader, lastClaimed, held, claimed, used}
+use Rattle.rules.specs.Cell.{Reader, lastClaimed, held, claimed, place, used}
 use Rattle.rules.specs.Range.{every}
 
--- Holds: producer t holds the record it last loaded or went back to, and the one it has claimed.
-abbrev pub holds : Reader → (t r : ℕ) → Bool
-holds σ t r = eqb (σ (held t)) (suc r) || eqb (σ (claimed t)) (suc r)
+-- Who holds record x keeps record r: it is x, or x is a retired record of greater place, whose links may lead back to it. (A record number is
+-- stored plus one; zero is none.)
+abbrev pub keptBy : Reader → (x r : ℕ) → Bool
+keptBy σ zero r = false
+keptBy σ (suc x) r = eqb x r || (eqb (σ (used x)) 3 && ltb (σ (place r)) (σ (place x)))
 
--- Let go: its use is 3 and no producer holds it. (Producers are threads 1 to P.)
+-- Producer t holds the record it last loaded or went back to, and the one it has claimed.
+abbrev pub keeps : Reader → (t r : ℕ) → Bool
+keeps σ t r = keptBy σ (σ (held t)) r || keptBy σ (σ (claimed t)) r
+
+-- Let go: its use is 3, and no producer holds it or any retired record of greater place. (Producers are threads 1 to P.)
 abbrev pub letGo : Sizes → Reader → ℕ → Bool
-letGo z σ r = eqb (σ (used r)) 3 && every (z .P) (λ t. not (holds σ (suc t) r))
+letGo z σ r = eqb (σ (used r)) 3 && every (z .P) (λ t. not (keeps σ (suc t) r))
 
--- Free: its use is 0, or its use is 3 and no producer holds it.
+-- Free: its use is 0, or its use is 3 and it was let go.
 unfoldable pub free : Sizes → Reader → ℕ → Bool
 free z σ r = eqb (σ (used r)) 0 || letGo z σ r
 

@@ -1,17 +1,18 @@
 -- Ranges word by word, and their law: writes in range keep the store in range.
-use mathlib.Core.Path.{_≡_, refl, ap, sym, _∙_, subst, subst⁻¹, fun-ext}
+use mathlib.Core.Path.{_≡_, refl, ap, ap₂, sym, _∙_, subst, subst⁻¹, fun-ext}
 use mathlib.Core.Bool.{Bool, true, false, _&&_, cond}
 use mathlib.Core.List.{List, [], _∷_}
 use Prim.Native.Nat.{ℕ, zero, suc, _+_, _≤_, _<_}
 use native.Mathlib.Nat.{zero-add}
 use native.Mathlib.Decide.{decLt, ℕ-discrete}
 use native.Mathlib.Omega.{arith}
+use lib.Dec.{leb}
 use lib.ListN.{length, getD}
 use borrow.Author.Tests.{le-leb}
 use Rattle.history.specs.Lists.{All}
 use Rattle.rules.specs.Sizes.{Sizes}
-use Rattle.rules.specs.Cell.{Cell, content, lastClaimed, spare, consumer, producer, part, entry, drain, pair, Reader, Area, contents, ofConsumer, ofProducer, ofRecord, ofDrain, Write, _:=_, clear}
-use Rattle.rules.specs.Range.{Sort, any, ofSort, contentSorts, lastClaimedSort, spareSorts, partSorts, entrySorts, consumerSorts, producerSorts, lastConsumerPhase, lastProducerPhase, ofSorts, every, threadInRange, consumerInRange, producerInRange, recordInRange, areaInRange, drainInRange, inRange}
+use Rattle.rules.specs.Cell.{Cell, content, lastClaimed, allHandled, spare, consumer, producer, part, entry, drain, pair, Reader, Area, contents, ofScan, spares, ofConsumer, ofProducer, ofRecord, ofDrain, Write, _:=_, clear}
+use Rattle.rules.specs.Range.{Sort, any, ofSort, contentSorts, lastClaimedSort, spareSorts, partSorts, entrySorts, consumerSorts, producerSorts, lastConsumerPhase, lastProducerPhase, ofSorts, every, threadInRange, consumerInRange, producerInRange, recordInRange, areaInRange, drainInRange, mostAllHandled, scanInRange, inRange}
 use Rattle.rules.specs.Update.{areaOf, touches, valueLeft, update, after, areaTouched, same-eq, same-area-eq, other-area, both, and-true}
 use Rattle.rules.specs.Address.{There}
 
@@ -54,10 +55,12 @@ pub row-of : (z : Sizes) (row : ℕ → ℕ) (ss : List Sort) → ((j : ℕ) →
 row-of z row ss h =
     sorts-of z row 0 ss (λ j i l q. subst (λ (n : ℕ). ofSort z (getD ss j any) (row n) ≡ true) (sym (zero-add j) ∙ q) (h j l))
 
--- The sort of a word outside the threads and the drain area; a thread's words go by its phase, the drain area's by the count.
+-- The sort of a word outside the threads and the drain area; a thread's words go by its phase, and so does what the scan has read, the drain
+-- area's by the count.
 abbrev pub sortOf : Sizes → Cell → Sort
 sortOf z (content k) = getD (contentSorts z) k any
 sortOf z lastClaimed = lastClaimedSort
+sortOf z allHandled = any
 sortOf z (spare k) = getD spareSorts k any
 sortOf z (consumer k) = any
 sortOf z (producer t k) = any
@@ -72,6 +75,7 @@ pub record InRange (z : Sizes) (σ : Reader) : Type 0 where
   pub consuming : consumerInRange z σ ≡ true
   pub producing : (t : ℕ) → 1 ≤ t → t ≤ z .P → producerInRange z σ t ≡ true
   pub draining : drainInRange z σ ≡ true
+  pub scanning : scanInRange σ ≡ true
 
 module _ (z : Sizes) (σ : Reader) where
   -- the parts of the test
@@ -82,7 +86,7 @@ module _ (z : Sizes) (σ : Reader) where
   lastTest = ofSort z lastClaimedSort (σ lastClaimed)
 
   spareTest : Bool
-  spareTest = ofSorts z (λ k. σ (spare k)) 0 spareSorts
+  spareTest = scanInRange σ && ofSorts z (λ k. σ (spare k)) 0 spareSorts
 
   partsTest : ℕ → Bool
   partsTest r = ofSorts z (λ k. σ (part r k)) 0 partSorts
@@ -107,12 +111,14 @@ module _ (z : Sizes) (σ : Reader) where
       let c = both (contentsTest && (lastTest && spareTest)) (consumerInRange z σ) (q .0) in
       let d = both contentsTest (lastTest && spareTest) (c .0) in
       let l = both lastTest spareTest (d .1) in
-      record { words = words (d .0) (l .0) (l .1) (every-at (z .N) (recordInRange z σ) (p .1)); consuming = c .1; producing = one-producer (q .1); draining = a .1 }
+      let s = both (scanInRange σ) (ofSorts z (λ k. σ (spare k)) 0 spareSorts) (l .1) in
+      record { words = words (d .0) (l .0) (s .1) (every-at (z .N) (recordInRange z σ) (p .1)); consuming = c .1; producing = one-producer (q .1); draining = a .1; scanning = s .0 }
     where
-      words : contentsTest ≡ true → lastTest ≡ true → spareTest ≡ true → ((r : ℕ) → r < z .N → recordInRange z σ r ≡ true)
+      words : contentsTest ≡ true → lastTest ≡ true → ofSorts z (λ k. σ (spare k)) 0 spareSorts ≡ true → ((r : ℕ) → r < z .N → recordInRange z σ r ≡ true)
           → (c : Cell) → There z c → ofSort z (sortOf z c) (σ c) ≡ true
       words q l s p (content k) h = row-at z (λ j. σ (content j)) (contentSorts z) q k h
       words q l s p lastClaimed h = l
+      words q l s p allHandled h = refl
       words q l s p (spare k) h = row-at z (λ j. σ (spare j)) spareSorts s k (omega arith)
       words q l s p (consumer k) h = refl
       words q l s p (producer t k) h = refl
@@ -132,7 +138,7 @@ module _ (z : Sizes) (σ : Reader) where
       (and-true
       (and-true
       (and-true (row-of z (λ k. σ (content k)) (contentSorts z) (λ k h. i .words (content k) h))
-      (and-true (i .words lastClaimed tt) (row-of z (λ k. σ (spare k)) spareSorts (λ k h. i .words (spare k) (omega arith)))))
+      (and-true (i .words lastClaimed tt) (and-true (i .scanning) (row-of z (λ k. σ (spare k)) spareSorts (λ k h. i .words (spare k) (omega arith))))))
       (i .consuming))
       (every-of (z .P) (λ p. producerInRange z σ (suc p)) (λ p l. i .producing (suc p) (omega arith) l)))
       (every-of (z .N) (recordInRange z σ)
@@ -153,6 +159,7 @@ same-drain z τ σ phase counts pairs =
 abbrev pub InSort : Sizes → ℕ → Write → Type 0
 InSort z t (content k := v) = ofSort z (sortOf z (content k)) v ≡ true
 InSort z t (lastClaimed := v) = ofSort z lastClaimedSort v ≡ true
+InSort z t (allHandled := v) = t ≡ 0
 InSort z t (spare k := v) = ofSort z (sortOf z (spare k)) v ≡ true
 InSort z t (consumer k := v) = t ≡ 0
 InSort z t (producer u k := v) = t ≡ u
@@ -161,14 +168,18 @@ InSort z t (entry r i k := v) = ofSort z (sortOf z (entry r i k)) v ≡ true
 InSort z t (drain k := v) = t ≡ 0
 InSort z t (pair i k := v) = t ≡ 0
 InSort z t (clear contents) = ⊥
+InSort z t (clear ofScan) = t ≡ 0
+InSort z t (clear spares) = ⊥
 InSort z t (clear ofConsumer) = t ≡ 0
 InSort z t (clear (ofProducer u)) = t ≡ u
 InSort z t (clear (ofRecord r)) = Unit
 InSort z t (clear ofDrain) = t ≡ 0
 
--- The words of a thread but t. The drain area is the consumer's.
+-- The words of a thread but t. The drain area is the consumer's, and so is what the scan has read.
 abbrev pub OtherThread : ℕ → Area → Type 0
 OtherThread t contents = ⊥
+OtherThread t ofScan = t ≡ 0 → ⊥
+OtherThread t spares = ⊥
 OtherThread t ofConsumer = t ≡ 0 → ⊥
 OtherThread t (ofProducer u) = t ≡ u → ⊥
 OtherThread t (ofRecord r) = ⊥
@@ -196,6 +207,7 @@ module _ (z : Sizes) (t : ℕ) where
   put-in-sort : (c : Cell) (v : ℕ) → InSort z t (c := v) → ofSort z (sortOf z c) v ≡ true
   put-in-sort (content k) v h = h
   put-in-sort lastClaimed v h = h
+  put-in-sort allHandled v h = refl
   put-in-sort (spare k) v h = h
   put-in-sort (consumer k) v h = refl
   put-in-sort (producer u k) v h = refl
@@ -207,6 +219,7 @@ module _ (z : Sizes) (t : ℕ) where
   zero-in-sort : (a : Area) → InSort z t (clear a) → (d : Cell) → a ≡ areaOf d → ofSort z (sortOf z d) 0 ≡ true
   zero-in-sort a h (content k) e = absurd (subst (λ (b : Area). InSort z t (clear b)) e h)
   zero-in-sort a h lastClaimed e = absurd (subst (λ (b : Area). InSort z t (clear b)) e h)
+  zero-in-sort a h allHandled e = refl
   zero-in-sort a h (spare k) e = absurd (subst (λ (b : Area). InSort z t (clear b)) e h)
   zero-in-sort a h (consumer k) e = refl
   zero-in-sort a h (producer u k) e = refl
@@ -234,6 +247,7 @@ module _ (z : Sizes) (t : ℕ) where
   writes-own : (w : Write) → InSort z t w → OtherThread t (areaTouched w) → ⊥
   writes-own (content k := v) h o = o
   writes-own (lastClaimed := v) h o = o
+  writes-own (allHandled := v) h o = o h
   writes-own (spare k := v) h o = o
   writes-own (consumer k := v) h o = o h
   writes-own (producer u k := v) h o = o h
@@ -242,6 +256,8 @@ module _ (z : Sizes) (t : ℕ) where
   writes-own (drain k := v) h o = o h
   writes-own (pair i k := v) h o = o h
   writes-own (clear contents) h o = o
+  writes-own (clear ofScan) h o = o h
+  writes-own (clear spares) h o = o
   writes-own (clear ofConsumer) h o = o h
   writes-own (clear (ofProducer u)) h o = o h
   writes-own (clear (ofRecord r)) h o = o
@@ -255,13 +271,14 @@ module _ (z : Sizes) (t : ℕ) where
 
   -- Writes in range keep the store in range: those of a call of thread t, if its words are then in range for its phase.
   pub writes-keep-range : (σ : Reader) (ws : List Write) → All (InSort z t) ws → InRange z σ
-      → (t ≡ 0 → (consumerInRange z (after σ ws) ≡ true) × (drainInRange z (after σ ws) ≡ true)) → (1 ≤ t → producerInRange z (after σ ws) t ≡ true) → InRange z (after σ ws)
+      → (t ≡ 0 → (consumerInRange z (after σ ws) ≡ true) × (drainInRange z (after σ ws) ≡ true) × (scanInRange (after σ ws) ≡ true)) → (1 ≤ t → producerInRange z (after σ ws) t ≡ true) → InRange z (after σ ws)
   writes-keep-range σ ws h i as-consumer as-producer =
       record {
         words = writes-in-sort σ ws h (i .words);
         consuming = of-consumer (ℕ-discrete t 0);
         producing = λ u l g. of-producer (ℕ-discrete t u) l g;
         draining = of-drain (ℕ-discrete t 0);
+        scanning = of-scan (ℕ-discrete t 0);
       }
     where
       of-consumer : Dec (t ≡ 0) → consumerInRange z (after σ ws) ≡ true
@@ -274,6 +291,11 @@ module _ (z : Sizes) (t : ℕ) where
           same-drain z (after σ ws) σ (others-untouched σ ws h (consumer 0) n) (λ k. others-untouched σ ws h (drain k) n)
           (λ j k. others-untouched σ ws h (pair j k) n)
           ∙ i .draining
+
+      of-scan : Dec (t ≡ 0) → scanInRange (after σ ws) ≡ true
+      of-scan (yes e) = as-consumer e .2
+      of-scan (no n) =
+          ap₂ (λ (x p : ℕ). leb x (mostAllHandled p)) (others-untouched σ ws h allHandled n) (others-untouched σ ws h (consumer 0) n) ∙ i .scanning
 
       of-producer : {u : ℕ} → Dec (t ≡ u) → 1 ≤ u → u ≤ z .P → producerInRange z (after σ ws) u ≡ true
       of-producer {u} (yes e) l g = subst (λ (x : ℕ). producerInRange z (after σ ws) x ≡ true) e (as-producer (omega arith))

@@ -1,5 +1,6 @@
 -- How many steps an enqueue makes (document 02, U4), computed: runs in which its producer is stepped more often than it can make steps.
 use mathlib.Core.Path.{_≡_}
+use mathlib.Core.Bool.{true}
 use mathlib.Core.List.{List, [], _∷_, _++_, map}
 use Prim.Native.Nat.{ℕ, _+_, _*_}
 use lib.ListN.{replicate}
@@ -11,7 +12,9 @@ use Rattle.rules.specs.Consumer.{front, readTail, scan, readEntry, resca
 use Rattle.rules.specs.Request.{Request, startEnqueue, startDequeue, step, Invocation, applied, opened, startingEnqueue, startingDequeue, startingDrain, phaseStep, counted, stepping, effect}
 use Rattle.rules.specs.Play.{Played, stepsMade}
 use Rattle.rules.specs.Quick.{quickSteps, steps-are}
-use Rattle.rules.specs.Runs.{sized, times, plain, map-same}
+use Rattle.rules.specs.Witnesses.{claims-as-written}
+use Rattle.rules.specs.Runs.{sized, times, plain, computed}
+use Rattle.rules.specs.Sameness.{passes-after, lists, numbers}
 
 -- Calls after an open, and the accepted steps of the enqueue that a producer has under way, if it is then stepped 5 × P + N + 7 times.
 pub record Length : Type 0 where
@@ -101,6 +104,9 @@ lengths =
     }
     ∷ []
 
+lengths-pass : lists numbers .test (map quickLength lengths) (map (λ l. l .made) lengths) ≡ true
+unfolding quickLength lists numbers
+lengths-pass = passes-after claims-as-written
+
 pub lengths-as-written : map acceptedSteps lengths ≡ map (λ l. l .made) lengths
-unfolding quickLength
-lengths-as-written = map-same acceptedSteps quickLength length-is lengths
+lengths-as-written = computed numbers acceptedSteps quickLength (λ l. l .made) length-is lengths lengths-pass

@@ -8,10 +8,12 @@ pub mod Consumer
 pub mod Request
 pub mod Play
 pub mod Quick
+pub mod Sameness
 pub mod Runs
 pub mod Witnesses
 pub mod Lengths
 pub mod DrainRuns
+pub mod FoldRuns
 pub mod Update
 pub mod Address
 pub mod Readback

@@ -1,11 +1,11 @@
 -- The range of every word of a store: refusal 3 (document 01, "Where a call is turned down", Ranges).
-use mathlib.Core.Bool.{Bool, true, _&&_, cond}
+use mathlib.Core.Bool.{Bool, true, _&&_, _||_, cond}
 use mathlib.Core.List.{List, [], _∷_}
 use Prim.Native.Nat.{ℕ, zero, suc}
 use lib.Dec.{leb, ltb, eqb}
 use lib.ListN.{getD}
 use Rattle.rules.specs.Sizes.{Sizes, between, mostPlace, mostSteps, contentWords, firstRecord, mostDrained}
-use Rattle.rules.specs.Cell.{Reader, content, lastClaimed, spare, consumer, producer, part, entry, pair, consumerPhase, drainLimit, drainCount}
+use Rattle.rules.specs.Cell.{Reader, content, lastClaimed, allHandled, spare, consumer, producer, part, entry, pair, consumerPhase, drainLimit, drainCount}
 
 -- What a word may hold: zero alone (a spare word, or one not in use); one number; a position, call number or count, 0 to M; a
 -- record number, 0 to N; the same with none left out, 1 to N; a number up to another; anything.
@@ -48,9 +48,16 @@ contentSorts z =
 abbrev pub lastClaimedSort : Sort
 lastClaimedSort = record-number
 
+-- What the scan has read: 0 to 1 in the consumer's phases 3 and 4, and 0 elsewhere (document 02, U6).
+abbrev pub mostAllHandled : (phase : ℕ) → ℕ
+mostAllHandled p = cond (eqb p 3 || eqb p 4) 1 0
+
+abbrev pub scanInRange : Reader → Bool
+scanInRange σ = leb (σ allHandled) (mostAllHandled (σ consumerPhase))
+
 -- Spare words.
 abbrev pub spareSorts : List Sort
-spareSorts = unused ∷ unused ∷ unused ∷ unused ∷ []
+spareSorts = unused ∷ unused ∷ unused ∷ []
 
 -- Place, next, prev, use.
 abbrev pub partSorts : List Sort
@@ -176,7 +183,8 @@ drainInRange z σ = areaInRange z (σ consumerPhase) (σ drainLimit) (σ drainCo
 -- Words 0 to 15.
 abbrev pub contentsInRange : Sizes → Reader → Bool
 contentsInRange z σ =
-    ofSorts z (λ k. σ (content k)) 0 (contentSorts z) && (ofSort z lastClaimedSort (σ lastClaimed) && ofSorts z (λ k. σ (spare k)) 0 spareSorts)
+    ofSorts z (λ k. σ (content k)) 0 (contentSorts z)
+    && (ofSort z lastClaimedSort (σ lastClaimed) && (scanInRange σ && ofSorts z (λ k. σ (spare k)) 0 spareSorts))
 
 -- Every word is in its range: those of the contents and threads, those of the records, and those of the drain area.
 abbrev pub threadsInRange : Sizes → Reader → Bool

@@ -1,6 +1,7 @@
 -- The runs of the store that document 01 marks (P), as one table and one statement that the checker computes ("Runs to hold it
 -- to").
-use mathlib.Core.Path.{_≡_, refl, ap, ap₂}
+use mathlib.Core.Path.{_≡_, refl, ap, ap₂, _∙_}
+use mathlib.Core.Bool.{true}
 use mathlib.Core.List.{List, [], _∷_, _++_, map, reverse}
 use Prim.Native.Nat.{ℕ, zero, suc, _+_}
 use lib.ListN.{replicate}
@@ -13,6 +14,7 @@ use Rattle.rules.specs.Consumer.{front, readTail, scan, readEntry, resca
 use Rattle.rules.specs.Request.{Request, startEnqueue, startDequeue, step, Invocation, lending, applied, opened, open-store, startingEnqueue, startingDequeue, startingDrain, phaseStep, counted, stepping, effect}
 use Rattle.rules.specs.Play.{Played, play}
 use Rattle.rules.specs.Quick.{quickPlay, play-is}
+use Rattle.rules.specs.Sameness.{passes, Sameness, lists, responses}
 
 -- An open of a store of so many zero words, the calls after it, and the replies of all of them, in order.
 pub record Trial : Type 0 where
@@ -88,10 +90,14 @@ replay-is t =
     let o = open-store (t .sizes) (replicate (t .words) 0) in
     ap (λ (rs : List Response). o .reply ∷ rs) (replies-to (map plain (t .requests)) (o .words))
 
--- to compute a table of runs, compute it so
-pub map-same : {A B : Type 0} (f g : A → B) → ((x : A) → f x ≡ g x) → (xs : List A) → map f xs ≡ map g xs
+-- To compute a table of runs, compute it so, and test it.
+map-same : {A B : Type 0} (f g : A → B) → ((x : A) → f x ≡ g x) → (xs : List A) → map f xs ≡ map g xs
 map-same f g h [] = refl
 map-same f g h (x ∷ xs) = ap₂ (λ y ys. y ∷ ys) (h x) (map-same f g h xs)
+
+pub computed : {A B : Type 0} (s : Sameness B) (f g e : A → B) → ((x : A) → f x ≡ g x) → (xs : List A)
+    → lists s .test (map g xs) (map e xs) ≡ true → map f xs ≡ map e xs
+computed s f g e h xs t = map-same f g h xs ∙ lists s .sound (map g xs) (map e xs) t
 
 abbrev pub table : List Trial
 table =
@@ -155,6 +161,9 @@ table =
     ∷ []
 
 -- Every run of the table goes as the table says.
+runs-pass : lists responses .test (map quickReplay table) (map (λ t. t .replies) table) ≡ true
+unfolding quickReplay lists responses
+runs-pass = passes
+
 pub runs-as-written : map replay table ≡ map (λ t. t .replies) table
-unfolding quickReplay
-runs-as-written = map-same replay quickReplay replay-is table
+runs-as-written = computed responses replay quickReplay (λ t. t .replies) replay-is table runs-pass

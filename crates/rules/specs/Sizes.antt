@@ -40,12 +40,15 @@ mostSteps = 100000000
 abbrev pub contentWords : ℕ
 contentWords = 16
 
--- of the contents, the word that holds the record claimed last, and the first spare one
+-- of the contents, the word that holds the record claimed last, the one that says what the scan has read, and the first spare one
 abbrev pub lastClaimedWord : ℕ
 lastClaimedWord = 11
 
+abbrev pub allHandledWord : ℕ
+allHandledWord = 12
+
 abbrev pub firstSpare : ℕ
-firstSpare = 12
+firstSpare = 13
 
 abbrev pub threadWords : ℕ
 threadWords = 8

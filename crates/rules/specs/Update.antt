@@ -1,7 +1,7 @@
 -- What writes make of the cells: which cells a write touches, and that it leaves every other one alone. A cell is told from another
 -- by its kind first, then by its field: so different fields are told apart by computing.
-use mathlib.Core.Path.{_≡_, refl, ap, ap₂, sym, _∙_}
-use mathlib.Core.Bool.{Bool, true, false, _&&_, _||_, cond}
+use mathlib.Core.Path.{_≡_, refl, ap, ap₂, sym, _∙_, fun-ext}
+use mathlib.Core.Bool.{Bool, true, false, _&&_, _||_, not, cond}
 use mathlib.Core.List.{List, [], _∷_, _++_}
 use Prim.Native.Nat.{ℕ, zero, suc, _<_}
 use native.Mathlib.Omega.{arith}
@@ -10,13 +10,14 @@ use lib.ListN.{getD}
 use borrow.Author.Tests.{eq-eqb, ne-eqb, eqb-true}
 use Rattle.history.specs.Lists.{All}
 use Rattle.rules.specs.Sizes.{threadWords}
-use Rattle.rules.specs.Cell.{Cell, content, lastClaimed, spare, consumer, producer, part, entry, drain, pair, Reader, Area, contents, ofConsumer, ofProducer, ofRecord, ofDrain, Write, _:=_, clear, stepCount}
+use Rattle.rules.specs.Cell.{Cell, content, lastClaimed, allHandled, spare, consumer, producer, part, entry, drain, pair, Reader, Area, contents, ofScan, spares, ofConsumer, ofProducer, ofRecord, ofDrain, Write, _:=_, clear, stepCount}
 
 -- The area of a cell.
 abbrev pub areaOf : Cell → Area
 areaOf (content k) = contents
 areaOf lastClaimed = contents
-areaOf (spare k) = contents
+areaOf allHandled = ofScan
+areaOf (spare k) = spares
 areaOf (consumer k) = ofConsumer
 areaOf (producer t k) = ofProducer t
 areaOf (part r k) = ofRecord r
@@ -31,6 +32,8 @@ areaKind ofConsumer = 1
 areaKind (ofProducer t) = 2
 areaKind (ofRecord r) = 3
 areaKind ofDrain = 4
+areaKind ofScan = 5
+areaKind spares = 6
 
 abbrev pub areaNumber : Area → ℕ
 areaNumber contents = 0
@@ -38,6 +41,8 @@ areaNumber ofConsumer = 0
 areaNumber (ofProducer t) = t
 areaNumber (ofRecord r) = r
 areaNumber ofDrain = 0
+areaNumber ofScan = 0
+areaNumber spares = 0
 
 abbrev pub sameArea : Area → Area → Bool
 sameArea a b = eqb (areaKind a) (areaKind b) && eqb (areaNumber a) (areaNumber b)
@@ -53,10 +58,12 @@ cellKind lastClaimed = 5
 cellKind (spare k) = 6
 cellKind (drain k) = 7
 cellKind (pair i k) = 8
+cellKind allHandled = 9
 
 abbrev pub cellField : Cell → ℕ
 cellField (content k) = k
 cellField lastClaimed = 0
+cellField allHandled = 0
 cellField (spare k) = k
 cellField (consumer k) = k
 cellField (producer t k) = k
@@ -68,6 +75,7 @@ cellField (pair i k) = k
 abbrev pub cellEntry : Cell → ℕ
 cellEntry (content k) = 0
 cellEntry lastClaimed = 0
+cellEntry allHandled = 0
 cellEntry (spare k) = 0
 cellEntry (consumer k) = 0
 cellEntry (producer t k) = 0
@@ -127,9 +135,14 @@ and-true {a} {b} p q = rw (p, q) refl
 pub true-false : {b : Bool} → b ≡ true → b ≡ false → ⊥
 true-false p q = let z : _≡_ {A = ℕ} 0 1 = cc in omega arith
 
+-- a test whose opposite passes fails
+pub not-true : (b : Bool) → not b ≡ true → b ≡ false
+not-true true e = absurd (true-false e refl)
+not-true false e = refl
+
 -- an area and a cell are known by their numbers
 areaFrom : (cellKind number : ℕ) → Area
-areaFrom k n = getD (contents ∷ ofConsumer ∷ ofProducer n ∷ ofRecord n ∷ ofDrain ∷ []) k contents
+areaFrom k n = getD (contents ∷ ofConsumer ∷ ofProducer n ∷ ofRecord n ∷ ofDrain ∷ ofScan ∷ spares ∷ []) k contents
 
 area-from : (a : Area) → areaFrom (areaKind a) (areaNumber a) ≡ a
 unfolding areaFrom
@@ -138,15 +151,18 @@ area-from ofConsumer = refl
 area-from (ofProducer t) = refl
 area-from (ofRecord r) = refl
 area-from ofDrain = refl
+area-from ofScan = refl
+area-from spares = refl
 
 cellFrom : (cellKind cellField cellEntry number : ℕ) → Cell
 cellFrom x k i n =
-    getD (content k ∷ consumer k ∷ producer n k ∷ part n k ∷ entry n i k ∷ lastClaimed ∷ spare k ∷ drain k ∷ pair i k ∷ []) x (content k)
+    getD (content k ∷ consumer k ∷ producer n k ∷ part n k ∷ entry n i k ∷ lastClaimed ∷ spare k ∷ drain k ∷ pair i k ∷ allHandled ∷ []) x (content k)
 
 cell-from : (c : Cell) → cellFrom (cellKind c) (cellField c) (cellEntry c) (areaNumber (areaOf c)) ≡ c
 unfolding cellFrom
 cell-from (content k) = refl
 cell-from lastClaimed = refl
+cell-from allHandled = refl
 cell-from (spare k) = refl
 cell-from (consumer k) = refl
 cell-from (producer t k) = refl
@@ -185,6 +201,14 @@ same-cell c =
 pub untouched : (σ : Reader) (w : Write) (d : Cell) → touches w d ≡ false → update σ w d ≡ σ d
 untouched σ w d e = rw e
 
+-- A write of what is there already changes nothing.
+pub written-already : (σ : Reader) (c : Cell) (v : ℕ) → σ c ≡ v → update σ (c := v) ≡ σ
+written-already σ c v e = fun-ext (λ d. go d (same c d) refl)
+  where
+    go : (d : Cell) (b : Bool) → same c d ≡ b → cond b v (σ d) ≡ σ d
+    go d true q = sym e ∙ ap σ (same-eq c d q)
+    go d false q = refl
+
 -- the area that a write touches
 abbrev pub areaTouched : Write → Area
 areaTouched (c := v) = areaOf c
@@ -209,16 +233,27 @@ OtherKind a b = eqb (areaKind a) (areaKind b) ≡ false
 pub other-kind : (a b : Area) → OtherKind a b → a ≡ b → ⊥
 other-kind a b n e = true-false (eq-eqb (areaKind a) (areaKind b) (ap areaKind e)) n
 
--- A write of one of the words of a thread's area.
+-- Whose area it is: the scan's word is the consumer's too.
+abbrev pub ownerOf : Area → Area
+ownerOf contents = contents
+ownerOf ofScan = ofConsumer
+ownerOf spares = spares
+ownerOf ofConsumer = ofConsumer
+ownerOf (ofProducer t) = ofProducer t
+ownerOf (ofRecord r) = ofRecord r
+ownerOf ofDrain = ofDrain
+
+-- A write of one of the words of a thread.
 abbrev pub fieldTouched : Write → ℕ
 fieldTouched (c := v) = cellField c
 fieldTouched (clear a) = 0
 
 abbrev pub Own : Area → Write → Type 0
-Own a w = (areaTouched w ≡ a) × (fieldTouched w < threadWords)
+Own a w = (ownerOf (areaTouched w) ≡ a) × (fieldTouched w < threadWords)
 
--- Writes of an area's words leave the cells of areas of other kinds.
-pub own-leaves : (a : Area) (σ : Reader) (ws : List Write) → All (Own a) ws → (d : Cell) → OtherKind a (areaOf d) → after σ ws d ≡ σ d
+-- Writes of a thread's words leave the cells of areas of other kinds.
+pub own-leaves : (a : Area) (σ : Reader) (ws : List Write) → All (Own a) ws → (d : Cell) → OtherKind a (ownerOf (areaOf d)) → after σ ws d ≡ σ d
 own-leaves a σ [] h d n = refl
 own-leaves a σ (w ∷ ws) h d n =
-    own-leaves a (update σ w) ws (h .1) d n ∙ other-area σ w d (λ e. other-kind a (areaOf d) n (sym (h .0 .0) ∙ e))
+    own-leaves a (update σ w) ws (h .1) d n
+    ∙ other-area σ w d (λ e. other-kind a (ownerOf (areaOf d)) n (sym (h .0 .0) ∙ ap ownerOf e))

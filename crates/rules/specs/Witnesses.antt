@@ -1,5 +1,6 @@
 -- Further runs, computed: that the rules do all that the theorems speak of, and what the traps of document 01 would get wrong.
 use mathlib.Core.Path.{_≡_, ap}
+use mathlib.Core.Bool.{true}
 use mathlib.Core.List.{List, [], _∷_, _++_, map}
 use Prim.Native.Nat.{ℕ, suc}
 use lib.ListN.{replicate}
@@ -8,7 +9,9 @@ use Rattle.rules.specs.Cell.{Write, reader, writes, _:=_, lastClaimed, t
 use Rattle.rules.specs.Rule.{Response, refused, accepted, ok, started, going, ended, empty, item}
 use Rattle.rules.specs.Request.{Request, startEnqueue, startDequeue, step, opened}
 use Rattle.rules.specs.Play.{Played}
-use Rattle.rules.specs.Runs.{Trial, sized, times, plain, first, goings, ends, begun, call, playedOn, quickOn, played-on, repliesTo, quickReplies, replies-to, replay, quickReplay, replay-is, map-same}
+use Rattle.rules.specs.FoldRuns as fold
+use Rattle.rules.specs.Runs.{Trial, sized, times, plain, first, goings, ends, begun, call, playedOn, quickOn, played-on, repliesTo, quickReplies, replies-to, replay, quickReplay, replay-is, computed}
+use Rattle.rules.specs.Sameness.{passes-after, lists, responses, wordLists}
 
 abbrev pub witnesses : List Trial
 witnesses =
@@ -251,9 +254,12 @@ witnesses =
     }
     ∷ []
 
+witnesses-pass : lists responses .test (map quickReplay witnesses) (map (λ t. t .replies) witnesses) ≡ true
+unfolding quickReplay lists responses
+witnesses-pass = passes-after fold.claims-as-written
+
 pub witnesses-as-written : map replay witnesses ≡ map (λ t. t .replies) witnesses
-unfolding quickReplay
-witnesses-as-written = map-same replay quickReplay replay-is witnesses
+witnesses-as-written = computed responses replay quickReplay (λ t. t .replies) replay-is witnesses witnesses-pass
 
 -- Calls on a store that the engine did not write: an opened one, where some cells were then written.
 pub record Probe : Type 0 where
@@ -361,9 +367,12 @@ probes =
     ∷ record { sizes = sized 2 2 1 9; cells = stepCount 1 := 1 ∷ []; requests = startDequeue ∷ []; replies = refused 3 ∷ [] }
     ∷ []
 
+probes-pass : lists responses .test (map quickProbe probes) (map (λ p. p .replies) probes) ≡ true
+unfolding quickProbe lists responses
+probes-pass = passes-after witnesses-as-written
+
 pub probes-as-written : map probe probes ≡ map (λ p. p .replies) probes
-unfolding quickProbe
-probes-as-written = map-same probe quickProbe probe-is probes
+probes-as-written = computed responses probe quickProbe (λ p. p .replies) probe-is probes probes-pass
 
 -- A claim on a store of four records (document 02, U1): the record claimed last (word 11), the use of each record, and what the producer's
 -- claimed word and word 11 hold afterwards. All record numbers as stored, plus one.
@@ -420,6 +429,9 @@ claims =
     ∷ findsNone 3 (2 ∷ 2 ∷ 1 ∷ 2 ∷ [])
     ∷ []
 
+claims-pass : lists wordLists .test (map quickClaimed claims) (map (λ c. c .leaves) claims) ≡ true
+unfolding quickClaimed lists wordLists
+claims-pass = passes-after probes-as-written
+
 pub claims-as-written : map claimedWords claims ≡ map (λ c. c .leaves) claims
-unfolding quickClaimed
-claims-as-written = map-same claimedWords quickClaimed claimed-is claims
+claims-as-written = computed wordLists claimedWords quickClaimed (λ c. c .leaves) claimed-is claims claims-pass

@@ -28,7 +28,7 @@ module _ (z : Sizes) (σ : Reader) (γ : Ghost) (good : Good z σ γ) where
   pub linked-most : (r : ℕ) → σ (used r) ≡ 2 → suc r ≤ z .N
   linked-most r u =
       let o = m .chain .only r u in
-      subst (λ (x : ℕ). suc x ≤ z .N) (o .2) (m .chain .fits (σ (place r)) (o .0) (o .1))
+      subst (λ (x : ℕ). suc x ≤ z .N) (o .1) (m .chain .fits (σ (place r)) (o .0))
 
   -- a record of place lo or more is there
   pub some-record : (x : ℕ) → γ .shape .lo ≤ placeOf (placesOf σ) x → x ≡ 0 → ⊥

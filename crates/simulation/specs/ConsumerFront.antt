@@ -26,9 +26,10 @@ use Rattle.simulation.specs.View.{Ghost, view}
 use Rattle.simulation.specs.Good.{Good, Fine, by-need, by-cond, by-up-to}
 use Rattle.simulation.specs.Told.{early, tells-going}
 use Rattle.simulation.specs.Rows.{ConsumerWords, of-sort, has-sort}
+use Rattle.simulation.specs.OwnWords.{scan-none}
 use Rattle.simulation.specs.Entries.{by-inside, slot, slot-state}
 use Rattle.simulation.specs.ConsumerRetire.{by-move-head, retires}
-use Rattle.simulation.specs.ConsumerSteps.{by-state, consumer-words, consumer-at, tail-fits, head-placed, head-linked, head-record-linked, head-record-placed, tail-record-is, not-tail-record, answers-empty, consumer-goes, consumer-light}
+use Rattle.simulation.specs.ConsumerSteps.{by-state, consumer-words, consumer-at, tail-fits, no-scan, head-placed, head-linked, head-record-linked, head-record-placed, tail-record-is, not-tail-record, answers-empty, consumer-goes, consumer-light}
 
 module _ (z : Sizes) (σ : Reader) (γ : Ghost) (good : Good z σ γ) where
   m : Memory z σ (γ .shape)
@@ -51,6 +52,7 @@ module _ (z : Sizes) (σ : Reader) (γ : Ghost) (good : Good z σ γ) where
       (record { cursor-record = has-sort z record-number (σ headRecord) (good .range .words headRecord (omega arith)) .1; cursor-position = room; found-record = words .found-record; found-position = words .found-position; item-number = words .item-number; item-value = words .item-value; steps = words .steps })
       (head-linked z σ γ good, m .found)
       (ap (State.scanning (suc (σ headPosition))) (head-placed z σ γ good))
+      (scan-none z σ γ good _ _ (no-scan z σ γ good 2 e refl))
       (read-tail (z .B) (view σ γ) (good .model) seen n)))
     where
       seen : view σ γ .consumer ≡ State.reading
@@ -99,6 +101,7 @@ module _ (z : Sizes) (σ : Reader) (γ : Ghost) (good : Good z σ γ) where
         (λ u k. refl)
         (refl, refl)
         (good .range .consuming, good .range .draining)
+        (no-scan z σ γ good 1 e refl)
         (m .cursor, m .found)
         (good .agrees)
         (advance-head (z .B) (view σ γ) (good .model) seen-front n g)
@@ -120,6 +123,7 @@ module _ (z : Sizes) (σ : Reader) (γ : Ghost) (good : Good z σ γ) where
         by-cond (Fine z σ γ (step 0)) (eqb (σ drainCount) 0) _ _
         (λ c.
         consumer-goes z σ γ good (early σ e (omega arith)) (consumerPhase := 2 ∷ []) 2 _ ((refl, omega arith), tt) refl (omega arith) (record { cursor-record = front-words .cursor-record; cursor-position = front-words .cursor-position; found-record = front-words .found-record; found-position = front-words .found-position; item-number = front-words .item-number; item-value = front-words .item-value; steps = front-words .steps }) (m .cursor, m .found) refl
+        (scan-none z σ γ good _ _ (no-scan z σ γ good 1 e refl))
         (front-blank (z .B) (view σ γ) (good .model) seen-front n b))
         (λ c. answers-empty z σ γ good (early σ e (omega arith)) (ap isBusy seen-front) (λ none. absurd (eqb-false (σ drainCount) 0 c none))))
         (λ b.
@@ -130,6 +134,7 @@ module _ (z : Sizes) (σ : Reader) (γ : Ghost) (good : Good z σ γ) where
         (record { cursor-record = front-words .cursor-record; cursor-position = omega (arith, front-words .cursor-position); found-record = head-fits; found-position = position-fits; item-number = front-words .item-number; item-value = front-words .item-value; steps = front-words .steps })
         (m .cursor, linked)
         (ap (State.found (σ headPosition)) placed)
+        (scan-none z σ γ good _ _ (no-scan z σ γ good 1 e refl))
         (front-found (z .B) (view σ γ) (good .model) seen-front n b))
         (advances n))
 
@@ -137,7 +142,7 @@ module _ (z : Sizes) (σ : Reader) (γ : Ghost) (good : Good z σ γ) where
     moves : σ headPosition ≡ z .B * γ .shape .lo → γ .shape .lo < γ .shape .tp → Fine z σ γ (step 0) (moveHead z σ h goes)
     moves at-end more =
         by-move-head z σ γ good at-end more (Fine z σ γ (step 0)) h q goes
-        (retires z σ γ good at-end more (subst⁻¹ (ConsumerOk (z .B) (retireHead (z .B) (view σ γ) (γ .shape .lo))) seen-front tt) (front-words .cursor-record) (front-words .found-record))
+        (λ k move. retires z σ γ good at-end more k move (subst⁻¹ (ConsumerOk (z .B) (retireHead (z .B) (view σ γ) k)) seen-front tt) (front-words .cursor-record) (front-words .found-record))
 
   pub front-fine : σ consumerPhase ≡ 1 → Fine z σ γ (step 0) (front z σ)
   unfolding front

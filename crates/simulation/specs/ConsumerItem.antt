@@ -15,7 +15,7 @@ use Rattle.history.specs.Linearization.{Item}
 use Rattle.criterion.specs.Growth.{dequeue-may-start, dequeue-may-give}
 use Rattle.criterion.specs.Late
 use Rattle.rules.specs.Sizes.{Sizes, mostDrained}
-use Rattle.rules.specs.Cell.{Reader, Write, _:=_, clearConsumer, tail, tailRecord, headRecord, headPosition, consumer, consumerPhase, cursorRecord, foundRecord, foundPosition, itemNumber, itemValue, scanned, drain, pair, drainLimit, drainCount, pairNumber, pairValue, part, place, used, state, entryNumber, entryValue, entry}
+use Rattle.rules.specs.Cell.{Reader, Write, _:=_, clearConsumer, tail, tailRecord, headRecord, headPosition, allHandled, consumer, consumerPhase, cursorRecord, foundRecord, foundPosition, itemNumber, itemValue, scanned, drain, pair, drainLimit, drainCount, pairNumber, pairValue, part, place, used, state, entryNumber, entryValue, entry}
 use Rattle.rules.specs.Update.{after, update, both, neither}
 use Rattle.rules.specs.Range.{number, foundSorts, itemSorts, consumerSorts, lastConsumerPhase, threadInRange, consumerInRange, drainInRange}
 use Rattle.rules.specs.Rule.{Effect, Reply, going, goes, item, drained, need, upTo, atEnd, index, inside}
@@ -38,8 +38,9 @@ use Rattle.simulation.specs.Told.{early, told-early, gone-on, tells-end}
 use Rattle.simulation.specs.DrainWords.{drain-in, drain-from, same-in, marked-in, marked-length, ended-with}
 use Rattle.simulation.specs.Rows.{ConsumerWords, consumer-row-of, of-sort, has-sort}
 use Rattle.simulation.specs.Entries.{other-record, other-entry, by-inside, Slot, slot, slot-changes, slot-number, slot-value}
+use Rattle.simulation.specs.OwnWords.{scan-none}
 use Rattle.simulation.specs.ConsumerCursor.{some-record}
-use Rattle.simulation.specs.ConsumerSteps.{withEntries, cleared, consumer-words, consumer-at, tail-fits, head-record-linked, head-record-placed, not-tail-record, resting-in-range, none-counted, zero-in-range, consumer-goes, consumer-light}
+use Rattle.simulation.specs.ConsumerSteps.{withEntries, cleared, consumer-words, consumer-at, tail-fits, no-scan, head-record-linked, head-record-placed, not-tail-record, resting-in-range, none-counted, zero-in-range, consumer-goes, consumer-light}
 
 module _ (z : Sizes) (σ : Reader) (γ : Ghost) (good : Good z σ γ) where
   m : Memory z σ (γ .shape)
@@ -89,6 +90,7 @@ module _ (z : Sizes) (σ : Reader) (γ : Ghost) (good : Good z σ γ) where
       (m .cursor, m .found)
       (ap₂ (λ (n v : ℕ). State.holding (σ foundPosition) (placeOf (placesOf σ) (σ foundRecord)) (record { number = n; value = v }))
       (slot-number z σ γ r (σ foundPosition) s (good .agrees)) (slot-value z σ γ r (σ foundPosition) s (good .agrees)))
+      (scan-none z σ γ good _ _ (no-scan z σ γ good 6 e refl))
       (read-item (z .B) (view σ γ) (good .model) _ _ seen))
     where
       seen : view σ γ .consumer ≡ State.found (σ foundPosition) (placeOf (placesOf σ) (σ foundRecord))
@@ -144,7 +146,7 @@ module _ (z : Sizes) (σ : Reader) (γ : Ghost) (good : Good z σ γ) where
         (entries : (y j k : ℕ) → after σ ws (entry y j k) ≡ update σ (state r i := 2) (entry y j k))
         (rows : (u k : ℕ) → rowOf (after σ ws) u k ≡ rowOf σ u k)
         (ends : (after σ ws tailRecord ≡ σ tailRecord) × (after σ ws headRecord ≡ σ headRecord))
-        (tails : σ tail ≤ after σ ws tail) where
+        (tails : σ tail ≤ after σ ws tail) (word-same : after σ ws allHandled ≡ σ allHandled) where
       marking : (consumerInRange z (after σ ws) ≡ true) × (drainInRange z (after σ ws) ≡ true)
           → Linked σ (after σ ws cursorRecord) × Linked σ (after σ ws foundRecord)
           → Invariant (z .B) (view (after σ ws) (withEntries γ (override (γ .entry) (σ foundPosition) gone) h))
@@ -157,8 +159,9 @@ module _ (z : Sizes) (σ : Reader) (γ : Ghost) (good : Good z σ γ) where
           rows
           ends
           in-row
+          (word-same ∙ no-scan z σ γ good 7 e refl)
           linked
-          (subst⁻¹ (Agrees (z .B) (γ .shape .lo) (γ .shape .hi) (γ .shape .at) (override (γ .entry) (σ foundPosition) gone) (γ .content))
+          (subst⁻¹ (Agrees (z .B) (γ .shape .lo) (γ .shape .hi) (γ .shape .gap) (γ .shape .at) (override (γ .entry) (σ foundPosition) gone) (γ .content))
           (fun-ext (λ y. fun-ext (λ j. fun-ext (λ k. entries y j k))))
           marked)
           model
@@ -187,7 +190,7 @@ module _ (z : Sizes) (σ : Reader) (γ : Ghost) (good : Good z σ γ) where
       takes-item =
           let ws : List Write = state r i := 2 ∷ clearConsumer ∷ [] in
           marking (item (σ itemNumber) (σ itemValue)) ws given (refl, (refl, tt)) ((s .fits, s .here .below, omega arith), (tt, tt))
-          (λ y k. refl) (λ y j k. refl) (λ u k. refl) (refl, refl) (omega arith)
+          (λ y k. refl) (λ y j k. refl) (λ u k. refl) (refl, refl) (omega arith) refl
           (rests ws (λ k. refl) (λ k. refl) (λ j k. refl))
           (tt, tt)
           (take-item (z .B) (view σ γ) (good .model) _ _ _ seen)
@@ -200,7 +203,7 @@ module _ (z : Sizes) (σ : Reader) (γ : Ghost) (good : Good z σ γ) where
           let ws : List Write = state r i := 2 ∷ headPosition := suc (σ headPosition) ∷ clearConsumer ∷ [] in
           marking (item (σ itemNumber) (σ itemValue)) ws given (refl, (of-sort z number (suc (σ headPosition)) room, (refl, tt)))
           ((s .fits, s .here .below, omega arith), (omega arith, (tt, tt)))
-          (λ y k. refl) (λ y j k. refl) (λ u k. refl) (refl, refl) (omega arith)
+          (λ y k. refl) (λ y j k. refl) (λ u k. refl) (refl, refl) (omega arith) refl
           (rests ws (λ k. refl) (λ k. refl) (λ j k. refl))
           (tt, tt)
           (take-front (z .B) (view σ γ) (good .model) _ _ _ seen f)
@@ -214,7 +217,7 @@ module _ (z : Sizes) (σ : Reader) (γ : Ghost) (good : Good z σ γ) where
           let ws : List Write = state r i := 2 ∷ headPosition := suc (σ headPosition) ∷ foundRecord := 0 ∷ foundPosition := 0 ∷ consumerPhase := 8 ∷ [] in
           marking going ws (dequeueStarted ∷ given) (refl, (of-sort z number (suc (σ headPosition)) room, (refl, (refl, (refl, tt)))))
           ((s .fits, s .here .below, omega arith), (omega arith, (omega arith, (omega arith, (omega arith, tt)))))
-          (λ y k. refl) (λ y j k. refl) (λ u k. refl) (refl, refl) (omega arith) (
+          (λ y k. refl) (λ y j k. refl) (λ u k. refl) (refl, refl) (omega arith) refl (
             consumer-row-of z (λ k. after σ ws (consumer k)) 8 refl (omega arith)
                 (record { cursor-record = words .cursor-record; cursor-position = words .cursor-position; found-record = refl; found-position = refl; item-number = words .item-number; item-value = tt; steps = words .steps }),
             drain-from z (after σ ws)
@@ -321,7 +324,7 @@ module _ (z : Sizes) (σ : Reader) (γ : Ghost) (good : Good z σ γ) where
           let ws : List Write = (state r i := 2 ∷ keepItem z σ) ++ cleared in
           marking (drained marked-now) ws given (refl, (refl, (refl, (refl, (refl, (refl, tt))))))
           ((s .fits, s .here .below, omega arith), ((fits, omega arith), ((fits, omega arith), (omega arith, (tt, (tt, tt))))))
-          (λ y k. refl) (λ y j k. refl) (λ u k. refl) (refl, refl) (omega arith)
+          (λ y k. refl) (λ y j k. refl) (λ u k. refl) (refl, refl) (omega arith) refl
           (zero-in-range z σ γ good ws (record { words = λ k. refl; limit = refl; count = refl; pairs = λ j k. refl }))
           (tt, tt)
           (take-item (z .B) (view σ γ) (good .model) _ _ _ seen)
@@ -334,7 +337,7 @@ module _ (z : Sizes) (σ : Reader) (γ : Ghost) (good : Good z σ γ) where
           let ws : List Write = (state r i := 2 ∷ headPosition := suc (σ headPosition) ∷ keepItem z σ) ++ cleared in
           marking (drained marked-now) ws given (refl, (of-sort z number (suc (σ headPosition)) room, (refl, (refl, (refl, (refl, (refl, tt)))))))
           ((s .fits, s .here .below, omega arith), (omega arith, ((fits, omega arith), ((fits, omega arith), (omega arith, (tt, (tt, tt)))))))
-          (λ y k. refl) (λ y j k. refl) (λ u k. refl) (refl, refl) (omega arith)
+          (λ y k. refl) (λ y j k. refl) (λ u k. refl) (refl, refl) (omega arith) refl
           (zero-in-range z σ γ good ws (record { words = λ k. refl; limit = refl; count = refl; pairs = λ j k. refl }))
           (tt, tt)
           (take-front (z .B) (view σ γ) (good .model) _ _ _ seen f)
@@ -358,7 +361,7 @@ module _ (z : Sizes) (σ : Reader) (γ : Ghost) (good : Good z σ γ) where
             let kept : Kept ws 1 = kept-by ws 1 refl refl refl (λ j k. refl) in
             marking going ws (dequeueStarted ∷ given) (refl, (refl, (refl, (refl, (refl, (refl, (refl, (refl, (refl, tt)))))))))
             ((s .fits, s .here .below, omega arith), ((fits, omega arith), ((fits, omega arith), (omega arith, (omega arith, (omega arith, (omega arith, (omega arith, (omega arith, tt)))))))))
-            (λ y k. refl) (λ y j k. refl) (λ u k. refl) (refl, refl) (omega arith)
+            (λ y k. refl) (λ y j k. refl) (λ u k. refl) (refl, refl) (omega arith) refl
             (front-in-range not-scanned ws (λ k. refl), kept-in-range ws 1 (λ y. omega arith) kept)
             (m .cursor, tt)
             (begin-dequeue (z .B) _ (take-item (z .B) (view σ γ) (good .model) _ _ _ seen))
@@ -372,7 +375,7 @@ module _ (z : Sizes) (σ : Reader) (γ : Ghost) (good : Good z σ γ) where
             let kept : Kept ws 1 = kept-by ws 1 refl refl refl (λ j k. refl) in
             marking going ws (dequeueStarted ∷ given) (refl, (of-sort z number (suc (σ headPosition)) room, (refl, (refl, (refl, (refl, (refl, (refl, (refl, (refl, tt))))))))))
             ((s .fits, s .here .below, omega arith), (omega arith, ((fits, omega arith), ((fits, omega arith), (omega arith, (omega arith, (omega arith, (omega arith, (omega arith, (omega arith, tt))))))))))
-            (λ y k. refl) (λ y j k. refl) (λ u k. refl) (refl, refl) (omega arith)
+            (λ y k. refl) (λ y j k. refl) (λ u k. refl) (refl, refl) (omega arith) refl
             (front-in-range not-scanned ws (λ k. refl), kept-in-range ws 1 (λ y. omega arith) kept)
             (m .cursor, tt)
             (begin-dequeue (z .B) _ (take-front (z .B) (view σ γ) (good .model) _ _ _ seen f))
@@ -387,7 +390,7 @@ module _ (z : Sizes) (σ : Reader) (γ : Ghost) (good : Good z σ γ) where
           let kept : Kept ws 8 = kept-by ws 8 refl refl refl (λ j k. refl) in
           marking going ws (dequeueStarted ∷ given) (refl, (of-sort z number (suc (σ headPosition)) room, (refl, (refl, (refl, (refl, (refl, (refl, tt))))))))
           ((s .fits, s .here .below, omega arith), (omega arith, (omega arith, (omega arith, (omega arith, ((fits, omega arith), ((fits, omega arith), (omega arith, tt))))))))
-          (λ y k. refl) (λ y j k. refl) (λ u k. refl) (refl, refl) (omega arith) (
+          (λ y k. refl) (λ y j k. refl) (λ u k. refl) (refl, refl) (omega arith) refl (
             consumer-row-of z (λ k. after σ ws (consumer k)) 8 refl (omega arith)
                 (record { cursor-record = words .cursor-record; cursor-position = words .cursor-position; found-record = refl; found-position = refl; item-number = words .item-number; item-value = tt; steps = words .steps }),
             kept-in-range ws 8 (λ y. omega arith) kept,

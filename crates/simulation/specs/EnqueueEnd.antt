@@ -58,15 +58,15 @@ module _ (z : Sizes) (σ : Reader) (γ : Ghost) (good : Good z σ γ) (t : ℕ) 
   end-adds x e = ap (λ (h : History). h ++ γ .history) (sym (repeats-its-start t x (γ .history) (under-way x e)))
 
 -- A producer whose words are all zero is idle.
-module _ (z : Sizes) (lo : ℕ) (σ : Reader) (row : ℕ → ℕ) (none : (k : ℕ) → row k ≡ 0) where
+module _ (z : Sizes) (σ : Reader) (row : ℕ → ℕ) (none : (k : ℕ) → row k ≡ 0) where
   pub idle-in-range : threadInRange z lastProducerPhase producerSorts row ≡ true
   idle-in-range =
       producer-row-of z row 0 (none 0) (omega arith)
       (record { call = none 1; value = none 2; position = none 3; held = none 4; claimed = none 5; backed = none 6; steps = none 7 })
 
-  pub idle-thread : ThreadOk (z .N) lo σ row
+  pub idle-thread : ThreadOk z σ row
   idle-thread =
-      unclaimed (z .N) lo σ row (rw none tt) (none 5) (λ l. absurd (omega (arith, none 0))) (λ e. omega (arith, none 0)) (λ e. omega (arith, none 0))
+      unclaimed z σ row (rw none tt) (none 5) (λ l. absurd (omega (arith, none 0))) (λ e. omega (arith, none 0)) (λ e. omega (arith, none 0)) (λ e. absurd (omega (arith, none 0)))
 
   pub idle-seen : (places : ℕ → ℕ) → producerOf places row ≡ idle
   idle-seen places = ap (λ (p : ℕ). producerAt p (row 1) (row 2) (row 3) (placeOf places (row 4))) (none 0)

@@ -1,7 +1,7 @@
 -- The entry at a position: where it stands, and what a write of it leaves alone.
 use mathlib.Core.Path.{_≡_, refl, ap, sym, _∙_}
-use mathlib.Core.Bool.{true, false, _&&_, and-false}
-use Prim.Native.Nat.{ℕ, zero, suc, _+_, _*_, _/_, _≤_, _<_}
+use mathlib.Core.Bool.{Bool, true, false, _&&_, and-false}
+use Prim.Native.Nat.{ℕ, zero, suc, _+_, _*_, _/_, _<_}
 use native.Mathlib.Nat.{mul-comm, mul-le-mul-left}
 use native.Mathlib.Decide.{ℕ-discrete}
 use native.Mathlib.Omega.{arith}
@@ -12,11 +12,12 @@ use Rattle.history.specs.Linearization.{Item}
 use Rattle.rules.specs.Sizes.{Sizes}
 use Rattle.rules.specs.Cell
 use Rattle.rules.specs.Cell.{Reader, place, used}
-use Rattle.rules.specs.Update.{and-true}
+use Rattle.rules.specs.Update.{and-true, true-false}
 use Rattle.rules.specs.Rule.{Effect, within, index, inside}
 use Rattle.model.specs.State.{Entry}
 use Rattle.model.specs.Invariant.{Inside}
-use Rattle.memory.specs.Memory.{ChainShape, ChainOf}
+use Rattle.memory.specs.Listed.{Listed}
+use Rattle.memory.specs.Memory.{ChainShape, ListedIn, ChainOf}
 use Rattle.simulation.specs.View.{Ghost, codeOf, Agrees, AgreesWith, cellOf}
 
 -- Positions in records: each is one index of one record.
@@ -44,9 +45,9 @@ module _ (z : Sizes) (σ : Reader) (r p : ℕ) (h : Inside (z .B) p (σ (place r
       let q : z .B * σ (place r) ≡ z .B * j + z .B = ap (λ (x : ℕ). z .B * x) e ∙ omega arith in
       record { below = omega (arith, h .0, h .1); is = omega (arith, h .0, h .1) }
 
-module _ (B lo hi : ℕ) (at : ℕ → ℕ) (entry entry′ : ℕ → Entry) (content content′ : ℕ → Item) (cell cell′ : ℕ → ℕ → ℕ → ℕ)
-    (j i : ℕ) (first : lo ≤ suc j) (last : suc j ≤ hi) (below : i < B)
-    (apart : (a b : ℕ) → lo ≤ a → a ≤ hi → lo ≤ b → b ≤ hi → at a ≡ at b → a ≡ b) where
+module _ (B lo hi : ℕ) (gap : ℕ → Bool) (at : ℕ → ℕ) (entry entry′ : ℕ → Entry) (content content′ : ℕ → Item) (cell cell′ : ℕ → ℕ → ℕ → ℕ)
+    (j i : ℕ) (listed : Listed lo hi gap (suc j)) (below : i < B)
+    (apart : (a b : ℕ) → Listed lo hi gap a → Listed lo hi gap b → at a ≡ at b → a ≡ b) where
   -- A write of the entry at position B × j + i, in the record of place suc j.
   pub agrees-changes :
       ((p : ℕ) → (p ≡ B * j + i → ⊥) → (entry′ p ≡ entry p) × (content′ p ≡ content p))
@@ -54,34 +55,35 @@ module _ (B lo hi : ℕ) (at : ℕ → ℕ) (entry entry′ : ℕ → Entry) (co
       → (cell′ (at (suc j)) i 0 ≡ codeOf (entry′ (B * j + i)))
       → (cell′ (at (suc j)) i 1 ≡ content′ (B * j + i) .number)
       → (cell′ (at (suc j)) i 2 ≡ content′ (B * j + i) .value)
-      → Agrees B lo hi at entry content cell → Agrees B lo hi at entry′ content′ cell′
+      → Agrees B lo hi gap at entry content cell → Agrees B lo hi gap at entry′ content′ cell′
   agrees-changes elsewhere others state number value a =
       record {
-        states = λ k b l h s. each (λ k b. cell′ (at (suc k)) b 0 ≡ codeOf (entry′ (B * k + b))) state (λ k b l h s n. cells k b 0 l h n ∙ a .states k b l h s ∙ ap codeOf (sym (elsewhere (B * k + b) (positions k b s n) .0))) k b l h s;
-        numbers = λ k b l h s. each (λ k b. cell′ (at (suc k)) b 1 ≡ content′ (B * k + b) .number) number (λ k b l h s n. cells k b 1 l h n ∙ a .numbers k b l h s ∙ ap (λ (x : Item). x .number) (sym (elsewhere (B * k + b) (positions k b s n) .1))) k b l h s;
-        values = λ k b l h s. each (λ k b. cell′ (at (suc k)) b 2 ≡ content′ (B * k + b) .value) value (λ k b l h s n. cells k b 2 l h n ∙ a .values k b l h s ∙ ap (λ (x : Item). x .value) (sym (elsewhere (B * k + b) (positions k b s n) .1))) k b l h s;
-        fresh = λ p l. elsewhere p (λ e. omega (arith, mul-le-mul-left B last)) .1 ∙ a .fresh p l;
+        states = λ k b l s. each (λ k b. cell′ (at (suc k)) b 0 ≡ codeOf (entry′ (B * k + b))) state (λ k b l s n. cells k b 0 l n ∙ a .states k b l s ∙ ap codeOf (sym (elsewhere (B * k + b) (positions k b s n) .0))) k b l s;
+        numbers = λ k b l s. each (λ k b. cell′ (at (suc k)) b 1 ≡ content′ (B * k + b) .number) number (λ k b l s n. cells k b 1 l n ∙ a .numbers k b l s ∙ ap (λ (x : Item). x .number) (sym (elsewhere (B * k + b) (positions k b s n) .1))) k b l s;
+        values = λ k b l s. each (λ k b. cell′ (at (suc k)) b 2 ≡ content′ (B * k + b) .value) value (λ k b l s n. cells k b 2 l n ∙ a .values k b l s ∙ ap (λ (x : Item). x .value) (sym (elsewhere (B * k + b) (positions k b s n) .1))) k b l s;
+        folded = λ k b g s. elsewhere (B * k + b) (positions k b s (λ e q. true-false (rw e at g) (listed .no-gap))) .0 ∙ a .folded k b g s;
+        fresh = λ p l. elsewhere p (λ e. omega (arith, mul-le-mul-left B (listed .to))) .1 ∙ a .fresh p l;
       }
     where
       positions : (k b : ℕ) → b < B → (k ≡ j → b ≡ i → ⊥) → B * k + b ≡ B * j + i → ⊥
       positions k b s n e = let q = position-apart B k j b i s below e in n (q .0) (q .1)
 
-      cells : (k b c : ℕ) → lo ≤ suc k → suc k ≤ hi → (k ≡ j → b ≡ i → ⊥) → cell′ (at (suc k)) b c ≡ cell (at (suc k)) b c
-      cells k b c l h n = others (at (suc k)) b c (λ e q. n (let w : suc k ≡ suc j = apart (suc k) (suc j) l h first last e in omega arith) q)
+      cells : (k b c : ℕ) → Listed lo hi gap (suc k) → (k ≡ j → b ≡ i → ⊥) → cell′ (at (suc k)) b c ≡ cell (at (suc k)) b c
+      cells k b c l n = others (at (suc k)) b c (λ e q. n (let w : suc k ≡ suc j = apart (suc k) (suc j) l listed e in omega arith) q)
 
       each : (Q : ℕ → ℕ → Type 0) → Q j i
-          → ((k b : ℕ) → lo ≤ suc k → suc k ≤ hi → b < B → (k ≡ j → b ≡ i → ⊥) → Q k b)
-          → (k b : ℕ) → lo ≤ suc k → suc k ≤ hi → b < B → Q k b
-      each Q here there k b l h s = go (ℕ-discrete k j) (ℕ-discrete b i)
+          → ((k b : ℕ) → Listed lo hi gap (suc k) → b < B → (k ≡ j → b ≡ i → ⊥) → Q k b)
+          → (k b : ℕ) → Listed lo hi gap (suc k) → b < B → Q k b
+      each Q here there k b l s = go (ℕ-discrete k j) (ℕ-discrete b i)
         where
           go : Dec (k ≡ j) → Dec (b ≡ i) → Q k b
           go (yes p) (yes q) = rw (p, q) here
-          go (yes p) (no q) = there k b l h s (λ e f. q f)
-          go (no p) q = there k b l h s (λ e f. p e)
+          go (yes p) (no q) = there k b l s (λ e f. q f)
+          go (no p) q = there k b l s (λ e f. p e)
 
 -- Two places of the chain have two records.
-pub records-apart : (z : Sizes) (σ : Reader) (g : ChainShape) → ChainOf z σ g → (a b : ℕ) → g .lo ≤ a → a ≤ g .hi → g .lo ≤ b → b ≤ g .hi → g .at a ≡ g .at b → a ≡ b
-records-apart z σ g c a b la ha lb hb e = sym (c .placed a la ha) ∙ ap (λ (x : ℕ). σ (place x)) e ∙ c .placed b lb hb
+pub records-apart : (z : Sizes) (σ : Reader) (g : ChainShape) → ChainOf z σ g → (a b : ℕ) → ListedIn g a → ListedIn g b → g .at a ≡ g .at b → a ≡ b
+records-apart z σ g c a b la lb e = sym (c .placed a la) ∙ ap (λ (x : ℕ). σ (place x)) e ∙ c .placed b lb
 
 -- A record that is not linked is another one than one that is.
 pub other-record : (σ : Reader) (h : ℕ) → σ (used h) ≡ 2 → (x : ℕ) → (σ (used x) ≡ 2 → ⊥) → eqb h x ≡ false
@@ -101,28 +103,25 @@ pub record Slot (z : Sizes) (σ : Reader) (g : ChainShape) (r p : ℕ) : Type 0 
   pub placed : σ (place r) ≡ suc before
   pub linked : σ (used r) ≡ 2
   pub at-is : g .at (suc before) ≡ r
-  pub first : g .lo ≤ suc before
-  pub last : suc before ≤ g .hi
+  pub listed : ListedIn g (suc before)
   pub fits : r < z .N
   pub here : Stands (z .B) p before (index z σ r p)
 
 pub slot : (z : Sizes) (σ : Reader) (g : ChainShape) → ChainOf z σ g → (r p : ℕ) → σ (used r) ≡ 2 → Inside (z .B) p (σ (place r)) → Slot z σ g r p
 slot z σ g c r p u h = go (σ (place r)) refl (c .only r u)
   where
-    go : (k : ℕ) → σ (place r) ≡ k → (g .lo ≤ σ (place r)) × (σ (place r) ≤ g .hi) × (g .at (σ (place r)) ≡ r) → Slot z σ g r p
+    go : (k : ℕ) → σ (place r) ≡ k → ListedIn g (σ (place r)) × (g .at (σ (place r)) ≡ r) → Slot z σ g r p
     go zero e o = let q : z .B * σ (place r) ≡ 0 = ap (λ (x : ℕ). z .B * x) e ∙ omega arith in absurd (omega (arith, h .0))
     go (suc j) e o =
-        let is : g .at (suc j) ≡ r = ap (g .at) (sym e) ∙ o .2 in
-        let first : g .lo ≤ suc j = omega (arith, o .0) in
-        let last : suc j ≤ g .hi = omega (arith, o .1) in
+        let is : g .at (suc j) ≡ r = ap (g .at) (sym e) ∙ o .1 in
+        let listed : ListedIn g (suc j) = rw e at (o .0) in
         record {
           before = j;
           placed = e;
           linked = u;
           at-is = is;
-          first = first;
-          last = last;
-          fits = rw is at (c .fits (suc j) first last);
+          listed = listed;
+          fits = rw is at (c .fits (suc j) listed);
           here = stands z σ r p h j e;
         }
 
@@ -134,12 +133,11 @@ pub slot-changes : (z : Sizes) (σ σ′ : Reader) (g : ChainShape) → ChainOf 
     → (σ′ (Cell.entry r (index z σ r p) 0) ≡ codeOf (entry′ p))
     → (σ′ (Cell.entry r (index z σ r p) 1) ≡ content′ p .number)
     → (σ′ (Cell.entry r (index z σ r p) 2) ≡ content′ p .value)
-    → Agrees (z .B) (g .lo) (g .hi) (g .at) entry content (cellOf σ)
-    → Agrees (z .B) (g .lo) (g .hi) (g .at) entry′ content′ (cellOf σ′)
+    → Agrees (z .B) (g .lo) (g .hi) (g .gap) (g .at) entry content (cellOf σ)
+    → Agrees (z .B) (g .lo) (g .hi) (g .gap) (g .at) entry′ content′ (cellOf σ′)
 slot-changes z σ σ′ g c r p s entry entry′ content content′ elsewhere others state number value a =
-    agrees-changes (z .B) (g .lo) (g .hi) (g .at) entry entry′ content content′ (cellOf σ) (cellOf σ′) (s .before) (index z σ r p)
-    (s .first)
-    (s .last)
+    agrees-changes (z .B) (g .lo) (g .hi) (g .gap) (g .at) entry entry′ content content′ (cellOf σ) (cellOf σ′) (s .before) (index z σ r p)
+    (s .listed)
     (s .here .below)
     (records-apart z σ g c)
     (λ q n. elsewhere q (λ e. n (e ∙ sym (s .here .is))))
@@ -153,14 +151,14 @@ slot-changes z σ σ′ g c r p s entry entry′ content content′ elsewhere ot
 pub slot-state : (z : Sizes) (σ : Reader) (γ : Ghost) (r p : ℕ) → Slot z σ (γ .shape) r p → AgreesWith (z .B) σ γ
     → σ (Cell.entry r (index z σ r p) 0) ≡ codeOf (γ .entry p)
 slot-state z σ γ r p s a =
-    rw (s .at-is, s .here .is) at (a .states (s .before) (index z σ r p) (s .first) (s .last) (s .here .below))
+    rw (s .at-is, s .here .is) at (a .states (s .before) (index z σ r p) (s .listed) (s .here .below))
 
 pub slot-number : (z : Sizes) (σ : Reader) (γ : Ghost) (r p : ℕ) → Slot z σ (γ .shape) r p → AgreesWith (z .B) σ γ
     → σ (Cell.entry r (index z σ r p) 1) ≡ γ .content p .number
 slot-number z σ γ r p s a =
-    rw (s .at-is, s .here .is) at (a .numbers (s .before) (index z σ r p) (s .first) (s .last) (s .here .below))
+    rw (s .at-is, s .here .is) at (a .numbers (s .before) (index z σ r p) (s .listed) (s .here .below))
 
 pub slot-value : (z : Sizes) (σ : Reader) (γ : Ghost) (r p : ℕ) → Slot z σ (γ .shape) r p → AgreesWith (z .B) σ γ
     → σ (Cell.entry r (index z σ r p) 2) ≡ γ .content p .value
 slot-value z σ γ r p s a =
-    rw (s .at-is, s .here .is) at (a .values (s .before) (index z σ r p) (s .first) (s .last) (s .here .below))
+    rw (s .at-is, s .here .is) at (a .values (s .before) (index z σ r p) (s .listed) (s .here .below))

@@ -3,11 +3,11 @@
 --
 -- Kept and told. In phase 8 of a dequeue an item is marked and not yet told. The kept history has its end, and a dequeue opened there; what
 -- was told has neither. Everywhere else they are the same: a drain's item ends at its mark, and the next dequeue begins there.
-use mathlib.Core.Path.{_≡_, refl, sym}
+use mathlib.Core.Path.{_≡_, refl, sym, _∙_, subst⁻¹}
 use mathlib.Core.Logic.{_⊎_, inl, inr, _≢_}
 use mathlib.Core.Bool.{Bool, true, false, _&&_, cond}
-use mathlib.Core.List.{List, _++_}
-use Prim.Native.Nat.{ℕ, zero, suc, _≤_, _<_}
+use mathlib.Core.List.{List}
+use Prim.Native.Nat.{ℕ, zero, suc, _+_, _*_, _≤_, _<_}
 use native.Mathlib.Omega.{arith}
 use lib.Dec.{eqb}
 use borrow.Author.Tests.{le-leb}
@@ -16,17 +16,17 @@ use Rattle.history.specs.Event.{History, withdrawn}
 use Rattle.history.specs.Form.{wellFormed}
 use Rattle.criterion.specs.Late.{Late}
 use Rattle.rules.specs.Sizes.{Sizes, sizesInRange}
-use Rattle.rules.specs.Cell.{Cell, Reader, Write, tail, headPosition, consumerPhase, threadPhase, itemNumber, itemValue, drainLimit, drainCount, pairNumber, pairValue, place}
+use Rattle.rules.specs.Cell.{Cell, Reader, Write, tail, headPosition, allHandled, consumerPhase, threadPhase, itemNumber, itemValue, drainLimit, drainCount, pairNumber, pairValue, place}
 use Rattle.rules.specs.Update.{areaOf, after}
 use Rattle.rules.specs.Rule.{Effect, refuse, reply, need, upTo}
 use Rattle.rules.specs.Request.{Request, startEnqueue, startDequeue, startDrain, step}
 use Rattle.rules.specs.Play.{threadOf, recorded}
 use Rattle.rules.specs.Readback.{WriteThere}
 use Rattle.rules.specs.InRange.{InSort, OtherThread, others-untouched, InRange}
-use Rattle.model.specs.State.{gone}
+use Rattle.model.specs.State.{Entry, gone, Consumer, resting, front, reading, scanning, looking, rescanning, found, holding, retiring}
 use Rattle.model.specs.Invariant.{Invariant}
 use Rattle.memory.specs.Memory.{rowOf, Memory}
-use Rattle.simulation.specs.View.{Ghost, placesOf, placeOf, view, AgreesWith}
+use Rattle.simulation.specs.View.{Ghost, placesOf, placeOf, consumerOf, view, AgreesWith}
 
 -- an item is marked and not yet told
 abbrev pub untold : Reader → Bool
@@ -45,6 +45,33 @@ pub record Pending (σ : Reader) (g : History) : Type 0 where
   pub below : σ drainLimit ≢ 0 → σ consumerPhase ≢ 8 → σ drainCount < σ drainLimit
   pub some : σ drainLimit ≢ 0 → σ consumerPhase ≡ 8 → σ drainCount ≢ 0
 
+-- What word 12 says: every position of the cursor's record before the cursor is handled.
+abbrev pub Read : (B : ℕ) (entry : ℕ → Entry) → Consumer → Type 0
+Read B entry resting = Unit
+Read B entry front = Unit
+Read B entry reading = Unit
+Read B entry (scanning c k) = (p : ℕ) → B * k ≤ p + B → p < c → entry p ≡ gone
+Read B entry (looking c k) = (p : ℕ) → B * k ≤ p + B → p < c → entry p ≡ gone
+Read B entry (rescanning c k f g) = Unit
+Read B entry (found f g) = Unit
+Read B entry (holding f g x) = Unit
+Read B entry retiring = Unit
+
+-- handled is final
+pub read-kept : (B : ℕ) (entry entry′ : ℕ → Entry) (x : Consumer) → ((p : ℕ) → entry p ≡ gone → entry′ p ≡ gone) → Read B entry x → Read B entry′ x
+read-kept B entry entry′ resting f r = r
+read-kept B entry entry′ front f r = r
+read-kept B entry entry′ reading f r = r
+read-kept B entry entry′ (scanning c k) f r = λ p l h. f p (r p l h)
+read-kept B entry entry′ (looking c k) f r = λ p l h. f p (r p l h)
+read-kept B entry entry′ (rescanning c k g j) f r = r
+read-kept B entry entry′ (found g j) f r = r
+read-kept B entry entry′ (holding g j x) f r = r
+read-kept B entry entry′ retiring f r = r
+
+abbrev pub ReadOf : Sizes → Reader → (ℕ → Entry) → Type 0
+ReadOf z σ entry = σ allHandled ≡ 1 → Read (z .B) entry (consumerOf σ)
+
 pub record Good (z : Sizes) (σ : Reader) (γ : Ghost) : Type 0 where
   pub sizes : sizesInRange z ≡ true
   pub range : InRange z σ
@@ -53,16 +80,26 @@ pub record Good (z : Sizes) (σ : Reader) (γ : Ghost) : Type 0 where
   pub model : Invariant (z .B) (view σ γ)
   pub formed : wellFormed (γ .history) ≡ true
   pub pending : Pending σ (γ .history)
+  pub read : ReadOf z σ (γ .entry)
+
+-- What the scan has read stays so in a producer's step.
+pub read-still : (z : Sizes) (σ : Reader) (γ : Ghost) → Good z σ γ → (t : ℕ) → 1 ≤ t → (ws : List Write) (entry : ℕ → Entry) → All (InSort z t) ws
+    → consumerOf (after σ ws) ≡ consumerOf σ → ((p : ℕ) → γ .entry p ≡ gone → entry p ≡ gone) → ReadOf z (after σ ws) entry
+read-still z σ γ good t l ws entry in-sort seen still e =
+    subst⁻¹ (Read (z .B) entry) seen
+    (read-kept (z .B) (γ .entry) entry (consumerOf σ) still
+    (good .read (sym (others-untouched z t σ ws in-sort allHandled (λ q. omega arith)) ∙ e)))
 
 -- The record that another thread holds has the place that it had.
 abbrev pub PlacesKept : ℕ → Reader → Reader → Type 0
 PlacesKept t σ σ′ = (u : ℕ) → (t ≡ u → ⊥) → placeOf (placesOf σ′) (rowOf σ u 4) ≡ placeOf (placesOf σ) (rowOf σ u 4)
 
--- What the consumer sees of a producer's call: the head and the records of the places up to the last one stay, and no entry is newly
+-- What the consumer sees of a producer's call: the head, the gaps and the records of the places up to the last one stay, and no entry is newly
 -- handled.
 pub record Behind (σ σ′ : Reader) (γ γ′ : Ghost) : Type 0 where
   pub same-head : σ′ headPosition ≡ σ headPosition
   pub same-first : γ′ .shape .lo ≡ γ .shape .lo
+  pub same-gaps : (k : ℕ) → γ′ .shape .gap k ≡ γ .shape .gap k
   pub same-records : (k : ℕ) → k ≤ γ .shape .hi → γ′ .shape .at k ≡ γ .shape .at k
   pub was-gone : (p : ℕ) → γ′ .entry p ≡ gone → γ .entry p ≡ gone
 

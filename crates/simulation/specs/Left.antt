@@ -15,9 +15,11 @@ use Rattle.rules.specs.Sizes.{Sizes}
 use Rattle.rules.specs.Cell.{Reader, tail, place, used, state, entryNumber, entryValue}
 use Rattle.rules.specs.Play.{Placed, insert, placedItem, insertEntries, insertRecords, itemsOf, itemsLeft}
 use Rattle.model.specs.State.{Entry, blank, put, gone}
+use Rattle.model.specs.Facts.{put-not-gone}
 use Rattle.model.specs.Known.{put-below-tail, put-in-records, put-past-head}
 use Rattle.model.specs.Items.{join, itemsBelow, items, all-items, pairwise-items, member-items}
-use Rattle.memory.specs.Memory.{Memory}
+use Rattle.memory.specs.Listed.{by-gap}
+use Rattle.memory.specs.Memory.{ListedIn, Memory}
 use Rattle.simulation.specs.View.{Ghost, view, codeOf}
 use Rattle.simulation.specs.Good.{Good}
 use Rattle.simulation.specs.Limits.{limits}
@@ -153,19 +155,18 @@ module _ (z : Sizes) (σ : Reader) (γ : Ghost) (good : Good z σ γ) where
   found-at : (r i : ℕ) → r < z .N → Set z σ r i → At r i
   found-at r i l s = go (ℕ-discrete (σ (used r)) 2)
     where
-      linked : (k : ℕ) → σ (place r) ≡ k → (γ .shape .lo ≤ σ (place r)) × (σ (place r) ≤ γ .shape .hi) × (γ .shape .at (σ (place r)) ≡ r) → At r i
-      linked zero e o = absurd (omega (arith, o .0, good .model .places .first))
+      linked : (k : ℕ) → σ (place r) ≡ k → ListedIn (γ .shape) (σ (place r)) × (γ .shape .at (σ (place r)) ≡ r) → At r i
+      linked zero e o = absurd (omega (arith, o .0 .from, good .model .places .first))
       linked (suc a) e o =
-          let is : γ .shape .at (suc a) ≡ r = ap (γ .shape .at) (sym e) ∙ o .2 in
-          let first : γ .shape .lo ≤ suc a = omega (arith, o .0) in
-          let last : suc a ≤ γ .shape .hi = omega (arith, o .1) in
+          let is : γ .shape .at (suc a) ≡ r = ap (γ .shape .at) (sym e) ∙ o .1 in
+          let listed : ListedIn (γ .shape) (suc a) = rw e at (o .0) in
           record {
             before = a;
             placed = e;
             is = is;
-            is-put = code-put (γ .entry (z .B * a + i)) (sym (rw is at (good .agrees .states a i first last (s .0))) ∙ s .1);
-            number = rw is at (good .agrees .numbers a i first last (s .0));
-            value = rw is at (good .agrees .values a i first last (s .0));
+            is-put = code-put (γ .entry (z .B * a + i)) (sym (rw is at (good .agrees .states a i listed (s .0))) ∙ s .1);
+            number = rw is at (good .agrees .numbers a i listed (s .0));
+            value = rw is at (good .agrees .values a i listed (s .0));
           }
 
       go : Dec (σ (used r) ≡ 2) → At r i
@@ -195,7 +196,7 @@ module _ (z : Sizes) (σ : Reader) (γ : Ghost) (good : Good z σ γ) where
 
   put-is-stored : (p : ℕ) → p < σ tail → γ .entry p ≡ put → Member (placedAt (z .B) (γ .content) p) (insertRecords z σ (z .N))
   put-is-stored p l e =
-      records-of z σ (z .N) (placedAt (z .B) (γ .content) p) (r, m .chain .fits (suc a) first last, (i, below, set, item))
+      records-of z σ (z .N) (placedAt (z .B) (γ .content) p) (r, m .chain .fits (suc a) listed, (i, below, set, item))
     where
       a : ℕ
       a = p / z .B
@@ -229,8 +230,11 @@ module _ (z : Sizes) (σ : Reader) (γ : Ghost) (good : Good z σ γ) where
       entry-is : γ .entry (z .B * a + i) ≡ put
       entry-is = ap (γ .entry) whole ∙ e
 
+      listed : ListedIn (γ .shape) (suc a)
+      listed = record { from = first; to = last; no-gap = by-gap (γ .shape .gap) (suc a) (λ g. absurd (put-not-gone _ entry-is (good .agrees .folded a i g below))) (λ g. g) }
+
       set : σ (state r i) ≡ 1
-      set = good .agrees .states a i first last below ∙ ap codeOf entry-is
+      set = good .agrees .states a i listed below ∙ ap codeOf entry-is
 
       item : placedAt (z .B) (γ .content) p ≡ placedItem z σ r i
       item =
@@ -239,11 +243,11 @@ module _ (z : Sizes) (σ : Reader) (γ : Ghost) (good : Good z σ γ) where
           (same-item r i
           (record {
             before = a;
-            placed = m .chain .placed (suc a) first last;
+            placed = m .chain .placed (suc a) listed;
             is = refl;
             is-put = entry-is;
-            number = good .agrees .numbers a i first last below;
-            value = good .agrees .values a i first last below;
+            number = good .agrees .numbers a i listed below;
+            value = good .agrees .values a i listed below;
           }))
 
   -- The items left of a store that only the engine has written are the items of the position machine.

@@ -4,6 +4,7 @@ pub mod Told
 pub mod Rows
 pub mod DrainWords
 pub mod Limits
+pub mod Awaiting
 pub mod ProducerSteps
 pub mod RecordSteps
 pub mod OwnWords
@@ -17,6 +18,7 @@ pub mod ConsumerSteps
 pub mod ConsumerRetire
 pub mod ConsumerFront
 pub mod ConsumerCursor
+pub mod ConsumerFold
 pub mod ConsumerScan
 pub mod ConsumerRescan
 pub mod ConsumerItem

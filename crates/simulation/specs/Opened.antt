@@ -10,8 +10,8 @@ use lib.ListN.{length, getD, drop, replicate, length-append, length-replicate, g
 use borrow.Author.Tests.{eqb-true}
 use Rattle.history.specs.Lists.{All}
 use Rattle.rules.specs.Sizes.{Sizes, sizesInRange, mostPlace, storeWords}
-use Rattle.rules.specs.Cell.{Cell, content, lastClaimed, spare, consumer, producer, part, entry, drain, pair, Reader, reader, there, address, used}
-use Rattle.rules.specs.Update.{after}
+use Rattle.rules.specs.Cell.{Cell, content, lastClaimed, allHandled, spare, consumer, producer, part, entry, drain, pair, Reader, reader, there, address, used}
+use Rattle.rules.specs.Update.{after, true-false}
 use Rattle.rules.specs.Range.{number, link, most, any, ofSort, contentSorts, lastClaimedSort, spareSorts, partSorts, entrySorts}
 use Rattle.rules.specs.Request.{openWrites, opened}
 use Rattle.rules.specs.Address.{There, there-has, address-below}
@@ -55,7 +55,7 @@ openReader z = after (λ c. 0) (openWrites z)
 abbrev pub openGhost : Ghost
 openGhost =
     record {
-      shape = record { lo = 1; tp = 1; hi = 1; at = λ k. 0 };
+      shape = record { lo = 1; tp = 1; hi = 1; at = λ k. 0; gap = λ k. false };
       entry = λ p. blank;
       owner = λ p. 0;
       content = λ p. record { number = 0; value = 0 };
@@ -105,11 +105,10 @@ module _ (z : Sizes) (sizes : sizesInRange z ≡ true) where
   no-spare zero = refl
   no-spare (suc zero) = refl
   no-spare (suc (suc zero)) = refl
-  no-spare (suc (suc (suc zero))) = refl
-  no-spare (suc (suc (suc (suc k)))) = refl
+  no-spare (suc (suc (suc k))) = refl
 
   open-range : InRange z (openReader z)
-  open-range = record { words = words; consuming = refl; producing = λ t a b. refl; draining = drain-from z (openReader z) (no-drain z (openReader z) refl refl (λ i k. refl)) }
+  open-range = record { words = words; consuming = refl; producing = λ t a b. refl; draining = drain-from z (openReader z) (no-drain z (openReader z) refl refl (λ i k. refl)); scanning = refl }
     where
       contents : OfSorts z (λ j. openReader z (content j)) 0 (contentSorts z)
       contents =
@@ -129,6 +128,7 @@ module _ (z : Sizes) (sizes : sizesInRange z ≡ true) where
       words (content k) h =
           row-at z (λ j. openReader z (content j)) (contentSorts z) (of-sorts z (λ j. openReader z (content j)) 0 (contentSorts z) contents) k h
       words lastClaimed h = of-sort z lastClaimedSort 1 (omega arith, omega (arith, l .two-records))
+      words allHandled h = refl
       words (spare k) h = no-spare k
       words (consumer k) h = refl
       words (producer t k) h = refl
@@ -145,24 +145,35 @@ module _ (z : Sizes) (sizes : sizesInRange z ≡ true) where
       go true e q = sym (eqb-true 0 x e)
       go false e q = absurd (omega arith)
 
+  -- and use 3 is no record's
+  none-retired : (x : ℕ) → openReader z (used x) ≡ 3 → ⊥
+  none-retired x = go (eqb 0 x)
+    where
+      go : (b : Bool) → _≡_ {A = ℕ} (cond b 2 0) 3 → ⊥
+      go true q = omega arith
+      go false q = omega arith
+
   open-memory : Memory z (openReader z) (openGhost .shape)
   open-memory =
       record {
         head-tail = omega arith;
         tail-last = omega arith;
+        head-in = refl;
+        tail-in = λ k a. refl;
         chain =
             record {
-              fits = λ k a b. omega (arith, l .two-records);
-              linked = λ k a b. refl;
-              placed = λ k a b. omega arith;
-              nexts = λ k a b. absurd (omega arith);
+              fits = λ k a. omega (arith, l .two-records);
+              linked = λ k a. refl;
+              placed = λ k a. omega (arith, a .from, a .to);
+              nexts = λ j k q. absurd (omega (arith, q .rises, q .left .from, q .right .to));
               last = refl;
-              prevs = λ k a b. absurd (omega arith);
-              only = λ x u. let e = only-first x u in rw e (omega arith, omega arith, refl);
+              prevs = λ j k q. absurd (omega (arith, q .rises, q .left .from, q .right .to));
+              only = λ x u. let e = only-first x u in rw e (record { from = omega arith; to = omega arith; no-gap = refl }, refl);
             };
+        retired = λ x u. absurd (none-retired x u);
         tail-is = refl;
         head-is = refl;
-        threads = λ t. record { holding = tt; claiming = tt; has-held = λ h. absurd (omega arith); has-claimed = λ h. absurd (⊎-elim (λ e. omega arith) (λ e. omega arith) h) };
+        threads = λ t. record { holding = tt; claiming = tt; has-held = λ h. absurd (omega arith); has-claimed = λ h. absurd (⊎-elim (λ e. omega arith) (λ e. omega arith) h); trail = λ e. tt };
         apart = λ t u r a b. absurd (omega arith);
         cursor = tt;
         found = tt;
@@ -176,8 +187,9 @@ module _ (z : Sizes) (sizes : sizesInRange z ≡ true) where
         sizes = sizes;
         range = open-range;
         memory = open-memory;
-        agrees = record { states = λ k i a b s. refl; numbers = λ k i a b s. refl; values = λ k i a b s. refl; fresh = λ p h. refl };
+        agrees = record { states = λ k i a s. refl; numbers = λ k i a s. refl; values = λ k i a s. refl; folded = λ k i g s. absurd (true-false g refl); fresh = λ p h. refl };
         model = initial-keeps (z .B);
         formed = refl;
         pending = none-pending (openReader z) [] (omega arith) refl refl;
+        read = λ e. absurd (omega arith);
       }

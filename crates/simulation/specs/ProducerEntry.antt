@@ -1,10 +1,10 @@
 -- Producer phases 1, 8 and 9, which take a position, write its entry and set it.
 use mathlib.Core.Path.{_≡_, refl, ap, ap₂, sym, _∙_, subst, fun-ext}
-use mathlib.Core.Logic.{inl, inr}
 use mathlib.Core.Bool.{Bool, true, false, _&&_, cond, and-false}
 use mathlib.Core.List.{List, [], _∷_, _++_}
 use mathlib.Core.Option.{some}
 use Prim.Native.Nat.{ℕ, suc, _+_, _≤_}
+use native.Mathlib.Nat.{mul-le-mul-left}
 use native.Mathlib.Omega.{arith}
 use lib.Dec.{eqb}
 use borrow.Author.Tests.{eq-eqb, eqb-true}
@@ -13,30 +13,33 @@ use Rattle.history.specs.Event.{History, enqueueEnded}
 use Rattle.history.specs.Form.{wellFormed}
 use Rattle.history.specs.Linearization.{Item}
 use Rattle.rules.specs.Sizes.{Sizes}
-use Rattle.rules.specs.Update.{after, both, update, areaOf, OtherKind, Own, own-leaves}
-use Rattle.rules.specs.Cell.{Cell, Reader, Write, _:=_, clearProducer, tail, tailRecord, headRecord, headPosition, starts, cursorRecord, foundRecord, consumer, producer, part, entry, place, used, state, entryNumber, entryValue, phase, call, value, position, held, backed, ofProducer}
+use Rattle.rules.specs.Update.{after, both, update, areaOf, OtherKind, ownerOf, Own, own-leaves}
+use Rattle.rules.specs.Cell.{Cell, Reader, Write, _:=_, clearProducer, tail, tailRecord, headRecord, headPosition, starts, cursorRecord, foundRecord, consumer, producer, part, entry, place, state, entryNumber, entryValue, phase, call, value, position, held, backed, ofProducer}
 use Rattle.rules.specs.Range.{number, startedSorts, placedSorts, producerInRange}
 use Rattle.rules.specs.Rule.{Reply, going, ended, goes, reply, index}
 use Rattle.rules.specs.Producer.{takePosition, writeEntry, setEntry}
 use Rattle.rules.specs.Request.{step}
 use Rattle.rules.specs.Play.{replyEvents}
 use Rattle.rules.specs.InRange.{InSort}
-use Rattle.model.specs.State.{Entry, put, gone, Producer, started, writing, setting, idle, callOf, override}
+use Rattle.model.specs.State.{Entry, blank, put, gone, Producer, started, writing, setting, idle, callOf, override}
 use Rattle.model.specs.Invariant.{Invariant, Inside}
-use Rattle.model.specs.Facts.{override-same, override-other}
+use Rattle.model.specs.Facts.{override-same, override-other, gone-not-blank}
 use Rattle.model.specs.Moves.{withProducer, withEntry, setEntry as setEntered}
+use Rattle.model.specs.Walking.{producer-clause}
 use Rattle.model.specs.Positions.{take-position, write-entry, set-entry}
 use Rattle.model.specs.Enqueues.{finish-keeps}
 use Rattle.model.specs.Count.{tail-below}
 use Rattle.model.specs.Bounds.{writing-place, setting-place}
-use Rattle.memory.specs.Memory.{Holdable, ThreadOk, rowOf, held-is}
+use Rattle.memory.specs.Memory.{ThreadOk, rowOf, held-is}
 use Rattle.memory.specs.OtherThreads.{others-kept}
+use Rattle.memory.specs.GoingBack.{awaited-linked}
 use Rattle.simulation.specs.View.{Ghost, placesOf, placeOf, producersOf, consumerFrom, view, codeOf}
 use Rattle.simulation.specs.Good.{Good, Goes, Fine, by-need, by-cond, by-up-to}
 use Rattle.simulation.specs.Told.{ToEnqueue}
 use Rattle.simulation.specs.Rows.{ProducerWords, of-sort, has-sort, producer-row-of}
 use Rattle.simulation.specs.ProducerSteps.{as-seen, at-twice, producers-after, unclaimed, own-words, seen-at, producer-goes}
 use Rattle.simulation.specs.OwnWords.{of-producer, own-in-sort, own-there, withHistory}
+use Rattle.simulation.specs.Awaiting.{blank-awaited}
 use Rattle.simulation.specs.RecordSteps.{seen-as}
 use Rattle.simulation.specs.EnqueueEnd.{end-formed, end-adds, idle-in-range, idle-thread, idle-seen}
 use Rattle.simulation.specs.Entries.{other-record, other-entry, by-inside, Slot, slot, slot-changes, slot-state, slot-number, slot-value}
@@ -65,17 +68,17 @@ module _ (z : Sizes) (σ : Reader) (γ : Ghost) (good : Good z σ γ) (t : ℕ) 
       (refl, refl, refl, refl)
       (producer-row-of z (rowOf σ′ t) 2 two (omega arith)
       (record { call = old .call; value = tt; position = rw self (omega (arith, room)); held = omega (arith, old .held); claimed = old .claimed; backed = omega (arith, old .backed); steps = old .steps }))
-      (unclaimed (z .N) (γ .shape .lo) σ (rowOf σ′ t) (good .memory .threads t .holding) (old .claimed)
-      (λ l. absurd (omega (arith, two))) (λ x. omega (arith, two)) (λ x. omega (arith, two)))
+      (unclaimed z σ (rowOf σ′ t) (good .memory .threads t .holding) (old .claimed)
+      (λ l. absurd (omega (arith, two))) (λ x. omega (arith, two)) (λ x. omega (arith, two)) (λ x. absurd (omega (arith, two))))
       (old .claimed)
-      (good .memory .head-tail, good .memory .tail-last, good .memory .tail-is)
+      (omega arith, good .memory .tail-last, good .memory .tail-is)
       (good .agrees)
       (as-seen (take-position (z .B) (view σ γ) (good .model) t _ _ seen)
       (producers-after t σ σ′ (others-kept z t σ takeWrites in-sort) (λ u x. refl) _ (rw self refl)))
       (good .formed)
       refl
-      (omega arith, omega arith)
-      (λ p x. x))
+      (omega arith)
+      (λ p. ((λ x. x), (λ x. x))))
     where
       σ′ : Reader
       σ′ = after σ takeWrites
@@ -100,16 +103,14 @@ module _ (z : Sizes) (σ : Reader) (γ : Ghost) (good : Good z σ γ) (t : ℕ) 
   -- the record held in phases 8 and 9 is linked, and the position is inside it
   held-slot : (h : ℕ) → σ (held t) ≡ suc h
       → (γ .shape .lo ≤ placeOf (placesOf σ) (σ (held t))) × (placeOf (placesOf σ) (σ (held t)) ≤ γ .shape .tp) × Inside (z .B) (σ (position t)) (placeOf (placesOf σ) (σ (held t)))
+      → γ .entry (σ (position t)) ≡ blank
       → Inside (z .B) (σ (position t)) (σ (place h)) × Slot z σ (γ .shape) h (σ (position t))
-  held-slot h q o =
+  held-slot h q o empty =
       let w : placeOf (placesOf σ) (σ (held t)) ≡ σ (place h) = ap (placeOf (placesOf σ)) q in
       let inside : Inside (z .B) (σ (position t)) (σ (place h)) = subst (Inside (z .B) (σ (position t))) w (o .2) in
-      let low : γ .shape .lo ≤ σ (place h) = rw w at (o .0) in
-      (inside, slot z σ (γ .shape) (good .memory .chain) h (σ (position t)) (linked low (held-is (good .memory) t h q)) inside)
-    where
-      linked : γ .shape .lo ≤ σ (place h) → Holdable (γ .shape .lo) σ h → σ (used h) ≡ 2
-      linked l (inl u) = u
-      linked l (inr u) = absurd (omega (arith, u .2))
+      let awaited = blank-awaited z σ γ good (σ (position t)) empty (omega (arith, inside .0, mul-le-mul-left (z .B) (o .1), w)) in
+      let linked = awaited-linked (good .memory) (σ (position t)) h awaited (inside .0) (inside .1) (held-is (good .memory) t h q) in
+      (inside, slot z σ (γ .shape) (good .memory .chain) h (σ (position t)) linked inside)
 
   -- 8. Write call number and value into the entry; to 9.
   abbrev writeWrites : (h i : ℕ) → List Write
@@ -120,7 +121,7 @@ module _ (z : Sizes) (σ : Reader) (γ : Ghost) (good : Good z σ γ) (t : ℕ) 
   write-entry-fine e =
       by-need (Fine z σ γ (step t)) (σ (held t)) _ (good .memory .threads t .has-held (omega arith))
       (λ h q.
-      let s = held-slot h q (writing-place (z .B) (view σ γ) (good .model) t _ _ _ _ seen) in
+      let s = held-slot h q (writing-place (z .B) (view σ γ) (good .model) t _ _ _ _ seen) (producer-clause (z .B) (view σ γ) (good .model) t _ seen .0 .is-blank) in
       by-inside z σ h (σ (position t)) (s .0) (Fine z σ γ (step t)) (λ i. goes (writeWrites h i)) (writes h (s .1)))
     where
       seen : view σ γ .producer t ≡ writing (σ (call t)) (σ (value t)) (σ (position t)) (placeOf (placesOf σ) (σ (held t)))
@@ -137,10 +138,10 @@ module _ (z : Sizes) (σ : Reader) (γ : Ghost) (good : Good z σ γ) (t : ℕ) 
           (record { parts = λ x j. refl; entries = λ x n b j. rw (other-record σ h (s .linked) x n, and-false (eqb (index z σ h (σ (position t))) b), and-false (eqb 2 j), and-false (eqb 1 j)) refl })
           (refl, refl, refl, refl)
           (producer-row-of z (rowOf σ′ t) 9 nine (omega arith) (record { call = old .call; value = old .value; position = old .position; held = old .held; claimed = old .claimed; backed = old .backed; steps = old .steps }))
-          (unclaimed (z .N) (γ .shape .lo) σ (rowOf σ′ t) (good .memory .threads t .holding) (old .claimed)
-          (λ l. good .memory .threads t .has-held (omega arith)) (λ x. omega (arith, nine)) (λ x. omega (arith, nine)))
+          (unclaimed z σ (rowOf σ′ t) (good .memory .threads t .holding) (old .claimed)
+          (λ l. good .memory .threads t .has-held (omega arith)) (λ x. omega (arith, nine)) (λ x. omega (arith, nine)) (λ x. absurd (omega (arith, nine))))
           (old .claimed)
-          (good .memory .head-tail, good .memory .tail-last, good .memory .tail-is)
+          (omega arith, good .memory .tail-last, good .memory .tail-is)
           (slot-changes z σ σ′ (γ .shape) (good .memory .chain) h (σ (position t)) s (γ .entry) (γ .entry) (γ .content) (override (γ .content) (σ (position t)) what)
           (λ p n. (refl, override-other (γ .content) (σ (position t)) what p n))
           (λ y a j n. rw (other-entry h i y a n, and-false (eqb 2 j), and-false (eqb 1 j)) refl)
@@ -152,8 +153,8 @@ module _ (z : Sizes) (σ : Reader) (γ : Ghost) (good : Good z σ γ) (t : ℕ) 
           (producers-after t σ σ′ (others-kept z t σ ws in-sort) (λ u x. refl) _ (rw self refl)))
           (good .formed)
           refl
-          (omega arith, omega arith)
-          (λ p x. x)
+          (omega arith)
+          (λ p. ((λ x. x), (λ x. x)))
         where
           i : ℕ
           i = index z σ h (σ (position t))
@@ -187,7 +188,7 @@ module _ (z : Sizes) (σ : Reader) (γ : Ghost) (good : Good z σ γ) (t : ℕ) 
     -- the rest of the step, of t's own words
     sets : (rest : List Write) (r : Reply) → ToEnqueue r → (x : Producer) (H : History) → All (Own (ofProducer t)) rest
         → producerInRange z (after σ (state h i := 1 ∷ rest)) t ≡ true
-        → ThreadOk (z .N) (γ .shape .lo) σ (rowOf (after σ (state h i := 1 ∷ rest)) t)
+        → ThreadOk z σ (rowOf (after σ (state h i := 1 ∷ rest)) t)
         → rowOf (after σ (state h i := 1 ∷ rest)) t 5 ≡ 0
         → producersOf (after σ (state h i := 1 ∷ rest)) t ≡ x
         → Invariant (z .B) (withHistory (withProducer (withEntry (view σ γ) (σ (position t)) put) t x) H)
@@ -207,7 +208,7 @@ module _ (z : Sizes) (σ : Reader) (γ : Ghost) (good : Good z σ γ) (t : ℕ) 
         in-row
         thread
         none
-        (good .memory .head-tail, good .memory .tail-last, same tailRecord refl ∙ good .memory .tail-is)
+        (omega arith, good .memory .tail-last, same tailRecord refl ∙ good .memory .tail-is)
         (slot-changes z σ σ′ (γ .shape) (good .memory .chain) h (σ (position t)) s (γ .entry) (override (γ .entry) (σ (position t)) put) (γ .content) (γ .content)
         (λ p n. (override-other (γ .entry) (σ (position t)) put p n, refl))
         (λ y a j n. same (entry y a j) refl ∙ rw (other-entry h i y a n, and-false (eqb 0 j)) refl)
@@ -220,8 +221,8 @@ module _ (z : Sizes) (σ : Reader) (γ : Ghost) (good : Good z σ γ) (t : ℕ) 
         (ap₂ consumerFrom (sym places) (fun-ext (λ k. sym (same (consumer k) refl)))))
         formed
         grown
-        (omega (arith, same tail refl), omega arith)
-        (λ p. set-not-gone (eqb (σ (position t)) p) (γ .entry p))
+        (omega (arith, same tail refl))
+        (λ p. (set-not-gone (eqb (σ (position t)) p) (γ .entry p), still-gone p))
       where
         ws : List Write
         ws = state h i := 1 ∷ rest
@@ -229,8 +230,14 @@ module _ (z : Sizes) (σ : Reader) (γ : Ghost) (good : Good z σ γ) (t : ℕ) 
         σ′ : Reader
         σ′ = after σ ws
 
-        same : (d : Cell) → OtherKind (ofProducer t) (areaOf d) → σ′ d ≡ update σ (state h i := 1) d
+        same : (d : Cell) → OtherKind (ofProducer t) (ownerOf (areaOf d)) → σ′ d ≡ update σ (state h i := 1) d
         same = own-leaves (ofProducer t) (update σ (state h i := 1)) rest own
+
+        still-gone : (p : ℕ) → γ .entry p ≡ gone → override (γ .entry) (σ (position t)) put p ≡ gone
+        still-gone p q =
+            override-other (γ .entry) (σ (position t)) put p
+            (λ w. gone-not-blank _ q (ap (γ .entry) w ∙ producer-clause (z .B) (view σ γ) (good .model) t _ seen-setting .0 .is-blank))
+            ∙ q
 
         places : placesOf σ′ ≡ placesOf σ
         places = fun-ext (λ y. same (place y) refl)
@@ -245,8 +252,8 @@ module _ (z : Sizes) (σ : Reader) (γ : Ghost) (good : Good z σ γ) (t : ℕ) 
         sets (phase t := 10 ∷ []) going tt _ (γ .history) ((refl, omega arith), tt)
         (producer-row-of z (rowOf σ′ t) 10 ten (omega arith)
         (record { call = setting-words .call; value = tt; position = setting-words .position; held = setting-words .held; claimed = setting-words .claimed; backed = flag; steps = setting-words .steps }))
-        (unclaimed (z .N) (γ .shape .lo) σ (rowOf σ′ t) (good .memory .threads t .holding) (setting-words .claimed)
-        (λ l. good .memory .threads t .has-held (omega arith)) (λ x. omega (arith, ten)) (λ x. omega (arith, ten)))
+        (unclaimed z σ (rowOf σ′ t) (good .memory .threads t .holding) (setting-words .claimed)
+        (λ l. good .memory .threads t .has-held (omega arith)) (λ x. omega (arith, ten)) (λ x. omega (arith, ten)) (λ x. absurd (omega (arith, ten))))
         (setting-words .claimed)
         (rw self refl)
         (set-entry (z .B) (view σ γ) (good .model) t _ _ _ _ seen-setting)
@@ -264,10 +271,10 @@ module _ (z : Sizes) (σ : Reader) (γ : Ghost) (good : Good z σ γ) (t : ℕ) 
     unfolding i
     ends =
         sets (clearProducer t ∷ []) ended tt idle (enqueueEnded t (σ (call t)) (σ (value t)) ∷ γ .history) ((refl, omega arith), tt)
-        (idle-in-range z (γ .shape .lo) σ (rowOf σ′ t) row)
-        (idle-thread z (γ .shape .lo) σ (rowOf σ′ t) row)
+        (idle-in-range z σ (rowOf σ′ t) row)
+        (idle-thread z σ (rowOf σ′ t) row)
         (row 5)
-        (idle-seen z (γ .shape .lo) σ (rowOf σ′ t) row (placesOf σ))
+        (idle-seen z σ (rowOf σ′ t) row (placesOf σ))
         (as-seen
         (finish-keeps (z .B) (setEntered (view σ γ) t _ _ _ _) (set-entry (z .B) (view σ γ) (good .model) t _ _ _ _ seen-setting) t _ _ _ _ (override-same (producersOf σ) t _))
         (at-twice (producersOf σ) t _ idle))
@@ -288,7 +295,8 @@ module _ (z : Sizes) (σ : Reader) (γ : Ghost) (good : Good z σ γ) (t : ℕ) 
   set-entry-fine e =
       by-need (Fine z σ γ (step t)) (σ (held t)) _ (good .memory .threads t .has-held (omega arith))
       (λ h q.
-      let s = held-slot h q (setting-place (z .B) (view σ γ) (good .model) t _ _ _ _ (seen-at z σ γ good t a-producer 9 e)) in
+      let seen = seen-at z σ γ good t a-producer 9 e in
+      let s = held-slot h q (setting-place (z .B) (view σ γ) (good .model) t _ _ _ _ seen) (producer-clause (z .B) (view σ γ) (good .model) t _ seen .0 .is-blank) in
       by-inside z σ h (σ (position t)) (s .0) (Fine z σ γ (step t))
       (λ i. cond (eqb i 1 && eqb (σ (backed t)) 0) (goes (state h i := 1 ∷ phase t := 10 ∷ [])) (reply ended (state h i := 1 ∷ clearProducer t ∷ [])))
       (by-cond (Fine z σ γ (step t)) (eqb (index z σ h (σ (position t))) 1 && eqb (σ (backed t)) 0) _ _

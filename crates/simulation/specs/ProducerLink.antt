@@ -15,7 +15,7 @@ use Rattle.history.specs.Event.{History, enqueueEnded}
 use Rattle.history.specs.Form.{wellFormed}
 use Rattle.rules.specs.Sizes.{Sizes, mostPlace}
 use Rattle.rules.specs.Cell.{Cell, Reader, Write, _:=_, clearProducer, tail, headPosition, starts, producer, part, entry, consumer, place, next, prev, used, phase, call, value, position, held, claimed, tailRecord, headRecord, cursorRecord, foundRecord, ofProducer}
-use Rattle.rules.specs.Update.{after, update, areaOf, OtherKind, Own, own-leaves}
+use Rattle.rules.specs.Update.{after, update, areaOf, OtherKind, ownerOf, Own, own-leaves}
 use Rattle.rules.specs.Range.{number, link, most, producerInRange}
 use Rattle.rules.specs.Rule.{Reply, Effect, going, ended, goes, reply}
 use Rattle.rules.specs.Producer.{linked, linkClaimed, linkAhead}
@@ -29,11 +29,11 @@ use Rattle.model.specs.Moves.{withProducer, linkLast}
 use Rattle.model.specs.Walking.{producer-clause, pass-on, link-last}
 use Rattle.model.specs.Enqueues.{finish-keeps}
 use Rattle.memory.specs.Chain.{withPlace, with-place-other}
-use Rattle.memory.specs.Memory.{Blank, rowOf, Memory, claimed-is, held-is}
+use Rattle.memory.specs.Memory.{Blank, rowOf, Memory, claimed-is, held-is, last-listed}
 use Rattle.memory.specs.LastRecord.{held-last, held-before-last}
 use Rattle.memory.specs.OtherThreads.{Untouched, OthersKept, others-kept}
 use Rattle.memory.specs.Linking.{LetGo, give-back-keeps, link-keeps}
-use Rattle.simulation.specs.View.{Ghost, placesOf, placeOf, producerAt, producerOf, producersOf, view, cellOf}
+use Rattle.simulation.specs.View.{Ghost, placesOf, placeOf, producerAt, producerOf, producersOf, consumerOf, view, cellOf}
 use Rattle.simulation.specs.Good.{Good, Goes, Fine, places-stay, by-need, by-cond, by-up-to}
 use Rattle.simulation.specs.Told.{ToEnqueue}
 use Rattle.simulation.specs.Rows.{of-sort, has-sort, producer-row-of}
@@ -99,20 +99,22 @@ module _ (z : Sizes) (σ : Reader) (γ : Ghost) (good : Good z σ γ) (t : ℕ) 
           (same (used c) refl ∙ rw (eq-eqb c c refl) refl)
           (λ i k. same (entry c i k) refl)
           others)
-          (agrees-kept (z .B) (γ .shape .lo) (γ .shape .hi) (γ .shape .at) (γ .entry) (γ .content) (cellOf σ) (cellOf σ′)
-          (λ k i j l b. same (entry (γ .shape .at (suc k)) i j) refl) (good .agrees))
+          (agrees-kept (z .B) (γ .shape .lo) (γ .shape .hi) (γ .shape .gap) (γ .shape .at) (γ .entry) (γ .content) (cellOf σ) (cellOf σ′)
+          (λ k i j l. same (entry (γ .shape .at (suc k)) i j) refl) (good .agrees))
           (seen-as model (sym (same tail refl)) (sym (same headPosition refl)) (sym (same starts refl))
           (producers-after t σ σ′ kept (λ u n. place-same σ σ′ c places (σ (held u)) (not-held u)) x (own-seen σ′ places let-go ∙ seen))
-          (sym (consumer-same σ σ′ c (λ k. same (consumer k) refl) places not-linked (m .cursor) (m .found))))
+          (sym consumer-seen))
+          consumer-seen
+          (λ p e. e)
           formed
           grown
           (places-stay z t σ γ (later γ H) giveWrites in-sort (λ y. same (place y) refl) (omega (arith, same tail refl)) (omega arith) (omega arith)
-          (λ l. record { same-head = same headPosition refl; same-first = refl; same-records = λ k h. refl; was-gone = λ p e. e }))
+          (λ l. record { same-head = same headPosition refl; same-first = refl; same-gaps = λ k. refl; same-records = λ k h. refl; was-gone = λ p e. e }))
         where
           σ′ : Reader
           σ′ = after σ giveWrites
 
-          same : (d : Cell) → OtherKind (ofProducer t) (areaOf d) → σ′ d ≡ update σ (used c := 0) d
+          same : (d : Cell) → OtherKind (ofProducer t) (ownerOf (areaOf d)) → σ′ d ≡ update σ (used c := 0) d
           same = own-leaves (ofProducer t) (update σ (used c := 0)) rest own
 
           in-sort : All (InSort z t) giveWrites
@@ -128,11 +130,14 @@ module _ (z : Sizes) (σ : Reader) (γ : Ghost) (good : Good z σ γ) (t : ℕ) 
           places : (y : ℕ) → (y ≡ c → ⊥) → σ′ (place y) ≡ σ (place y)
           places y n = others y n .0 0
 
+          consumer-seen : consumerOf σ′ ≡ consumerOf σ
+          consumer-seen = consumer-same σ σ′ c (λ k. same (consumer k) refl) places not-linked (m .cursor) (m .found)
+
     -- what stands beside the store when the claimed record is linked behind the last one
     abbrev linkedGhost : Ghost
     linkedGhost =
         record {
-          shape = record { lo = γ .shape .lo; tp = γ .shape .tp; hi = suc (γ .shape .hi); at = withPlace (γ .shape .at) (suc (γ .shape .hi)) c };
+          shape = record { lo = γ .shape .lo; tp = γ .shape .tp; hi = suc (γ .shape .hi); at = withPlace (γ .shape .at) (suc (γ .shape .hi)) c; gap = γ .shape .gap };
           entry = γ .entry;
           owner = γ .owner;
           content = γ .content;
@@ -149,7 +154,7 @@ module _ (z : Sizes) (σ : Reader) (γ : Ghost) (good : Good z σ γ) (t : ℕ) 
       σ′ : Reader
       σ′ = after σ linkWrites
 
-      same : (d : Cell) → OtherKind (ofProducer t) (areaOf d) → σ′ d ≡ τ d
+      same : (d : Cell) → OtherKind (ofProducer t) (ownerOf (areaOf d)) → σ′ d ≡ τ d
       unfolding σ′ τ
       same = own-leaves (ofProducer t) τ rest own
 
@@ -157,7 +162,7 @@ module _ (z : Sizes) (σ : Reader) (γ : Ghost) (good : Good z σ γ) (t : ℕ) 
       last = held-last m t h holds none
 
       h-fits : h < z .N
-      h-fits = rw (← last .2) (m .chain .fits (γ .shape .hi) (omega (arith, m .head-tail, m .tail-last)) (omega arith))
+      h-fits = rw (← last .2) (m .chain .fits (γ .shape .hi) (last-listed m))
 
       in-sort : All (InSort z t) linkWrites
       in-sort = (
@@ -191,6 +196,10 @@ module _ (z : Sizes) (σ : Reader) (γ : Ghost) (good : Good z σ γ) (t : ℕ) 
       unfolding τ
       cells y i k = same (entry y i k) refl
 
+      consumer-seen : consumerOf σ′ ≡ consumerOf σ
+      unfolding τ
+      consumer-seen = consumer-same σ σ′ c (λ k. same (consumer k) refl) places not-linked (m .cursor) (m .found)
+
       -- nothing is set or handled past the last record
       blanks : (p : ℕ) → z .B * γ .shape .hi ≤ p → γ .entry p ≡ blank
       blanks p l = good .model .entries .blank-ahead p (omega (arith, mul-le-mul-left (z .B) (m .tail-last)))
@@ -213,11 +222,13 @@ module _ (z : Sizes) (σ : Reader) (γ : Ghost) (good : Good z σ γ) (t : ℕ) 
           others
           nexts
           cells)
-          (agrees-grows (z .B) (γ .shape .lo) (γ .shape .hi) (γ .shape .at) (γ .entry) (γ .content) (cellOf σ) (cellOf σ′) c cells
+          (agrees-grows (z .B) (γ .shape .lo) (γ .shape .hi) (γ .shape .gap) (γ .shape .at) (γ .entry) (γ .content) (cellOf σ) (cellOf σ′) c cells
           (c-blank .no-entry) blanks (good .agrees))
           (seen-as model (sym (same tail refl)) (sym (same headPosition refl)) (sym (same starts refl))
           (producers-after t σ σ′ kept (λ u n. place-same σ σ′ c places (σ (held u)) (not-held u)) x (own-seen σ′ places let-go ∙ seen))
-          (sym (consumer-same σ σ′ c (λ k. same (consumer k) refl) places not-linked (m .cursor) (m .found))))
+          (sym consumer-seen))
+          consumer-seen
+          (λ p e. e)
           formed
           grown
           (record {
@@ -231,6 +242,7 @@ module _ (z : Sizes) (σ : Reader) (γ : Ghost) (good : Good z σ γ) (t : ℕ) 
                 λ l. record {
                   same-head = same headPosition refl;
                   same-first = refl;
+                  same-gaps = λ k. refl;
                   same-records = λ k b. with-place-other (γ .shape .at) (suc (γ .shape .hi)) c k (λ e. omega arith);
                   was-gone = λ p e. e;
                 };
@@ -300,7 +312,7 @@ module _ (z : Sizes) (σ : Reader) (γ : Ghost) (good : Good z σ γ) (t : ℕ) 
 
   onward-lets-go : (σ′ : Reader) → Onward σ′ → LetGo σ σ′ t
   onward-lets-go σ′ w =
-      record { claims-none = w .claimed; in-phase = λ p. ⊎-elim (λ q. omega (arith, w .in-phase)) (λ q. omega (arith, w .in-phase)) p; holds-on = inl (w .held) }
+      record { claims-none = w .claimed; in-phase = λ p. ⊎-elim (λ q. omega (arith, w .in-phase)) (λ q. omega (arith, w .in-phase)) p; not-back = λ q. omega (arith, w .in-phase); holds-on = inl (w .held) }
 
   -- where a position was taken, the place of the record that leads to it is below the limit
   taken-below : (L : ℕ) → L < σ tail → L < z .M
@@ -344,6 +356,7 @@ module _ (z : Sizes) (σ : Reader) (γ : Ghost) (good : Good z σ γ) (t : ℕ) 
       record {
         claims-none = none 5;
         in-phase = λ p. ⊎-elim (λ q. omega (arith, none 0)) (λ q. omega (arith, none 0)) p;
+        not-back = λ q. omega (arith, none 0);
         holds-on = inr (none 4, none 0);
       }
 
@@ -354,16 +367,16 @@ module _ (z : Sizes) (σ : Reader) (γ : Ghost) (good : Good z σ γ) (t : ℕ) 
       (λ h c q w none fits.
       let now : (j : ℕ) → linkedThen h c idling (producer t j) ≡ 0 = λ j. rw self refl in
       links z σ γ good t a-producer h c q w idling own ended tt idle H (end-formed z σ γ good t _ is) (end-adds z σ γ good t _ is) none fits
-      (idle-in-range z (γ .shape .lo) σ _ now)
+      (idle-in-range z σ _ now)
       (idle-lets-go _ now)
-      (idle-seen z (γ .shape .lo) σ _ now (placesOf σ))
+      (idle-seen z σ _ now (placesOf σ))
       (finish-keeps (z .B) (linkLast (view σ γ)) (link-last (z .B) (view σ γ) (good .model)) t _ _ _ _ seen))
       (λ h c q w below.
       let now : (j : ℕ) → after σ (used c := 0 ∷ idling) (producer t j) ≡ 0 = λ j. rw self refl in
       gives z σ γ good t a-producer h c q w idling own ended tt idle H (end-formed z σ γ good t _ is) (end-adds z σ γ good t _ is)
-      (idle-in-range z (γ .shape .lo) σ _ now)
+      (idle-in-range z σ _ now)
       (idle-lets-go _ now)
-      (idle-seen z (γ .shape .lo) σ _ now (placesOf σ))
+      (idle-seen z σ _ now (placesOf σ))
       (finish-keeps (z .B) (view σ γ) (good .model) t _ _ _ _ seen))
       (λ h q.
       let o = producer-clause (z .B) (view σ γ) (good .model) t _ seen in

@@ -1,5 +1,5 @@
 -- A producer's step that writes none of the records' words outside the entries: what is left to show of it.
-use mathlib.Core.Path.{_≡_, refl, ap, sym, _∙_, subst, fun-ext}
+use mathlib.Core.Path.{_≡_, refl, ap, ap₂, sym, _∙_, subst, fun-ext}
 use mathlib.Core.Logic.{⊎-elim, _≢_}
 use mathlib.Core.Bool.{Bool, true, false, cond}
 use mathlib.Core.List.{List, [], _++_}
@@ -14,22 +14,22 @@ use Rattle.history.specs.Event.{History}
 use Rattle.history.specs.Form.{wellFormed}
 use Rattle.history.specs.Linearization.{Item}
 use Rattle.rules.specs.Sizes.{Sizes}
-use Rattle.rules.specs.Cell.{Reader, Write, tail, producer, tailRecord, headRecord, headPosition, cursorRecord, foundRecord, phase, call, value, position, held}
+use Rattle.rules.specs.Cell.{Reader, Write, tail, consumer, producer, tailRecord, headRecord, headPosition, cursorRecord, foundRecord, phase, call, value, position, held}
 use Rattle.rules.specs.Update.{after}
 use Rattle.rules.specs.Range.{producerSorts, producerInRange}
 use Rattle.rules.specs.Rule.{Reply}
 use Rattle.rules.specs.Request.{step}
 use Rattle.rules.specs.Play.{replyEvents}
 use Rattle.rules.specs.Readback.{WriteThere}
-use Rattle.rules.specs.InRange.{InSort, writes-keep-range}
+use Rattle.rules.specs.InRange.{InSort, others-untouched, writes-keep-range}
 use Rattle.model.specs.State.{Entry, gone, Producer, State, override}
 use Rattle.model.specs.Invariant.{Invariant}
 use Rattle.model.specs.Moves.{withProducer}
-use Rattle.memory.specs.Memory.{ChainShape, Held, ThreadOk, rowOf}
+use Rattle.memory.specs.Memory.{ChainShape, Held, TrailFrom, ThreadOk, rowOf}
 use Rattle.memory.specs.OtherThreads.{OthersKept, others-kept}
 use Rattle.memory.specs.Light.{Light, producer-keeps}
-use Rattle.simulation.specs.View.{Ghost, placesOf, placeOf, producerAt, producerOf, producersOf, view, Agrees, cellOf}
-use Rattle.simulation.specs.Good.{Good, Goes, PlacesKept, Tells, places-stay}
+use Rattle.simulation.specs.View.{Ghost, placesOf, placeOf, producerAt, producerOf, producersOf, consumerFrom, consumerOf, view, Agrees, cellOf}
+use Rattle.simulation.specs.Good.{Good, read-still, Goes, PlacesKept, Tells, places-stay}
 use Rattle.simulation.specs.Told.{ToEnqueue, enqueue-tells}
 use Rattle.simulation.specs.Rows.{ProducerWords, producer-row-has}
 
@@ -90,14 +90,15 @@ goes-on-same B s t x e i =
     as-seen i (sym (at-itself (s .producer) t) ∙ ap (override (s .producer) t) e)
 
 -- A producer's clause, where it claims nothing.
-pub unclaimed : (N lo : ℕ) (σ : Reader) (row : ℕ → ℕ) → Held lo σ (row 4) → row 5 ≡ 0 → (3 ≤ row 0 → row 4 ≢ 0)
-    → (row 0 ≡ 5 → ⊥) → (row 0 ≡ 11 → ⊥) → ThreadOk N lo σ row
-unclaimed N lo σ row holding none some not-five not-eleven =
+pub unclaimed : (z : Sizes) (σ : Reader) (row : ℕ → ℕ) → Held σ (row 4) → row 5 ≡ 0 → (3 ≤ row 0 → row 4 ≢ 0)
+    → (row 0 ≡ 5 → ⊥) → (row 0 ≡ 11 → ⊥) → (row 0 ≡ 7 → TrailFrom (z .B) σ (row 3) (row 4)) → ThreadOk z σ row
+unclaimed z σ row holding none some not-five not-eleven way =
     record {
       holding = holding;
       claiming = rw none tt;
       has-held = some;
       has-claimed = λ p. absurd (⊎-elim not-five not-eleven p);
+      trail = way;
     }
 
 module _ (z : Sizes) (σ : Reader) (γ : Ghost) (good : Good z σ γ) (t : ℕ) (a-producer : (1 ≤ t) × (t ≤ z .P)) where
@@ -111,27 +112,27 @@ module _ (z : Sizes) (σ : Reader) (γ : Ghost) (good : Good z σ γ) (t : ℕ) 
   seen-at p e = ap (λ (x : ℕ). producerAt x (σ (call t)) (σ (value t)) (σ (position t)) (placeOf (placesOf σ) (σ (held t)))) e
 
   pub producer-goes : (r : Reply) → ToEnqueue r → (ws : List Write) (tp : ℕ) (entry : ℕ → Entry) (owner : ℕ → ℕ) (content : ℕ → Item) (h : History)
-      → let g : ChainShape = record { lo = γ .shape .lo; tp = tp; hi = γ .shape .hi; at = γ .shape .at } in
+      → let g : ChainShape = record { lo = γ .shape .lo; tp = tp; hi = γ .shape .hi; at = γ .shape .at; gap = γ .shape .gap } in
       let γ′ : Ghost = record { shape = g; entry = entry; owner = owner; content = content; history = h } in
       All (InSort z t) ws
       → All (WriteThere z) ws
       → Light σ (after σ ws)
       → (after σ ws headRecord ≡ σ headRecord) × (after σ ws cursorRecord ≡ σ cursorRecord) × (after σ ws foundRecord ≡ σ foundRecord) × (after σ ws headPosition ≡ σ headPosition)
       → producerInRange z (after σ ws) t ≡ true
-      → ThreadOk (z .N) (γ .shape .lo) σ (rowOf (after σ ws) t)
+      → ThreadOk z σ (rowOf (after σ ws) t)
       → rowOf (after σ ws) t 5 ≡ 0
-      → (γ .shape .lo ≤ tp) × (tp ≤ γ .shape .hi) × (after σ ws tailRecord ≡ suc (γ .shape .at tp))
-      → Agrees (z .B) (γ .shape .lo) (γ .shape .hi) (γ .shape .at) entry content (cellOf (after σ ws))
+      → (γ .shape .tp ≤ tp) × (tp ≤ γ .shape .hi) × (after σ ws tailRecord ≡ suc (γ .shape .at tp))
+      → Agrees (z .B) (γ .shape .lo) (γ .shape .hi) (γ .shape .gap) (γ .shape .at) entry content (cellOf (after σ ws))
       → Invariant (z .B) (view (after σ ws) γ′)
       → wellFormed h ≡ true
       → h ≡ replyEvents (step t) (γ .history) r ++ γ .history
-      → (σ tail ≤ after σ ws tail) × (γ .shape .tp ≤ tp)
-      → ((p : ℕ) → entry p ≡ gone → γ .entry p ≡ gone)
+      → σ tail ≤ after σ ws tail
+      → ((p : ℕ) → (entry p ≡ gone → γ .entry p ≡ gone) × (γ .entry p ≡ gone → entry p ≡ gone))
       → Goes z σ γ (step t) r ws
-  producer-goes r of ws tp entry owner content h in-sort there light fixed in-row own claims-none tail-at agrees model formed grown grows was-gone =
+  producer-goes r of ws tp entry owner content h in-sort there light fixed in-row own claims-none tail-at agrees model formed grown grows same-gone =
       record {
         there = there;
-        next = record { shape = record { lo = γ .shape .lo; tp = tp; hi = γ .shape .hi; at = γ .shape .at }; entry = entry; owner = owner; content = content; history = h };
+        next = record { shape = record { lo = γ .shape .lo; tp = tp; hi = γ .shape .hi; at = γ .shape .at; gap = γ .shape .gap }; entry = entry; owner = owner; content = content; history = h };
         good =
             record {
               sizes = good .sizes;
@@ -143,12 +144,18 @@ module _ (z : Sizes) (σ : Reader) (γ : Ghost) (good : Good z σ γ) (t : ℕ) 
               model = model;
               formed = formed;
               pending = tells .pending;
+              read = read-still z σ γ good t (a-producer .0) ws entry in-sort seen (λ p. same-gone p .1);
             };
         grown = tells .grown;
         moved =
-            places-stay z t σ γ _ ws in-sort (λ x. light .parts x 0) (grows .0) (grows .1) (omega arith)
-            (λ l. record { same-head = fixed .3; same-first = refl; same-records = λ k h. refl; was-gone = was-gone });
+            places-stay z t σ γ _ ws in-sort (λ x. light .parts x 0) grows (tail-at .0) (omega arith)
+            (λ l. record { same-head = fixed .3; same-first = refl; same-gaps = λ k. refl; same-records = λ k h. refl; was-gone = λ p. same-gone p .0 });
       }
     where
+      seen : consumerOf (after σ ws) ≡ consumerOf σ
+      seen =
+          ap₂ consumerFrom (fun-ext (λ x. light .parts x 0))
+          (fun-ext (λ k. others-untouched z t σ ws in-sort (consumer k) (λ e. omega (arith, a-producer .0))))
+
       tells : Tells σ (after σ ws) (step t) r (γ .history) h
       tells = enqueue-tells z σ γ good t (a-producer .0) (step t) r of ws h in-sort grown

@@ -1,35 +1,36 @@
 -- Producer phases 2, 3, 6 and 7, which move a producer along the records.
 use mathlib.Core.Path.{_≡_, refl, ap, sym, _∙_, subst, subst⁻¹}
-use mathlib.Core.Logic.{inl, inr, _≢_}
+use mathlib.Core.Logic.{inl, _≢_}
 use mathlib.Core.Bool.{Bool, true, false, cond}
 use mathlib.Core.List.{List, [], _∷_}
-use Prim.Native.Nat.{ℕ, zero, suc, _+_, _*_, _≤_, _<_}
+use Prim.Native.Nat.{ℕ, suc, _+_, _*_, _≤_, _<_}
 use native.Mathlib.Omega.{arith}
 use lib.Dec.{leb, ltb, eqb}
 use lib.ListN.{getD}
-use borrow.Author.Tests.{eq-eqb, eqb-true, eqb-false}
+use borrow.Author.Tests.{eq-eqb, eqb-true, eqb-false, ltb-true}
 use Rattle.history.specs.Lists.{All}
 use Rattle.rules.specs.Sizes.{Sizes}
 use Rattle.rules.specs.Cell.{Reader, Write, _:=_, producer, place, next, used, tailRecord, phase, call, value, position, held, claimed, backed, prev, ofProducer}
 use Rattle.rules.specs.Update.{after, Own, own-leaves}
 use Rattle.rules.specs.InRange.{InSort}
 use Rattle.rules.specs.Range.{link, record-number, producerSorts, placedSorts}
-use Rattle.rules.specs.Rule.{going, need, goes}
+use Rattle.rules.specs.Rule.{going}
 use Rattle.rules.specs.Producer.{choose, lookNext, loadTail, goBack, shiftTail}
 use Rattle.rules.specs.Request.{step}
 use Rattle.model.specs.State.{Producer, ahead, shifting, behind, writing}
 use Rattle.model.specs.Invariant.{Invariant}
 use Rattle.model.specs.Moves.{withProducer, chosen}
 use Rattle.model.specs.Walking.{producer-clause, pass-on, load-tail, go-back, shift-tail, leave-tail}
-use Rattle.model.specs.Bounds.{behind-past-first}
-use Rattle.memory.specs.Memory.{Holdable, Held, rowOf, Memory, held-is}
+use Rattle.memory.specs.Memory.{Holdable, Held, TrailFrom, rowOf, Memory, tail-listed, tail-joined}
 use Rattle.memory.specs.LastRecord.{held-before-last}
 use Rattle.memory.specs.OtherThreads.{others-kept}
+use Rattle.memory.specs.GoingBack.{goes-back}
 use Rattle.simulation.specs.View.{Ghost, placesOf, placeOf, producerAt, producersOf, view}
 use Rattle.simulation.specs.Good.{Good, Goes, Fine, by-need, by-cond}
 use Rattle.simulation.specs.Rows.{ProducerWords, of-sort, has-sort, producer-row-of}
 use Rattle.simulation.specs.ProducerSteps.{as-seen, producers-after, goes-on-same, unclaimed, own-words, seen-at, producer-goes}
 use Rattle.simulation.specs.OwnWords.{producer-own}
+use Rattle.simulation.specs.Awaiting.{behind-awaited}
 
 module _ (z : Sizes) (σ : Reader) (γ : Ghost) (good : Good z σ γ) (t : ℕ) (a-producer : (1 ≤ t) × (t ≤ z .P)) where
   self : eqb t t ≡ true
@@ -50,19 +51,20 @@ module _ (z : Sizes) (σ : Reader) (γ : Ghost) (good : Good z σ γ) (t : ℕ) 
   walks : (p p′ x f : ℕ) (ws : List Write) (y : Producer) → σ (phase t) ≡ p
       → getD producerSorts p [] ≡ placedSorts → getD producerSorts p′ [] ≡ placedSorts → p′ ≤ 9 → (p′ ≡ 5 → ⊥)
       → All (Own (ofProducer t)) ws → Row (after σ ws) p′ x f
-      → x ≤ z .N → f ≤ 1 → Held (γ .shape .lo) σ x → (3 ≤ p′ → x ≢ 0)
+      → x ≤ z .N → f ≤ 1 → Held σ x → (3 ≤ p′ → x ≢ 0) → (p′ ≡ 7 → TrailFrom (z .B) σ (σ (position t)) x)
       → producerAt p′ (σ (call t)) (σ (value t)) (σ (position t)) (placeOf (placesOf σ) x) ≡ y
       → Invariant (z .B) (withProducer (view σ γ) t y)
       → Goes z σ γ (step t) going ws
-  walks p p′ x f ws y e sorts sorts′ l not-five own row fits flag holding some seen model =
+  walks p p′ x f ws y e sorts sorts′ l not-five own row fits flag holding some way seen model =
       producer-own z σ γ good t a-producer going tt ws y (γ .history) own
       (producer-row-of z (rowOf σ′ t) p′ (row .in-phase) (omega arith)
       (subst⁻¹ (ProducerWords z (rowOf σ′ t)) sorts′
       (record { call = rw (row .call) (old .call); value = tt; position = rw (row .position) (old .position); held = rw (row .held) fits; claimed = none; backed = rw (row .backed) flag; steps = rw (row .steps) (old .steps) })))
-      (unclaimed (z .N) (γ .shape .lo) σ (rowOf σ′ t) (rw (row .held) holding) none
+      (unclaimed z σ (rowOf σ′ t) (rw (row .held) holding) none
       (λ h. rw (row .held) (some (omega (arith, row .in-phase))))
       (λ q. not-five (sym (row .in-phase) ∙ q))
-      (λ q. omega (arith, row .in-phase)))
+      (λ q. omega (arith, row .in-phase))
+      (λ q. rw (row .position, row .held) (way (sym (row .in-phase) ∙ q))))
       none
       (shows ∙ seen)
       model
@@ -96,18 +98,19 @@ module _ (z : Sizes) (σ : Reader) (γ : Ghost) (good : Good z σ γ) (t : ℕ) 
 
   -- a step that writes the phase alone, with a record held before and after
   phase-alone : (p p′ : ℕ) (y : Producer) → σ (phase t) ≡ p → 3 ≤ p
-      → getD producerSorts p [] ≡ placedSorts → getD producerSorts p′ [] ≡ placedSorts → p′ ≤ 9 → (p′ ≡ 5 → ⊥)
+      → getD producerSorts p [] ≡ placedSorts → getD producerSorts p′ [] ≡ placedSorts → p′ ≤ 9 → (p′ ≡ 5 → ⊥) × (p′ ≡ 7 → ⊥)
       → producerAt p′ (σ (call t)) (σ (value t)) (σ (position t)) (placeOf (placesOf σ) (σ (held t))) ≡ y
       → Invariant (z .B) (withProducer (view σ γ) t y)
       → Goes z σ γ (step t) going (phase t := p′ ∷ [])
-  phase-alone p p′ y e past sorts sorts′ l not-five seen model =
-      walks p p′ (σ (held t)) (σ (producer t 6)) (phase t := p′ ∷ []) y e sorts sorts′ l not-five
+  phase-alone p p′ y e past sorts sorts′ l others seen model =
+      walks p p′ (σ (held t)) (σ (producer t 6)) (phase t := p′ ∷ []) y e sorts sorts′ l (others .0)
       ((refl, omega arith), tt)
       (record { in-phase = rw self refl; call = refl; value = refl; position = refl; held = refl; claimed = refl; backed = refl; steps = refl })
       (held-most p e sorts)
       (flag-most p e sorts)
       (good .memory .threads t .holding)
       (λ h. good .memory .threads t .has-held (omega arith))
+      (λ q. absurd (others .1 q))
       seen
       model
 
@@ -122,11 +125,11 @@ module _ (z : Sizes) (σ : Reader) (γ : Ghost) (good : Good z σ γ) (t : ℕ) 
 
       each : (h : ℕ) → σ (held t) ≡ suc h → (b : Bool) → eqb (σ (next h)) 0 ≡ b → Goes z σ γ (step t) going (phase t := cond b 4 6 ∷ [])
       each h q true n =
-          phase-alone 3 4 _ e (omega arith) refl refl (omega arith) (λ x. omega arith) refl
+          phase-alone 3 4 _ e (omega arith) refl refl (omega arith) ((λ x. omega arith), (λ x. omega arith)) refl
           (goes-on-same (z .B) (view σ γ) t _ seen (good .model))
       each h q false n =
           let l : σ (place h) < γ .shape .hi = held-before-last (good .memory) t h q (eqb-false (σ (next h)) 0 n) in
-          phase-alone 3 6 _ e (omega arith) refl refl (omega arith) (λ x. omega arith) refl
+          phase-alone 3 6 _ e (omega arith) refl refl (omega arith) ((λ x. omega arith), (λ x. omega arith)) refl
           (pass-on (z .B) (view σ γ) (good .model) t _ _ _ _ seen (rw q l))
 
   -- "choose" by its two tests
@@ -144,16 +147,27 @@ module _ (z : Sizes) (σ : Reader) (γ : Ghost) (good : Good z σ γ) (t : ℕ) 
   chosen-phase false true = (refl, omega arith, λ x. omega arith)
   chosen-phase false false = (refl, omega arith, λ x. omega arith)
 
+  -- it chooses to go back where the position is before the record
+  chose-back : (b c : Bool) → phaseBy b c ≡ 7 → c ≡ true
+  chose-back true c e = absurd (omega arith)
+  chose-back false true e = refl
+  chose-back false false e = absurd (omega arith)
+
+  goes-past : (x : ℕ) → choose z σ t x ≡ 7 → σ (position t) + z .B < z .B * σ (place x)
+  goes-past x e =
+      ltb-true (σ (position t) + z .B) (z .B * σ (place x))
+      (chose-back (leb (z .B * σ (place x)) (σ (position t))) (ltb (σ (position t) + z .B) (z .B * σ (place x))) e)
+
   -- a step that holds the record x and chooses
   chooses : (p x f : ℕ) (ws : List Write) → σ (phase t) ≡ p → getD producerSorts p [] ≡ placedSorts → All (Own (ofProducer t)) ws
-      → Row (after σ ws) (choose z σ t x) (suc x) f → suc x ≤ z .N → f ≤ 1 → Holdable (γ .shape .lo) σ x → (j : ℕ) → σ (place x) ≡ j
+      → Row (after σ ws) (choose z σ t x) (suc x) f → suc x ≤ z .N → f ≤ 1 → Holdable σ x → (choose z σ t x ≡ 7 → TrailFrom (z .B) σ (σ (position t)) (suc x)) → (j : ℕ) → σ (place x) ≡ j
       → Invariant (z .B) (withProducer (view σ γ) t (chosen (z .B) (σ (call t)) (σ (value t)) (σ (position t)) j))
       → Goes z σ γ (step t) going ws
-  chooses p x f ws e sorts own row fits flag holding j placed model =
+  chooses p x f ws e sorts own row fits flag holding way j placed model =
       let b = leb (z .B * σ (place x)) (σ (position t)) in
       let c = ltb (σ (position t) + z .B) (z .B * σ (place x)) in
       let w = chosen-phase b c in
-      walks p (choose z σ t x) (suc x) f ws _ e sorts (w .0) (w .1) (w .2) own row fits flag holding (λ h q. omega arith)
+      walks p (choose z σ t x) (suc x) f ws _ e sorts (w .0) (w .1) (w .2) own row fits flag holding (λ h q. omega arith) way
       (chosen-at b c (σ (call t)) (σ (value t)) (σ (position t)) (σ (place x))
       ∙ ap (chosen (z .B) (σ (call t)) (σ (value t)) (σ (position t))) placed)
       model
@@ -165,17 +179,16 @@ module _ (z : Sizes) (σ : Reader) (γ : Ghost) (good : Good z σ γ) (t : ℕ) 
       by-need (Fine z σ γ (step t)) (σ tailRecord) _ (λ q. omega (arith, m .tail-is))
       (λ r q.
       let is : r ≡ γ .shape .at (γ .shape .tp) = omega (arith, m .tail-is) in
-      let low = m .head-tail in
-      let high = m .tail-last in
-      let linked : σ (used r) ≡ 2 = ap (λ (x : ℕ). σ (used x)) is ∙ m .chain .linked (γ .shape .tp) low high in
+      let linked : σ (used r) ≡ 2 = ap (λ (x : ℕ). σ (used x)) is ∙ m .chain .linked (γ .shape .tp) (tail-listed m) in
       chooses 2 r (σ (producer t 6)) (held t := suc r ∷ phase t := choose z σ t r ∷ []) e refl
       ((refl, omega arith), ((refl, omega arith), tt))
       (record { in-phase = rw self refl; call = refl; value = refl; position = refl; held = rw self refl; claimed = refl; backed = refl; steps = refl })
       (omega (arith, has-sort z record-number (σ tailRecord) (good .range .words tailRecord (omega arith)) .1))
       (flag-most 2 e refl)
       (inl linked)
+      (λ c. (0, (linked, omega (arith, goes-past r c))))
       (γ .shape .tp)
-      (ap (λ (x : ℕ). σ (place x)) is ∙ m .chain .placed (γ .shape .tp) low high)
+      (ap (λ (x : ℕ). σ (place x)) is ∙ m .chain .placed (γ .shape .tp) (tail-listed m))
       (load-tail (z .B) (view σ γ) (good .model) t _ _ _ (seen-at z σ γ good t a-producer 2 e)))
     where
       m : Memory z σ (γ .shape)
@@ -185,44 +198,31 @@ module _ (z : Sizes) (σ : Reader) (γ : Ghost) (good : Good z σ γ) (t : ℕ) 
   pub go-back-fine : σ (phase t) ≡ 7 → Fine z σ γ (step t) (goBack z σ t)
   unfolding goBack
   go-back-fine e =
-      by-need (Fine z σ γ (step t)) (σ (held t)) _ (m .threads t .has-held (omega arith)) (λ h q. from h q (σ (place h)) refl)
+      by-need (Fine z σ γ (step t)) (σ (held t)) _ (m .threads t .has-held (omega arith))
+      (λ h q.
+      let seen : view σ γ .producer t ≡ behind (σ (call t)) (σ (value t)) (σ (position t)) (σ (place h)) =
+      seen-at z σ γ good t a-producer 7 e ∙ ap (behind (σ (call t)) (σ (value t)) (σ (position t))) (ap (placeOf (placesOf σ)) q) in
+      let a = behind-awaited z σ γ good t _ _ _ _ seen in
+      let b = goes-back m t h e q (a .1) (a .0) in
+      by-need (Fine z σ γ (step t)) (σ (prev h)) _ (λ n. omega (arith, b .back))
+      (λ p r.
+      let same : b .to ≡ p = omega (arith, b .back) in
+      chooses 7 p 1 (held t := suc p ∷ backed t := 1 ∷ phase t := choose z σ t p ∷ []) e refl
+      ((refl, omega arith), ((refl, omega arith), ((refl, omega arith), tt)))
+      (record { in-phase = rw self refl; call = refl; value = refl; position = refl; held = rw self refl; claimed = refl; backed = rw self refl; steps = refl })
+      (omega (arith, has-sort z link (σ (prev h)) (good .range .words (prev h) (fits h q, omega arith))))
+      (omega arith)
+      (rw same at (b .may-hold))
+      (λ c. rw same at (b .way))
+      (σ (place p))
+      refl
+      (go-back (z .B) (view σ γ) (good .model) t _ _ _ (σ (place h)) (σ (place p)) seen (rw same at (b .falls)))))
     where
       m : Memory z σ (γ .shape)
       m = good .memory
 
-      seen : (h j : ℕ) → σ (held t) ≡ suc h → σ (place h) ≡ j → view σ γ .producer t ≡ behind (σ (call t)) (σ (value t)) (σ (position t)) j
-      seen h j q w =
-          seen-at z σ γ good t a-producer 7 e
-          ∙ ap (behind (σ (call t)) (σ (value t)) (σ (position t))) (ap (placeOf (placesOf σ)) q ∙ w)
-
-      linked : (h : ℕ) → γ .shape .lo < σ (place h) → Holdable (γ .shape .lo) σ h → σ (used h) ≡ 2
-      linked h l (inl u) = u
-      linked h l (inr u) = absurd (omega (arith, u .2))
-
-      from : (h : ℕ) → σ (held t) ≡ suc h → (j : ℕ) → σ (place h) ≡ j
-          → Fine z σ γ (step t) (need (σ (prev h)) λ p. goes (held t := suc p ∷ backed t := 1 ∷ phase t := choose z σ t p ∷ []))
-      from h q zero w =
-          let l : γ .shape .lo < 0 = behind-past-first (z .B) (view σ γ) (good .model) t _ _ _ 0 (seen h 0 q w) in
-          absurd (omega arith)
-      from h q (suc j) w =
-          let l : γ .shape .lo < suc j = behind-past-first (z .B) (view σ γ) (good .model) t _ _ _ (suc j) (seen h (suc j) q w) in
-          let u : σ (used h) ≡ 2 = linked h (omega arith) (held-is m t h q) in
-          let o = m .chain .only h u in
-          let is : γ .shape .at (suc j) ≡ h = ap (γ .shape .at) (sym w) ∙ o .2 in
-          let top : suc j ≤ γ .shape .hi = omega (arith, o .1) in
-          let back : σ (prev h) ≡ suc (γ .shape .at j) = ap (λ (x : ℕ). σ (prev x)) (sym is) ∙ m .chain .prevs j (omega arith) top in
-          by-need (Fine z σ γ (step t)) (σ (prev h)) _ (λ n. omega arith)
-          (λ p r.
-          let same : p ≡ γ .shape .at j = omega arith in
-          chooses 7 p 1 (held t := suc p ∷ backed t := 1 ∷ phase t := choose z σ t p ∷ []) e refl
-          ((refl, omega arith), ((refl, omega arith), ((refl, omega arith), tt)))
-          (record { in-phase = rw self refl; call = refl; value = refl; position = refl; held = rw self refl; claimed = refl; backed = rw self refl; steps = refl })
-          (omega (arith, m .chain .fits j (omega arith) (omega arith)))
-          (omega arith)
-          (inl (ap (λ (x : ℕ). σ (used x)) same ∙ m .chain .linked j (omega arith) (omega arith)))
-          j
-          (ap (λ (x : ℕ). σ (place x)) same ∙ m .chain .placed j (omega arith) (omega arith))
-          (go-back (z .B) (view σ γ) (good .model) t _ _ _ j (seen h (suc j) q w)))
+      fits : (h : ℕ) → σ (held t) ≡ suc h → h < z .N
+      fits h q = omega (arith, held-most 7 e refl)
 
   -- 6. Shift: if the tail record is the held one, it becomes next of held. To 2.
   abbrev shiftWrites : ℕ → List Write
@@ -240,7 +240,7 @@ module _ (z : Sizes) (σ : Reader) (γ : Ghost) (good : Good z σ γ) (t : ℕ) 
     tail-placed =
         ap (placeOf (placesOf σ)) q
         ∙ ap (λ (x : ℕ). σ (place x)) is-tail
-        ∙ good .memory .chain .placed (γ .shape .tp) (good .memory .head-tail) (good .memory .tail-last)
+        ∙ good .memory .chain .placed (γ .shape .tp) (tail-listed (good .memory))
 
     tail-below : placeOf (placesOf σ) (σ (held t)) < γ .shape .hi
     tail-below = producer-clause (z .B) (view σ γ) (good .model) t _ seen-shifting .3
@@ -248,7 +248,7 @@ module _ (z : Sizes) (σ : Reader) (γ : Ghost) (good : Good z σ γ) (t : ℕ) 
     tail-next : σ (next h) ≡ suc (γ .shape .at (suc (placeOf (placesOf σ) (σ (held t)))))
     tail-next =
         ap (λ (x : ℕ). σ (next x)) is-tail
-        ∙ good .memory .chain .nexts (γ .shape .tp) (good .memory .head-tail) (omega (arith, tail-placed, tail-below))
+        ∙ good .memory .chain .nexts (γ .shape .tp) (suc (γ .shape .tp)) (tail-joined (good .memory) (omega (arith, tail-placed, tail-below)))
         ∙ ap (λ (x : ℕ). suc (γ .shape .at (suc x))) (sym tail-placed)
 
     shifts : (n : ℕ) → σ (next h) ≡ suc n → Goes z σ γ (step t) going (shiftWrites n)
@@ -260,23 +260,23 @@ module _ (z : Sizes) (σ : Reader) (γ : Ghost) (good : Good z σ γ) (t : ℕ) 
         (record { parts = λ x j. refl; entries = λ x u i j. refl })
         (refl, refl, refl, refl)
         (producer-row-of z (rowOf σ′ t) 2 two (omega arith) (record { call = old .call; value = old .value; position = old .position; held = old .held; claimed = old .claimed; backed = old .backed; steps = old .steps }))
-        (unclaimed (z .N) (γ .shape .lo) σ (rowOf σ′ t) (good .memory .threads t .holding) none
-        (λ l. absurd (omega (arith, two))) (λ x. omega (arith, two)) (λ x. omega (arith, two)))
+        (unclaimed z σ (rowOf σ′ t) (good .memory .threads t .holding) none
+        (λ l. absurd (omega (arith, two))) (λ x. omega (arith, two)) (λ x. omega (arith, two)) (λ x. absurd (omega (arith, two))))
         none
-        (omega (arith, tail-placed, good .memory .head-tail), tail-below, sym r ∙ tail-next)
+        (omega (arith, tail-placed), tail-below, sym r ∙ tail-next)
         (good .agrees)
         (as-seen (shift-tail (z .B) (view σ γ) (good .model) t _ _ _ _ seen-shifting tail-placed)
         (producers-after t σ σ′ (others-kept z t σ (shiftWrites n) in-sort) (λ u x. refl) _ (rw self refl)))
         (good .formed)
         refl
-        (omega arith, omega (arith, tail-placed))
-        (λ p x. x)
+        (omega arith)
+        (λ p. ((λ x. x), (λ x. x)))
       where
         σ′ : Reader
         σ′ = after σ (shiftWrites n)
 
         fits : h < z .N
-        fits = rw is-tail (good .memory .chain .fits (γ .shape .tp) (good .memory .head-tail) (good .memory .tail-last))
+        fits = rw is-tail (good .memory .chain .fits (γ .shape .tp) (tail-listed (good .memory)))
 
         in-sort : All (InSort z t) (shiftWrites n)
         in-sort = (
@@ -303,5 +303,5 @@ module _ (z : Sizes) (σ : Reader) (γ : Ghost) (good : Good z σ γ) (t : ℕ) 
       let c : σ tailRecord ≡ suc h = eqb-true (σ tailRecord) (suc h) b in
       by-need (Fine z σ γ (step t)) (σ (next h)) _ (λ n. omega (arith, tail-next h e q c)) (shifts h e q c))
       (λ b.
-      phase-alone 6 2 _ e (omega arith) refl refl (omega arith) (λ x. omega arith) refl
+      phase-alone 6 2 _ e (omega arith) refl refl (omega arith) ((λ x. omega arith), (λ x. omega arith)) refl
       (leave-tail (z .B) (view σ γ) (good .model) t _ _ _ _ (seen-at z σ γ good t a-producer 6 e))))

@@ -1,6 +1,6 @@
 -- A producer's step that writes a record's words: what is left to show of it, and what others see of it, nothing.
 use mathlib.Core.Path.{_≡_, refl, ap, sym, _∙_, subst}
-use mathlib.Core.Bool.{true}
+use mathlib.Core.Bool.{Bool, true}
 use mathlib.Core.List.{List, _++_}
 use Prim.Native.Nat.{ℕ, zero, suc, _+_, _*_, _≤_}
 use native.Mathlib.Decide.{ℕ-discrete}
@@ -17,12 +17,13 @@ use Rattle.rules.specs.Request.{Request}
 use Rattle.rules.specs.Play.{threadOf, replyEvents}
 use Rattle.rules.specs.Readback.{WriteThere}
 use Rattle.rules.specs.InRange.{InSort, writes-keep-range}
-use Rattle.model.specs.State.{Entry, blank, Producer, Consumer, State}
+use Rattle.model.specs.State.{Entry, blank, gone, Producer, Consumer, State}
 use Rattle.model.specs.Invariant.{Invariant}
+use Rattle.memory.specs.Listed.{Listed}
 use Rattle.memory.specs.Chain
 use Rattle.memory.specs.Memory.{Linked, Memory}
 use Rattle.simulation.specs.View.{Ghost, placesOf, placeOf, consumerAt, consumerOf, view, codeOf, Agrees, AgreesWith}
-use Rattle.simulation.specs.Good.{Good, Goes, Moved, Tells}
+use Rattle.simulation.specs.Good.{Good, read-still, Goes, Moved, Tells}
 use Rattle.simulation.specs.Told.{ToEnqueue, enqueue-tells}
 
 module _ (z : Sizes) (σ : Reader) (γ : Ghost) (good : Good z σ γ) (t : ℕ) (a-producer : (1 ≤ t) × (t ≤ z .P)) where
@@ -33,11 +34,13 @@ module _ (z : Sizes) (σ : Reader) (γ : Ghost) (good : Good z σ γ) (t : ℕ) 
       → Memory z (after σ ws) (γ′ .shape)
       → AgreesWith (z .B) (after σ ws) γ′
       → Invariant (z .B) (view (after σ ws) γ′)
+      → consumerOf (after σ ws) ≡ consumerOf σ
+      → ((p : ℕ) → γ .entry p ≡ gone → γ′ .entry p ≡ gone)
       → wellFormed (γ′ .history) ≡ true
       → γ′ .history ≡ replyEvents q (γ .history) r ++ γ .history
       → Moved (threadOf q) σ (after σ ws) γ γ′
       → Goes z σ γ q r ws
-  record-goes q r of ws γ′ in-sort there in-row memory agrees model formed grown moved =
+  record-goes q r of ws γ′ in-sort there in-row memory agrees model seen still formed grown moved =
       record {
         there = there;
         next = γ′;
@@ -50,6 +53,7 @@ module _ (z : Sizes) (σ : Reader) (γ : Ghost) (good : Good z σ γ) (t : ℕ) 
               model = model;
               formed = formed;
               pending = tells .pending;
+              read = read-still z σ γ good t (a-producer .0) ws (γ′ .entry) in-sort seen still;
             };
         grown = tells .grown;
         moved = moved;
@@ -103,41 +107,43 @@ pub seen-as : {B : ℕ} {s : State} {tail hp starts : ℕ} {f : ℕ → Producer
 seen-as {B} {s} i a b d p q = subst (Invariant B) (λ j. withSeen s (a j) (b j) (d j) (p j) (q j)) i
 
 -- Entries stay where those of the linked records do.
-pub agrees-kept : (B lo hi : ℕ) (at : ℕ → ℕ) (entry : ℕ → Entry) (content : ℕ → Item) (cell cell′ : ℕ → ℕ → ℕ → ℕ)
-    → ((k i j : ℕ) → lo ≤ suc k → suc k ≤ hi → cell′ (at (suc k)) i j ≡ cell (at (suc k)) i j)
-    → Agrees B lo hi at entry content cell → Agrees B lo hi at entry content cell′
-agrees-kept B lo hi at entry content cell cell′ same a =
+pub agrees-kept : (B lo hi : ℕ) (gap : ℕ → Bool) (at : ℕ → ℕ) (entry : ℕ → Entry) (content : ℕ → Item) (cell cell′ : ℕ → ℕ → ℕ → ℕ)
+    → ((k i j : ℕ) → Listed lo hi gap (suc k) → cell′ (at (suc k)) i j ≡ cell (at (suc k)) i j)
+    → Agrees B lo hi gap at entry content cell → Agrees B lo hi gap at entry content cell′
+agrees-kept B lo hi gap at entry content cell cell′ same a =
     record {
-      states = λ k i l h b. same k i 0 l h ∙ a .states k i l h b;
-      numbers = λ k i l h b. same k i 1 l h ∙ a .numbers k i l h b;
-      values = λ k i l h b. same k i 2 l h ∙ a .values k i l h b;
+      states = λ k i l b. same k i 0 l ∙ a .states k i l b;
+      numbers = λ k i l b. same k i 1 l ∙ a .numbers k i l b;
+      values = λ k i l b. same k i 2 l ∙ a .values k i l b;
+      folded = a .folded;
       fresh = a .fresh;
     }
 
 -- They agree with one more record, of zero entries, behind the last one.
-pub agrees-grows : (B lo hi : ℕ) (at : ℕ → ℕ) (entry : ℕ → Entry) (content : ℕ → Item) (cell cell′ : ℕ → ℕ → ℕ → ℕ) (c : ℕ)
+pub agrees-grows : (B lo hi : ℕ) (gap : ℕ → Bool) (at : ℕ → ℕ) (entry : ℕ → Entry) (content : ℕ → Item) (cell cell′ : ℕ → ℕ → ℕ → ℕ) (c : ℕ)
     → ((y i j : ℕ) → cell′ y i j ≡ cell y i j) → ((i j : ℕ) → cell c i j ≡ 0) → ((p : ℕ) → B * hi ≤ p → entry p ≡ blank)
-    → Agrees B lo hi at entry content cell → Agrees B lo (suc hi) (Chain.withPlace at (suc hi) c) entry content cell′
-agrees-grows B lo hi at entry content cell cell′ c same zeros blanks a =
+    → Agrees B lo hi gap at entry content cell → Agrees B lo (suc hi) gap (Chain.withPlace at (suc hi) c) entry content cell′
+agrees-grows B lo hi gap at entry content cell cell′ c same zeros blanks a =
     record {
       states =
-          λ k i l h b. each (λ k y. cell′ y i 0 ≡ codeOf (entry (B * k + i)))
-          (same c i 0 ∙ zeros i 0 ∙ ap codeOf (sym (blanks (B * hi + i) (omega arith)))) (λ k l h. same (at (suc k)) i 0 ∙ a .states k i l h b) k l h;
+          λ k i l b. each (λ k y. cell′ y i 0 ≡ codeOf (entry (B * k + i)))
+          (same c i 0 ∙ zeros i 0 ∙ ap codeOf (sym (blanks (B * hi + i) (omega arith)))) (λ k l. same (at (suc k)) i 0 ∙ a .states k i l b) k l;
       numbers =
-          λ k i l h b. each (λ k y. cell′ y i 1 ≡ content (B * k + i) .number)
+          λ k i l b. each (λ k y. cell′ y i 1 ≡ content (B * k + i) .number)
           (same c i 1 ∙ zeros i 1 ∙ ap (λ (x : Item). x .number) (sym (a .fresh (B * hi + i) (omega arith))))
-          (λ k l h. same (at (suc k)) i 1 ∙ a .numbers k i l h b) k l h;
+          (λ k l. same (at (suc k)) i 1 ∙ a .numbers k i l b) k l;
       values =
-          λ k i l h b. each (λ k y. cell′ y i 2 ≡ content (B * k + i) .value)
+          λ k i l b. each (λ k y. cell′ y i 2 ≡ content (B * k + i) .value)
           (same c i 2 ∙ zeros i 2 ∙ ap (λ (x : Item). x .value) (sym (a .fresh (B * hi + i) (omega arith))))
-          (λ k l h. same (at (suc k)) i 2 ∙ a .values k i l h b) k l h;
+          (λ k l. same (at (suc k)) i 2 ∙ a .values k i l b) k l;
+      folded = a .folded;
       fresh = λ p l. a .fresh p (omega arith);
     }
   where
-    each : (Q : ℕ → ℕ → Type 0) → Q hi c → ((k : ℕ) → lo ≤ suc k → suc k ≤ hi → Q k (at (suc k)))
-        → (k : ℕ) → lo ≤ suc k → suc k ≤ suc hi → Q k (Chain.withPlace at (suc hi) c (suc k))
-    each Q new old k l h = go (ℕ-discrete k hi)
+    each : (Q : ℕ → ℕ → Type 0) → Q hi c → ((k : ℕ) → Listed lo hi gap (suc k) → Q k (at (suc k)))
+        → (k : ℕ) → Listed lo (suc hi) gap (suc k) → Q k (Chain.withPlace at (suc hi) c (suc k))
+    each Q new old k l = go (ℕ-discrete k hi)
       where
         go : Dec (k ≡ hi) → Q k (Chain.withPlace at (suc hi) c (suc k))
         go (yes e) = rw (e, Chain.with-place-same at (suc hi) c) new
-        go (no n) = rw (Chain.with-place-other at (suc hi) c (suc k) (λ e. omega arith)) (old k l (omega arith))
+        go (no n) = rw (Chain.with-place-other at (suc hi) c (suc k) (λ e. omega arith)) (old k (record { from = l .from; to = omega (arith, l .to); no-gap = l .no-gap }))

@@ -31,9 +31,9 @@ use Rattle.simulation.specs.Told.{early, told-early, tells-end}
 use Rattle.simulation.specs.DrainWords.{DrainIn, drain-in, drain-from}
 use Rattle.simulation.specs.Rows.{of-sort, has-sort, ProducerWords, producer-row-of, consumer-row-of}
 use Rattle.simulation.specs.ProducerSteps.{as-seen, producers-after, unclaimed, own-words, seen-at}
-use Rattle.simulation.specs.OwnWords.{later, consumer-own}
+use Rattle.simulation.specs.OwnWords.{later, scan-none, consumer-own}
 use Rattle.simulation.specs.RecordSteps.{record-goes}
-use Rattle.simulation.specs.ConsumerSteps.{consumer-words, consumer-at, consumer-light, none-counted}
+use Rattle.simulation.specs.ConsumerSteps.{consumer-words, consumer-at, no-scan, consumer-light, none-counted}
 
 module _ (z : Sizes) (σ : Reader) (γ : Ghost) (good : Good z σ γ) where
   -- the writes of a start enqueue
@@ -48,10 +48,10 @@ module _ (z : Sizes) (σ : Reader) (γ : Ghost) (good : Good z σ γ) where
       (producer-row-of z (rowOf σ′ t) 1 one (omega arith)
       (record { call = rw self room; value = tt; position = old .position; held = old .held; claimed = old .claimed; backed = old .backed; steps = omega (arith, old .steps) }))
       (producer-keeps z σ σ′ (γ .shape) m (record { parts = λ x j. refl; entries = λ x u i j. refl }) t (γ .shape .tp) a (others-kept z t σ (startWrites t v) in-sort)
-      (unclaimed (z .N) (γ .shape .lo) σ (rowOf σ′ t) (m .threads t .holding) (old .claimed)
-      (λ l. absurd (omega (arith, one))) (λ x. omega (arith, one)) (λ x. omega (arith, one)))
+      (unclaimed z σ (rowOf σ′ t) (m .threads t .holding) (old .claimed)
+      (λ l. absurd (omega (arith, one))) (λ x. omega (arith, one)) (λ x. omega (arith, one)) (λ x. absurd (omega (arith, one))))
       (old .claimed)
-      (m .head-tail)
+      (omega arith)
       (m .tail-last)
       (m .tail-is)
       refl
@@ -60,11 +60,13 @@ module _ (z : Sizes) (σ : Reader) (γ : Ghost) (good : Good z σ γ) where
       (good .agrees)
       (as-seen (begin-enqueue (z .B) (view σ γ) (good .model) t v)
       (producers-after t σ σ′ (others-kept z t σ (startWrites t v) in-sort) (λ u x. refl) _ (rw self refl)))
+      refl
+      (λ p x. x)
       (enqueue-may-start (γ .history) (good .formed) t (suc (σ starts)) v (good .model .calls .of-producers t ∙ ap callOf (seen-at z σ γ good t a 0 e))
       (λ b. omega (arith, good .model .past .numbered (suc (σ starts)) b .1)))
       refl
       (places-stay z t σ γ _ (startWrites t v) in-sort (λ x. refl) (omega arith) (omega arith) (omega arith)
-      (λ l. record { same-head = refl; same-first = refl; same-records = λ k h. refl; was-gone = λ p e. e }))
+      (λ l. record { same-head = refl; same-first = refl; same-gaps = λ k. refl; same-records = λ k h. refl; was-gone = λ p e. e }))
     where
       m : Memory z σ (γ .shape)
       m = good .memory
@@ -137,6 +139,7 @@ module _ (z : Sizes) (σ : Reader) (γ : Ghost) (good : Good z σ γ) where
       (λ idle. absurd (omega arith))
       (good .memory .cursor, good .memory .found)
       refl
+      (scan-none z σ γ good _ _ (no-scan z σ γ good 0 e refl))
       (begin-dequeue (z .B) (view σ γ) (good .model))
       (dequeue-may-start (γ .history) (good .formed) (good .model .calls .of-consumer ∙ ap isBusy (consumer-at z σ γ good 0 e)))
       (tells-end σ (after σ (consumerPhase := 1 ∷ [])) startDequeue ok (γ .history) (dequeueStarted ∷ γ .history) (told-early σ (early σ e (omega arith)) (γ .history)) (omega arith) (none e) (none-counted z σ γ good (none e)) refl))
@@ -155,6 +158,7 @@ module _ (z : Sizes) (σ : Reader) (γ : Ghost) (good : Good z σ γ) where
         drain-from z (after σ ws)
             (record { most = l .1; idle = λ idle. absurd (omega arith); counted = omega (arith, count); kept = area .kept; others = area .others }),
       )
+      (no-scan z σ γ good 0 e refl)
       (good .memory .cursor, good .memory .found)
       (good .agrees)
       (begin-dequeue (z .B) (view σ γ) (good .model))

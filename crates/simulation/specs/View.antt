@@ -1,6 +1,7 @@
 -- The position machine that a store stands for. What the store does not hold is kept beside it: where the chain stands, the
 -- entries by position, which call owns a position, and the history.
 use mathlib.Core.Path.{_≡_}
+use mathlib.Core.Bool.{Bool, true}
 use mathlib.Core.List.{[], _∷_}
 use Prim.Native.Nat.{ℕ, zero, suc, _+_, _*_, _≤_, _<_}
 use lib.ListN.{getD}
@@ -8,6 +9,7 @@ use Rattle.history.specs.Event.{History}
 use Rattle.history.specs.Linearization.{Item}
 use Rattle.rules.specs.Cell.{Reader, consumer, entry, tail, headPosition, starts, place}
 use Rattle.model.specs.State.{Entry, blank, put, gone, Producer, idle, started, seeking, ahead, shifting, behind, writing, setting, done, Consumer, resting, front, reading, scanning, looking, rescanning, found, holding, retiring, State}
+use Rattle.memory.specs.Listed.{Listed}
 use Rattle.memory.specs.Memory.{ChainShape, rowOf}
 
 pub record Ghost : Type 0 where
@@ -100,15 +102,17 @@ codeOf blank = 0
 codeOf put = 1
 codeOf gone = 2
 
--- The entries of the linked records are those of their positions; past the last record nothing has been written.
-pub record Agrees (B lo hi : ℕ) (at : ℕ → ℕ) (entry : ℕ → Entry) (content : ℕ → Item) (cell : ℕ → ℕ → ℕ → ℕ) : Type 0 where
-  pub states : (k i : ℕ) → lo ≤ suc k → suc k ≤ hi → i < B → cell (at (suc k)) i 0 ≡ codeOf (entry (B * k + i))
-  pub numbers : (k i : ℕ) → lo ≤ suc k → suc k ≤ hi → i < B → cell (at (suc k)) i 1 ≡ content (B * k + i) .number
-  pub values : (k i : ℕ) → lo ≤ suc k → suc k ≤ hi → i < B → cell (at (suc k)) i 2 ≡ content (B * k + i) .value
+-- The entries of the linked records are those of their positions; those of folded records were all handled; past the last record nothing has
+-- been written.
+pub record Agrees (B lo hi : ℕ) (gap : ℕ → Bool) (at : ℕ → ℕ) (entry : ℕ → Entry) (content : ℕ → Item) (cell : ℕ → ℕ → ℕ → ℕ) : Type 0 where
+  pub states : (k i : ℕ) → Listed lo hi gap (suc k) → i < B → cell (at (suc k)) i 0 ≡ codeOf (entry (B * k + i))
+  pub numbers : (k i : ℕ) → Listed lo hi gap (suc k) → i < B → cell (at (suc k)) i 1 ≡ content (B * k + i) .number
+  pub values : (k i : ℕ) → Listed lo hi gap (suc k) → i < B → cell (at (suc k)) i 2 ≡ content (B * k + i) .value
+  pub folded : (k i : ℕ) → gap (suc k) ≡ true → i < B → entry (B * k + i) ≡ gone
   pub fresh : (p : ℕ) → B * hi ≤ p → content p ≡ record { number = 0; value = 0 }
 
 abbrev pub cellOf : Reader → ℕ → ℕ → ℕ → ℕ
 cellOf σ r i k = σ (entry r i k)
 
 abbrev pub AgreesWith : ℕ → Reader → Ghost → Type 0
-AgreesWith B σ γ = Agrees B (γ .shape .lo) (γ .shape .hi) (γ .shape .at) (γ .entry) (γ .content) (cellOf σ)
+AgreesWith B σ γ = Agrees B (γ .shape .lo) (γ .shape .hi) (γ .shape .gap) (γ .shape .at) (γ .entry) (γ .content) (cellOf σ)

@@ -4,7 +4,7 @@ use Prim.Native.Nat.{ℕ}
 use lib.ListN.{getD}
 use Rattle.history.specs.Event.{mostProducers}
 use Rattle.rules.specs.Sizes.{Sizes, mostEntries, mostRecords, mostStarts, mostPlace, mostSteps, mostDrained, contentWords, recordWords}
-use Rattle.rules.specs.Cell.{Cell, content, lastClaimed, spare, consumer, producer, part, entry, drain, pair}
+use Rattle.rules.specs.Cell.{Cell, content, lastClaimed, allHandled, spare, consumer, producer, part, entry, drain, pair}
 use Rattle.rules.specs.Range.{Sort, unused, exactly, number, link, record-number, most, any, lastConsumerPhase, lastProducerPhase}
 
 -- the largest 32-bit number
@@ -38,6 +38,7 @@ contentCaps z = z .B ∷ z .N ∷ z .P ∷ z .M ∷ contentWords ∷ mostWord �
 abbrev pub capOf : Sizes → Cell → ℕ
 capOf z (content k) = getD (contentCaps z) k 0
 capOf z lastClaimed = z .N
+capOf z allHandled = 1
 capOf z (spare k) = 0
 capOf z (consumer k) = getD (lastConsumerPhase ∷ consumerCaps z) k 0
 capOf z (producer t k) = getD (lastProducerPhase ∷ producerCaps z) k 0

@@ -1,6 +1,6 @@
 -- Laws of the accessors: a cell that is there is one word, a word in range is at most its cap, and zeros written one by one.
 use mathlib.Core.Path.{_≡_, refl, ap, sym, _∙_, subst}
-use mathlib.Core.Bool.{Bool, true, false, _&&_, cond}
+use mathlib.Core.Bool.{Bool, true, false, _&&_, _||_, cond}
 use mathlib.Core.List.{List, [], _∷_, _++_}
 use Prim.Native.Nat.{ℕ, zero, suc, _+_, _*_, _≤_, _<_}
 use native.Mathlib.Nat.{mul-le-mul-left, mul-le-mul-right}
@@ -10,9 +10,9 @@ use lib.ListN.{length, getD, set, replicate}
 use lib.Seq.{sets}
 use borrow.Author.Tests.{ne-eqb, leb-true, eqb-true}
 use Rattle.rules.specs.Sizes.{Sizes, contentWords, threadWords, recordWords, firstRecord, mostEntries, mostRecords, mostPlace, mostDrained}
-use Rattle.rules.specs.Cell.{Cell, content, lastClaimed, spare, consumer, producer, part, entry, drain, pair, consumerPhase, drainLimit, drainCount, stepCount, address, reader, Write, write, writes}
+use Rattle.rules.specs.Cell.{Cell, content, lastClaimed, allHandled, spare, consumer, producer, part, entry, drain, pair, consumerPhase, drainLimit, drainCount, stepCount, address, reader, Write, write, writes}
 use Rattle.rules.specs.Update.{both}
-use Rattle.rules.specs.Range.{Sort, unused, exactly, number, link, record-number, most, any, ofSort, ofSorts, every, threadInRange, pairInRange, pairSorts, noPairSorts, placedSorts, consumerSorts, producerSorts, contentSorts, lastClaimedSort, lastConsumerPhase, lastProducerPhase}
+use Rattle.rules.specs.Range.{Sort, unused, exactly, number, link, record-number, most, any, ofSort, ofSorts, every, threadInRange, pairInRange, pairSorts, noPairSorts, placedSorts, consumerSorts, producerSorts, contentSorts, lastClaimedSort, lastConsumerPhase, lastProducerPhase, mostAllHandled}
 use Rattle.rules.specs.Address.{There, there-is}
 use Rattle.rules.specs.InRange.{sorts-at, row-at, every-at, sortOf}
 use Rattle.store.specs.Caps.{mostRecordWords, cap, capOf, mostWord, producerCaps, consumerCaps, contentCaps}
@@ -101,12 +101,19 @@ entry-cap z (suc zero) h = omega arith
 entry-cap z (suc (suc zero)) h = omega arith
 entry-cap z (suc (suc (suc k))) h = absurd (omega arith)
 
-spare-cap : (z : Sizes) (k : ℕ) → k < 4 → cap z (sortOf z (spare k)) ≤ capOf z (spare k)
+spare-cap : (z : Sizes) (k : ℕ) → k < 3 → cap z (sortOf z (spare k)) ≤ capOf z (spare k)
 spare-cap z zero h = omega arith
 spare-cap z (suc zero) h = omega arith
 spare-cap z (suc (suc zero)) h = omega arith
-spare-cap z (suc (suc (suc zero))) h = omega arith
-spare-cap z (suc (suc (suc (suc k)))) h = absurd (omega arith)
+spare-cap z (suc (suc (suc k))) h = absurd (omega arith)
+
+-- what the scan has read is at most 1, whatever the phase
+all-handled-cap : (x p : ℕ) → leb x (mostAllHandled p) ≡ true → x ≤ 1
+all-handled-cap x p e = go (eqb p 3 || eqb p 4) e
+  where
+    go : (b : Bool) → leb x (cond b 1 0) ≡ true → x ≤ 1
+    go true e = leb-true x 1 e
+    go false e = let h = leb-true x 0 e in omega arith
 
 content-under : (z : Sizes) → firstRecord z ≤ mostWord → Under z (contentSorts z) (contentCaps z)
 content-under z f = omega arith
@@ -156,6 +163,7 @@ in-range-most z m a (content k) h w =
     let y = under-at z (contentSorts z) (contentCaps z) (content-under z (omega arith)) k h in
     omega arith
 in-range-most z m a lastClaimed h w = sort-cap z lastClaimedSort (reader z m lastClaimed) w (a .ranges .words lastClaimed h)
+in-range-most z m a allHandled h w = all-handled-cap (reader z m allHandled) (reader z m consumerPhase) (a .ranges .scanning)
 in-range-most z m a (spare k) h w =
     let x = sort-cap z (sortOf z (spare k)) (reader z m (spare k)) w (a .ranges .words (spare k) h) in
     let y = spare-cap z k (omega arith) in

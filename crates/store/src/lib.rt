@@ -6,7 +6,7 @@ ghost use lib.ListN.{length, set, replicate};
 ghost use lib.Seq.{sets};
 ghost use Rattle.history.specs.Event.{mostProducers};
 ghost use Rattle.rules.specs.Sizes.{firstRecord, recordWords, drainWords, firstDrain, storeWords, mostEntries, mostRecords, mostDrained, mostPlace, mostWords};
-ghost use Rattle.rules.specs.Cell.{reader, place, used, write, _:=_, content, lastClaimed, consumer, producer, part, entry, drain, headRecord, headPosition, cursorRecord, cursorPosition, foundRecord, foundPosition, itemNumber, itemValue, pairNumber, pairValue, stepCount, clearConsumer, clearProducer, clearDrain, wipe};
+ghost use Rattle.rules.specs.Cell.{reader, place, used, write, _:=_, content, lastClaimed, allHandled, consumer, producer, part, entry, drain, headRecord, headPosition, cursorRecord, cursorPosition, foundRecord, foundPosition, itemNumber, itemValue, pairNumber, pairValue, stepCount, clearConsumer, clearProducer, clearDrain, wipe};
 ghost use Rattle.rules.specs.Address.{There};
 ghost use Rattle.store.specs.Shape.{sizes};
 ghost use Rattle.store.specs.Caps.{mostRecordWords};
@@ -202,6 +202,21 @@ pub fn put_last_claimed(s: &mut [u32], z: Shape, link: u32)
     ensures { λ _. ⌜ now (s .exit) ≡ write (sizes z) (now (s .entry)) (lastClaimed := link) ⌝ }
 {
     put_word(s, z, word::LAST_CLAIMED, link);
+}
+
+// Whether every entry read so far in the cursor's record was handled, the record entered at its first: 1, or 0 (document 02, U6).
+pub fn all_handled(s: &[u32], z: Shape) -> u32
+    requires { ⌜ Admitted (sizes z) (now s) ⌝ }
+    ensures { λ r. ⌜ Reads (sizes z) (now (s .entry)) allHandled r ⌝ }
+{
+    word_at(s, z, word::ALL_HANDLED)
+}
+
+pub fn put_all_handled(s: &mut [u32], z: Shape, v: u32)
+    requires { ⌜ Room (sizes z) (now s) ⌝ }
+    ensures { λ _. ⌜ now (s .exit) ≡ write (sizes z) (now (s .entry)) (allHandled := v) ⌝ }
+{
+    put_word(s, z, word::ALL_HANDLED, v);
 }
 
 // Word k of the consumer.

@@ -24,8 +24,10 @@ pub const HEAD_POSITION: u32 = 9;
 
 pub const STARTS: u32 = 10;
 
-// Word 11, the record claimed last.
+// Word 11, the record claimed last, and word 12, whether the scan has read as handled all that it has read of the cursor's record.
 pub const LAST_CLAIMED: u32 = 11;
+
+pub const ALL_HANDLED: u32 = 12;
 
 // A thread's phase, and the accepted steps of its call.
 pub const PHASE: u32 = 0;

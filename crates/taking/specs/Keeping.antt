@@ -2,7 +2,7 @@
 use mathlib.Core.Path.{_≡_, refl, ap, ap₂, sym, _∙_}
 use mathlib.Core.Bool.{Bool, true, false, cond}
 use mathlib.Core.List.{List, [], _∷_, _++_}
-use Prim.Native.Nat.{ℕ, zero, suc, _≤_, _<_}
+use Prim.Native.Nat.{ℕ, suc, _≤_, _<_}
 use native.Mathlib.Omega.{arith}
 use lib.Dec.{eqb}
 use lib.ListN.{length}
@@ -10,37 +10,15 @@ use borrow.Author.Tests.{eq-eqb, ne-eqb}
 use Rattle.history.specs.Lists.{All}
 use Rattle.history.specs.Linearization.{Item}
 use Rattle.rules.specs.Sizes.{Sizes, storeWords, mostDrained}
-use Rattle.rules.specs.Cell.{Reader, reader, Write, writes, _:=_, ofDrain, pair, headPosition, foundPosition, state}
-use Rattle.rules.specs.Update.{update, after, areaTouched, OtherKind, other-area, other-kind}
+use Rattle.rules.specs.Cell.{Reader, reader, Write, writes, _:=_, headPosition, foundPosition, state}
+use Rattle.rules.specs.Update.{after}
 use Rattle.rules.specs.Readback.{WriteThere, length-writes, reader-writes}
 use Rattle.rules.specs.Consumer.{itemsMarked}
 use Rattle.store.specs.Words.{writes-then}
+use Rattle.draining.specs.Elsewhere.{Elsewhere, same-items, items-left}
 use Rattle.taking.specs.Marking.{marked, kept}
 
--- The same pairs are the same items.
-same-items : (τ σ : Reader) (n : ℕ) → ((j : ℕ) → j < n → (τ (pair j 0) ≡ σ (pair j 0)) × (τ (pair j 1) ≡ σ (pair j 1))) → itemsMarked τ n ≡ itemsMarked σ n
-same-items τ σ zero h = refl
-same-items τ σ (suc n) h =
-    let e = h n (omega arith) in
-    ap₂ (λ (xs : List Item) (x : Item). xs ++ (x ∷ [])) (same-items τ σ n (λ j l. h j (omega arith)))
-    (ap₂ (λ (a v : ℕ). record { number = a; value = v }) (e .0) (e .1))
-
--- Writes outside the drain area leave its pairs.
-abbrev pub Elsewhere : Write → Type 0
-Elsewhere w = OtherKind (areaTouched w) ofDrain
-
-elsewhere : (σ : Reader) (ws : List Write) → All Elsewhere ws → (j k : ℕ) → after σ ws (pair j k) ≡ σ (pair j k)
-elsewhere σ [] h j k = refl
-elsewhere σ (w ∷ ws) h j k =
-    elsewhere (update σ w) ws (h .1) j k ∙ other-area σ w (pair j k) (other-kind (areaTouched w) ofDrain (h .0))
-
 module _ (z : Sizes) (m : List ℕ) (fits : storeWords z ≤ length m) (ws : List Write) (there : All (WriteThere z) ws) (other : All Elsewhere ws) where
-  pair-left : (j k : ℕ) → reader z (writes z m ws) (pair j k) ≡ reader z m (pair j k)
-  pair-left j k = ap (λ (τ : Reader). τ (pair j k)) (reader-writes z m ws fits there) ∙ elsewhere (reader z m) ws other j k
-
-  pub items-left : (n : ℕ) → itemsMarked (reader z (writes z m ws)) n ≡ itemsMarked (reader z m) n
-  items-left n = same-items (reader z (writes z m ws)) (reader z m) n (λ j l. (pair-left j 0, pair-left j 1))
-
   -- One more is kept.
   pub items-kept : (c n v : ℕ) → c < mostDrained
       → itemsMarked (reader z (writes z m (ws ++ kept c n v))) (suc c) ≡ itemsMarked (reader z m) c ++ (record { number = n; value = v } ∷ [])
@@ -52,7 +30,7 @@ module _ (z : Sizes) (m : List ℕ) (fits : storeWords z ≤ length m) (ws : Lis
       ap (reader z) (writes-then z m ws (kept c n v))
       ∙ reader-writes z m′ (kept c n v) (rw (length-writes z m ws) fits) ((h, omega arith), ((h, omega arith), (omega arith, tt))) in
       let below : itemsMarked τ c ≡ itemsMarked (reader z m) c =
-      same-items τ σ′ c (λ j l. let d = ne-eqb c j (λ e. omega arith) in (rw d refl, rw d refl)) ∙ items-left c in
+      same-items τ σ′ c (λ j l. let d = ne-eqb c j (λ e. omega arith) in (rw d refl, rw d refl)) ∙ items-left z m fits ws there other c in
       let at = eq-eqb c c refl in
       rw read (ap₂ (λ (xs : List Item) (x : Item). xs ++ (x ∷ [])) below (ap₂ (λ (a b : ℕ). record { number = a; value = b }) (rw at refl) (rw at refl)))
 

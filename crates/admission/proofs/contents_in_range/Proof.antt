@@ -51,8 +51,17 @@ shared-slice-read-spare-2 c = search needs
 shared-slice-read-spare-3 : tie.Need-shared-slice-read-spare-3
 shared-slice-read-spare-3 c = search needs
 
-shared-slice-read-spare-4 : tie.Need-shared-slice-read-spare-4
-shared-slice-read-spare-4 c = search needs
+shared-slice-read-scan : tie.Need-shared-slice-read-scan
+shared-slice-read-scan c = search needs
+
+shared-slice-read-select : tie.Need-shared-slice-read-select
+shared-slice-read-select c = search needs
+
+shared-slice-read-select-2 : tie.Need-shared-slice-read-select-2
+shared-slice-read-select-2 c = search needs
+
+select-requires : tie.Need-select-requires
+select-requires c κs = search needs
 
 shared-slice-read-result : tie.Need-shared-slice-read-result
 shared-slice-read-result c = search needs
@@ -62,9 +71,9 @@ shared-slice-read-result-2 c = search needs
 
 returns : tie.Need-returns
 returns c =
-    let b = c .before .before .before .before .before .before .before .before .before .before .before .before .before .before .before .before .before .args in
-    let first : c .before .before .before .before .before .before .before .before .before .before .before .before .before .before .before .record-at .result ≡ firstRecord (sizes (b .z)) = omega arith in
-    contents-test (sizes (b .z)) (now (b .s)) (c .before .before .before .before .before .before .before .before .before .before .before .before .before .before .before .before .before .pre .1) ∙ rw (and-true (leb (getD (now (b .s)) 10 0) (b .z .starts)), and-true (eqb (getD (now (b .s)) 15 0) 0), first) refl
+    let b = c .before .before .before .before .before .before .before .before .before .before .before .before .before .before .before .before .before .before .before .before .args in
+    let first : c .before .before .before .before .before .before .before .before .before .before .before .before .before .before .before .before .before .before .record-at .result ≡ firstRecord (sizes (b .z)) = omega arith in
+    contents-test (sizes (b .z)) (now (b .s)) (c .before .before .before .before .before .before .before .before .before .before .before .before .before .before .before .before .before .before .before .before .pre .1) ∙ rw (and-true (leb (getD (now (b .s)) 10 0) (b .z .starts)), and-true (eqb (getD (now (b .s)) 15 0) 0), first, c .before .before .select .ensures) refl
 
 pub contents-in-range-spec : {M : Type 1} → statement M
 contents-in-range-spec =
@@ -83,7 +92,10 @@ contents-in-range-spec =
     shared-slice-read-spare
     shared-slice-read-spare-2
     shared-slice-read-spare-3
-    shared-slice-read-spare-4
+    shared-slice-read-scan
+    shared-slice-read-select
+    shared-slice-read-select-2
+    select-requires
     shared-slice-read-result
     shared-slice-read-result-2
     returns)

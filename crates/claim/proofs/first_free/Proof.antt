@@ -12,16 +12,16 @@ use Rattle.claim.proofs.first_free.Statement.{statement}
 use Rattle.claim.proofs.first_free.Tie as tie
 
 abbrev Inv-loop : tie.InvT-loop
-Inv-loop s z from end r₀ r = (r ≤ end) × (firstFrom from (end - from) (free (sizes z) (reader (sizes z) s)) ≡ firstFrom r (end - r) (free (sizes z) (reader (sizes z) s)))
+Inv-loop s z from end kept r₀ r = (r ≤ end) × (firstFrom from (end - from) (free (sizes z) (reader (sizes z) s)) ≡ firstFrom r (end - r) (free (sizes z) (reader (sizes z) s)))
 
 abbrev μ-loop : tie.MeasureT-loop
-μ-loop s z from end r₀ r = end - r
+μ-loop s z from end kept r₀ r = end - r
 
 loop-holds : tie.Need-loop-holds Inv-loop μ-loop
 loop-holds c = (omega arith, refl)
 
 is-free-requires : tie.Need-is-free-requires Inv-loop μ-loop
-is-free-requires c κs = (c .before .before .before .pre .0, omega arith)
+is-free-requires c κs = (c .before .before .before .pre .0, (omega arith, c .before .before .before .pre .1 .2))
 
 add-result : tie.Need-add-result Inv-loop μ-loop
 add-result c = omega arith

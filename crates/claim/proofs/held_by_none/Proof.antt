@@ -7,9 +7,9 @@ use native.Mathlib.Numerals.{add-one}
 use native.Mathlib.Omega.{arith}
 use denote.Ref.{now}
 use Rattle.rules.specs.Cell.{reader}
-use Rattle.rules.specs.Free.{holds}
 use Rattle.rules.specs.Range.{every}
 use Rattle.store.specs.Shape.{sizes}
+use Rattle.claim.specs.Keeping.{holds}
 use Rattle.claim.specs.Search.{not-next}
 use Rattle.claim.proofs.held_by_none.Statement.{statement}
 use Rattle.claim.proofs.held_by_none.Tie as tie

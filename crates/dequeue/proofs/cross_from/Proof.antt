@@ -41,6 +41,7 @@ returns-4 c =
             to = c .before .before .before .before .before .before .part .result - 1;
             before = c .before .before .before .before .part2 .result - 1;
             link = some (c .before .before .before .before .before .before .part .ensures .is) (c .before .before .before .before .before .if1 .left);
+            below = omega arith;
             placed = some (c .before .before .before .before .part2 .ensures .is) (c .before .before .before .if2 .left);
             fits = le-leb _ _ (c .if3 .left);
             link-is = some refl (c .before .before .before .before .before .if1 .left);

@@ -11,7 +11,7 @@ use Rattle.rules.specs.Consumer.{itemsMarked}
 use Rattle.store.specs.Items.{length-marked}
 use Rattle.store.specs.Shape.{sizes}
 use Rattle.draining.specs.Onward.{gives-short, gives, has-room}
-use Rattle.taking.specs.Keeping.{items-left}
+use Rattle.draining.specs.Elsewhere.{items-left}
 use Rattle.taking.proofs.retire_drained.Statement.{statement}
 use Rattle.taking.proofs.retire_drained.Tie as tie
 
