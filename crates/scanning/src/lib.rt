@@ -1,8 +1,10 @@
 // The consumer's phases 3 and 4, the scan (document 01, "Calls"), and the fold of a record that it has read (document 02, U6). The words are
 // admitted. A phase that may end a drain is lent the buffer (document 02, U5).
 ghost use mathlib.Core.Path.{_≡_};
+ghost use mathlib.Core.Bool.{cond};
 ghost use mathlib.Core.List.{[], _∷_};
 ghost use Prim.Native.Nat.{_<_};
+ghost use lib.Dec.{eqb};
 ghost use Rattle.rules.specs.Cell.{reader, writes, _:=_, allHandled, cursorRecord, cursorPosition};
 ghost use Rattle.rules.specs.Consumer.{folded, isRead, scanCrosses, scan, readEntry};
 ghost use Rattle.store.specs.Shape.{sizes};
@@ -27,7 +29,6 @@ use store::put_use;
 use store::read_consumer;
 use store::read_contents;
 use store::record_end;
-use store::select;
 use store::slot_in;
 use store::state;
 use store::usage;
@@ -39,7 +40,13 @@ fn is_read(s: &[u32], z: Shape, r: u32) -> bool
     requires { ⌜ r < z .records ⌝ }
     ensures { λ b. ⌜ isRead (sizes z) (reader (sizes z) (now (s .entry))) r ≡ b ⌝ }
 {
-    (all_handled(s, z) == 1) & (read_contents(s, z).head_record != r + 1)
+    if all_handled(s, z) != 1 {
+        return false;
+    }
+    if read_contents(s, z).head_record == r + 1 {
+        return false;
+    }
+    true
 }
 
 // Record r is folded: the records before and behind it are joined to each other, and it is retired. It keeps its own links.
@@ -110,6 +117,17 @@ pub fn scan_on(s: &mut [u32], z: Shape, b: &mut [u32], from: u32) -> Reply
     scan_crosses(s, z, c.cursor_record - 1)
 }
 
+// What the scan has read, with an entry in this state.
+fn still_handled(s: &[u32], z: Shape, found: u32) -> u32
+    requires { ⌜ Admitted (sizes z) (now s) ⌝ }
+    ensures { λ w. ⌜ cond (eqb found 2) (reader (sizes z) (now (s .entry)) allHandled) 0 ≡ w ⌝ }
+{
+    if found != state::HANDLED {
+        return 0;
+    }
+    all_handled(s, z)
+}
+
 // 4. Read the entry: set makes it found, and the cursor returns to the head; to 5. Otherwise advance; to 3. What the scan has read is still all
 // handled if this entry is.
 pub fn read_entry(s: &mut [u32], z: Shape) -> Reply
@@ -132,7 +150,7 @@ pub fn read_entry(s: &mut [u32], z: Shape) -> Reply
     if z.starts <= c.cursor_position {
         return Reply::Refused(9);
     }
-    let handled = select(found == state::HANDLED, all_handled(s, z), 0);
+    let handled = still_handled(s, z, found);
     put_consumer(s, z, word::CURSOR_POSITION, c.cursor_position + 1);
     put_all_handled(s, z, handled);
     put_consumer(s, z, word::PHASE, phase::SCAN);

@@ -68,23 +68,20 @@ returns-3 c =
     let p = c .before .before .before .before .before .before .before .before .before .before .before .read-consumer .result .«cursor_position» in
     rw (at .link, at .inside, at .is, c .before .before .before .before .entry .ensures .is, ne-eqb _ _ (c .before .before .before .if1 .left), k .cursor-position, lt-leb (suc p) (c .before .before .before .before .before .before .before .before .before .before .before .before .before .before .args .z .starts) (omega arith)) refl
 
-all-handled-requires : tie.Need-all-handled-requires
-all-handled-requires c κs = search needs
-
-select-requires : tie.Need-select-requires
-select-requires c κs = search needs
+still-handled-requires : tie.Need-still-handled-requires
+still-handled-requires c κs = search needs
 
 add-put-consumer : tie.Need-add-put-consumer
 add-put-consumer c = search needs
 
 put-consumer-requires-2 : tie.Need-put-consumer-requires-2
-put-consumer-requires-2 c κs = omega (arith, c .before .before .before .before .before .before .before .before .before .before .before .before .before .before .before .before .before .before .before .pre)
+put-consumer-requires-2 c κs = omega (arith, c .before .before .before .before .before .before .before .before .before .before .before .before .before .before .before .before .before .before .pre)
 
 put-all-handled-requires-2 : tie.Need-put-all-handled-requires-2
-put-all-handled-requires-2 c κs = omega (arith, c .before .before .before .before .before .before .before .before .before .before .before .before .before .before .before .before .before .before .before .before .before .before .before .pre)
+put-all-handled-requires-2 c κs = omega (arith, c .before .before .before .before .before .before .before .before .before .before .before .before .before .before .before .before .before .before .before .before .before .before .pre)
 
 put-consumer-requires-3 : tie.Need-put-consumer-requires-3
-put-consumer-requires-3 c κs = omega (arith, c .before .before .before .before .before .before .before .before .before .before .before .before .before .before .before .before .before .before .before .before .before .before .before .before .before .before .before .pre)
+put-consumer-requires-3 c κs = omega (arith, c .before .before .before .before .before .before .before .before .before .before .before .before .before .before .before .before .before .before .before .before .before .before .before .before .before .before .pre)
 
 same-length-4 : tie.Need-same-length-4
 same-length-4 c = search needs
@@ -92,10 +89,10 @@ same-length-4 c = search needs
 returns-4 : tie.Need-returns-4
 unfolding readEntry applied writes
 returns-4 c =
-    let k = c .before .before .before .before .before .before .before .before .before .before .before .before .before .before .before .before .before .before .before .before .before .before .before .before .before .before .before .read-consumer .ensures in
-    let at = stands-at (k .cursor-record) (k .cursor-position) (c .before .before .before .before .before .before .before .before .before .before .before .before .before .before .before .before .before .before .before .before .before .before .before .before .before .slot-in .ensures) (c .before .before .before .before .before .before .before .before .before .before .before .before .before .before .before .before .before .before .before .before .before .before .before .«record» .given .1) in
-    let p = c .before .before .before .before .before .before .before .before .before .before .before .before .before .before .before .before .before .before .before .before .before .before .before .before .before .before .before .read-consumer .result .«cursor_position» in
-    rw (at .link, at .inside, at .is, c .before .before .before .before .before .before .before .before .before .before .before .before .before .before .before .before .before .before .before .before .entry .ensures .is, ne-eqb _ _ (c .before .before .before .before .before .before .before .before .before .before .before .before .before .before .before .before .before .before .before .if1 .left), k .cursor-position, le-leb (suc p) (c .before .before .before .before .before .before .before .before .before .before .before .before .before .before .before .before .before .before .before .before .before .before .before .before .before .before .before .before .before .before .args .z .starts) (omega (arith, c .before .before .before .before .before .before .before .before .before .before .before .before .before .before .before .before .if2)), c .before .before .before .before .before .before .before .before .before .before .before .before .before .before .all-handled .ensures .is, c .before .before .put-consumer3 .ensures, c .before .before .before .before .before .before .put-all-handled2 .ensures, c .before .before .before .before .before .before .before .before .before .before .put-consumer2 .ensures, c .before .before .before .before .before .before .before .before .before .before .before .before .before .select .ensures, add-one p) refl
+    let k = c .before .before .before .before .before .before .before .before .before .before .before .before .before .before .before .before .before .before .before .before .before .before .before .before .before .before .read-consumer .ensures in
+    let at = stands-at (k .cursor-record) (k .cursor-position) (c .before .before .before .before .before .before .before .before .before .before .before .before .before .before .before .before .before .before .before .before .before .before .before .before .slot-in .ensures) (c .before .before .before .before .before .before .before .before .before .before .before .before .before .before .before .before .before .before .before .before .before .before .«record» .given .1) in
+    let p = c .before .before .before .before .before .before .before .before .before .before .before .before .before .before .before .before .before .before .before .before .before .before .before .before .before .before .read-consumer .result .«cursor_position» in
+    rw (at .link, at .inside, at .is, c .before .before .before .before .before .before .before .before .before .before .before .before .before .before .before .before .before .before .before .entry .ensures .is, ne-eqb _ _ (c .before .before .before .before .before .before .before .before .before .before .before .before .before .before .before .before .before .before .if1 .left), k .cursor-position, le-leb (suc p) (c .before .before .before .before .before .before .before .before .before .before .before .before .before .before .before .before .before .before .before .before .before .before .before .before .before .before .before .before .before .args .z .starts) (omega (arith, c .before .before .before .before .before .before .before .before .before .before .before .before .before .before .before .if2)), c .before .before .put-consumer3 .ensures, c .before .before .before .before .before .before .put-all-handled2 .ensures, c .before .before .before .before .before .before .before .before .before .before .put-consumer2 .ensures, c .before .before .before .before .before .before .before .before .before .before .before .before .before .still-handled .ensures, add-one p) refl
 
 pub read-entry-spec : {M : Type 1} → statement M
 read-entry-spec =
@@ -116,8 +113,7 @@ read-entry-spec =
     returns-2
     same-length-3
     returns-3
-    all-handled-requires
-    select-requires
+    still-handled-requires
     add-put-consumer
     put-consumer-requires-2
     put-all-handled-requires-2
