@@ -1,15 +1,18 @@
--- Which retired records are let go, by one number: the greatest place of a retired record that a producer holds.
-use mathlib.Core.Path.{_≡_, refl, ap₂, sym}
-use mathlib.Core.Bool.{Bool, true, false, _&&_, _||_, not, cond, and-true, and-false}
-use Prim.Native.Nat.{ℕ, zero, suc, _+_, _<_}
+-- Which records are free, by their uses and places and by what producers hold: a retired record is kept by the greatest place of a retired
+-- record that a producer holds.
+use mathlib.Core.Path.{_≡_, refl, ap, ap₂, sym, _∙_}
+use mathlib.Core.Bool.{Bool, true, false, _&&_, _||_, not, cond}
+use mathlib.Core.List.{List, [], _∷_}
+use Prim.Native.Nat.{ℕ, zero, suc, _≤_}
 use native.Mathlib.Omega.{arith}
-use native.Mathlib.Numerals.{add-one}
 use lib.Dec.{leb, ltb, eqb, eqb·suc-suc}
-use borrow.Author.Tests.{ne-eqb, le-leb, lt-leb, leb-true, leb-false, lt-ltb, le-ltb, ltb-true, ltb-false}
-use Rattle.rules.specs.Sizes.{Sizes}
+use lib.ListN.{getD}
+use borrow.Author.Tests.{ne-eqb, le-leb, leb-true, leb-false, lt-ltb, le-ltb, ltb-true, ltb-false}
+use Rattle.rules.specs.Sizes.{Sizes, mostPlace}
 use Rattle.rules.specs.Cell.{Reader, held, claimed, place, used}
 use Rattle.rules.specs.Range.{every}
 use Rattle.rules.specs.Free.{keptBy, keeps, free}
+use Rattle.store.specs.Caps.{mostWord}
 
 -- the place of the record that a link names, if that is retired; otherwise 0
 abbrev pub retiredPlace : Reader → (link : ℕ) → ℕ
@@ -24,13 +27,24 @@ abbrev pub keptFrom : Reader → (n : ℕ) → ℕ
 keptFrom σ zero = 0
 keptFrom σ (suc n) = greater (greater (keptFrom σ n) (retiredPlace σ (σ (held (suc n))))) (retiredPlace σ (σ (claimed (suc n))))
 
--- with one producer more
-pub kept-more : (σ : Reader) (n : ℕ) {k x y a b : ℕ} → keptFrom σ n ≡ k → σ (held (n + 1)) ≡ x → σ (claimed (n + 1)) ≡ y → retiredPlace σ x ≡ a → retiredPlace σ y ≡ b
-    → keptFrom σ (n + 1) ≡ greater (greater k a) b
-kept-more σ n e p q f g = rw (add-one n, rw add-one at p, rw add-one at q, e, f, g) refl
+-- A link names record r, which is retired; and one of producers 1 to n holds record r, which is retired.
+abbrev pub names : Reader → (link r : ℕ) → Bool
+names σ link r = eqb (σ (used r)) 3 && eqb link (suc r)
+
+abbrev pub heldRetired : Reader → (n r : ℕ) → Bool
+heldRetired σ zero r = false
+heldRetired σ (suc n) r = (heldRetired σ n r || names σ (σ (held (suc n))) r) || names σ (σ (claimed (suc n))) r
+
+-- The least place at which a record is free, by its use: any, if it is of use 0; none, if it is claimed or linked; of a retired one that
+-- place up to which it is kept.
+abbrev pub leastPlace : (kept : ℕ) → List ℕ
+leastPlace kept = 0 ∷ mostWord ∷ mostWord ∷ kept ∷ []
+
+abbrev pub belowLeast : Reader → (kept r : ℕ) → Bool
+belowLeast σ kept r = ltb (σ (place r)) (getD (leastPlace kept) (σ (used r)) 0)
 
 -- Producer t holds record r itself.
-abbrev pub holds : Reader → (t r : ℕ) → Bool
+abbrev holds : Reader → (t r : ℕ) → Bool
 holds σ t r = eqb (σ (held t)) (suc r) || eqb (σ (claimed t)) (suc r)
 
 module _ (σ : Reader) where
@@ -84,39 +98,48 @@ module _ (σ : Reader) (r : ℕ) where
       rw (kept-by-none n, kept-by σ (σ (held (suc n))) r, kept-by σ (σ (claimed (suc n))) r, greater-most (greater (keptFrom σ n) a) b p, greater-most (keptFrom σ n) a p)
       (regroup (every n (λ t. not (holds σ (suc t) r))) (leb (keptFrom σ n) p) (eqb (σ (held (suc n))) (suc r)) (eqb (σ (claimed (suc n))) (suc r)) (leb a p) (leb b p))
 
-  module _ (retired : σ (used r) ≡ 3) where
-    -- A retired record that is held has a place up to the greatest.
-    another : (x : ℕ) → retiredPlace σ x < σ (place r) → eqb x (suc r) ≡ false
-    another x h = ne-eqb x (suc r) (λ e. omega (arith, rw (e, retired) at h))
+  -- Of a retired record, whether it is held; another is none of the retired ones that are.
+  held-retired : σ (used r) ≡ 3 → (n : ℕ) → heldRetired σ n r ≡ not (every n (λ t. not (holds σ (suc t) r)))
+  held-retired e zero = refl
+  held-retired e (suc n) =
+      rw (held-retired e n, e) (more (every n (λ t. not (holds σ (suc t) r))) (eqb (σ (held (suc n))) (suc r)) (eqb (σ (claimed (suc n))) (suc r)))
+    where
+      more : (a h c : Bool) → ((not a || h) || c) ≡ not (a && not (h || c))
+      more true true c = refl
+      more true false true = refl
+      more true false false = refl
+      more false h c = refl
 
-    none-holds : (n : ℕ) → keptFrom σ n < σ (place r) → every n (λ t. not (holds σ (suc t) r)) ≡ true
-    none-holds zero h = refl
-    none-holds (suc n) h =
-        let p = σ (place r) in
-        let a = retiredPlace σ (σ (held (suc n))) in
-        let b = retiredPlace σ (σ (claimed (suc n))) in
-        let g = greater (keptFrom σ n) a in
-        let q = below g b h in
-        let s = below (keptFrom σ n) a (q .0) in
-        rw (none-holds n (s .0), another (σ (held (suc n))) (s .1), another (σ (claimed (suc n))) (q .1)) refl
-      where
-        below : (a b : ℕ) → greater a b < σ (place r) → (a < σ (place r)) × (b < σ (place r))
-        below a b h = go (ltb a b) refl h
-          where
-            go : (c : Bool) → ltb a b ≡ c → cond c b a < σ (place r) → (a < σ (place r)) × (b < σ (place r))
-            go true e h = (omega (arith, ltb-true a b e), h)
-            go false e h = (h, omega (arith, ltb-false a b e))
+  none-retired : eqb (σ (used r)) 3 ≡ false → (n : ℕ) → heldRetired σ n r ≡ false
+  none-retired e zero = refl
+  none-retired e (suc n) = rw (none-retired e n, e) refl
 
-    -- A retired record by its place: below the greatest, past it, and at it.
-    module _ (z : Sizes) where
-      pub kept-below : σ (place r) < keptFrom σ (z .P) → free z σ r ≡ false
-      unfolding free
-      kept-below h = rw (retired, kept-by-none (z .P), lt-leb (keptFrom σ (z .P)) (σ (place r)) h) (and-false (every (z .P) (λ t. not (holds σ (suc t) r))))
+  -- Free, by use and place and by what is held. The record is in range.
+  pub free-is : (z : Sizes) → σ (used r) ≤ 3 → σ (place r) ≤ mostPlace → free z σ r ≡ not (belowLeast σ (keptFrom σ (z .P)) r || heldRetired σ (z .P) r)
+  unfolding free
+  free-is z most most-place = by-use (σ (used r)) refl most
+    where
+      below : ltb (σ (place r)) mostWord ≡ true
+      below = lt-ltb (σ (place r)) mostWord (omega arith)
 
-      pub let-go-past : keptFrom σ (z .P) < σ (place r) → free z σ r ≡ true
-      unfolding free
-      let-go-past h = rw (retired, kept-by-none (z .P), none-holds (z .P) h, le-leb (keptFrom σ (z .P)) (σ (place r)) (omega arith)) refl
+      not-below : (k : ℕ) → ltb (σ (place r)) k ≡ not (leb k (σ (place r)))
+      not-below k = at (leb k (σ (place r))) refl
+        where
+          at : (b : Bool) → leb k (σ (place r)) ≡ b → ltb (σ (place r)) k ≡ not b
+          at true e = le-ltb (σ (place r)) k (leb-true k (σ (place r)) e)
+          at false e = lt-ltb (σ (place r)) k (leb-false k (σ (place r)) e)
 
-      pub let-go-at : σ (place r) ≡ keptFrom σ (z .P) → free z σ r ≡ every (z .P) (λ t. not (holds σ (suc t) r))
-      unfolding free
-      let-go-at h = rw (retired, kept-by-none (z .P), le-leb (keptFrom σ (z .P)) (σ (place r)) (omega arith)) (and-true (every (z .P) (λ t. not (holds σ (suc t) r))))
+      both : (a b : Bool) → (a && b) ≡ not (not b || not a)
+      both true true = refl
+      both true false = refl
+      both false true = refl
+      both false false = refl
+
+      by-use : (u : ℕ) → σ (used r) ≡ u → u ≤ 3 → free z σ r ≡ not (belowLeast σ (keptFrom σ (z .P)) r || heldRetired σ (z .P) r)
+      by-use zero e h = rw (e, none-retired (rw e refl) (z .P), le-ltb (σ (place r)) 0 (omega arith)) refl
+      by-use (suc zero) e h = rw (e, below) refl
+      by-use (suc (suc zero)) e h = rw (e, below) refl
+      by-use (suc (suc (suc zero))) e h =
+          rw (e, kept-by-none (z .P), held-retired e (z .P), not-below (keptFrom σ (z .P)))
+          (both (every (z .P) (λ t. not (holds σ (suc t) r))) (leb (keptFrom σ (z .P)) (σ (place r))))
+      by-use (suc (suc (suc (suc u)))) e h = absurd (omega arith)

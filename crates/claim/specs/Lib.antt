@@ -1,3 +1,4 @@
 pub mod Claim
 pub mod Keeping
+pub mod Kept
 pub mod Search

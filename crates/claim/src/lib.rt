@@ -1,16 +1,18 @@
-// Free records, and the phases that claim one (document 01, "Store" and "Calls"; document 02, U1 and U6). The words are admitted.
+// Free records, and the phases that claim one (document 01, "Store" and "Calls"; document 02, U1, U6 and U7). The words are admitted.
 ghost use mathlib.Core.Path.{_≡_};
-ghost use mathlib.Core.Bool.{not};
-ghost use Prim.Native.Nat.{suc, _-_, _≤_, _<_};
+ghost use Prim.Native.Nat.{_≤_};
+ghost use Rattle.rules.specs.Sizes.{mostRecords};
 ghost use Rattle.rules.specs.Cell.{reader};
-ghost use Rattle.rules.specs.Range.{every};
-ghost use Rattle.rules.specs.Free.{free, firstFrom, nextFree};
+ghost use Rattle.rules.specs.Free.{free, nextFree};
 ghost use Rattle.rules.specs.Producer.{claimRecord, claimAhead};
 ghost use Rattle.store.specs.Shape.{sizes};
 ghost use Rattle.store.specs.Outcome.{left, does};
 ghost use Rattle.store.specs.Store.{Admitted};
+ghost use Rattle.bits.specs.Bitmap.{digit, bitmap};
 ghost use Rattle.claim.specs.Claim.{Claimed};
-ghost use Rattle.claim.specs.Keeping.{holds, retiredPlace, keptFrom};
+ghost use Rattle.claim.specs.Keeping.{belowLeast};
+ghost use Rattle.claim.specs.Kept.{Keeps, KeepsToo};
+ghost use Rattle.claim.specs.Search.{Finds};
 use store::Reply;
 use store::Shape;
 use store::clear_producer;
@@ -22,99 +24,108 @@ use store::put_producer;
 use store::put_use;
 use store::read_producer;
 use store::select;
+use store::size;
 use store::usage;
 use store::use_of;
 use store::wipe_record;
 use store::word;
 
-// The place of the record that a link names, if that is retired; otherwise 0.
-fn retired_place(s: &[u32], z: Shape, link: u32) -> u32
-    requires { ⌜ Admitted (sizes z) (now s) ⌝ }
-    requires { ⌜ link ≤ z .records ⌝ }
-    ensures { λ p. ⌜ retiredPlace (reader (sizes z) (now (s .entry))) link ≡ p ⌝ }
-{
-    if link == 0 {
-        return 0;
-    }
-    if use_of(s, z, link - 1) != usage::RETIRED {
-        return 0;
-    }
-    part(s, z, link - 1, word::PLACE)
+// A place that no record has: of no record of this use is it free.
+const NEVER: u32 = 4294967295;
+
+// The retired records that producers hold: the greatest place of them, 0 where there are none, and the records as digits of a word, record 0
+// the lowest.
+pub struct Kept {
+    pub place: u32,
+    pub records: u64,
 }
 
-// The greatest place of a retired record that a producer holds; 0 where there is none. What is retired and of smaller place is not free.
-fn kept_from(s: &[u32], z: Shape) -> u32
-    requires { ⌜ Admitted (sizes z) (now s) ⌝ }
-    ensures { λ g. ⌜ keptFrom (reader (sizes z) (now (s .entry))) (z .producers) ≡ g ⌝ }
+fn digit(test: bool) -> u64
+    ensures { λ d. ⌜ (d ≡ digit test) × (d ≤ 1) ⌝ }
 {
-    let mut kept: u32 = 0;
+    if test { 1 } else { 0 }
+}
+
+// With the record that a link names, if that is retired.
+fn with_link(s: &[u32], z: Shape, kept: Kept, link: u32) -> Kept
+    requires { ⌜ Admitted (sizes z) (now s) ⌝ }
+    requires { ⌜ link ≤ z .records ⌝ }
+    ensures { λ k. ⌜ KeepsToo (sizes z) (reader (sizes z) (now (s .entry))) link kept k ⌝ }
+{
+    if link == 0 {
+        return kept;
+    }
+    let r = link - 1;
+    if use_of(s, z, r) != usage::RETIRED {
+        return kept;
+    }
+    let place = part(s, z, r, word::PLACE);
+    Kept {
+        place: select(kept.place < place, place, kept.place),
+        records: kept.records | 1 << r,
+    }
+}
+
+// What producers 1 to P keep: a producer holds a record, and may have claimed another.
+fn kept_records(s: &[u32], z: Shape) -> Kept
+    requires { ⌜ Admitted (sizes z) (now s) ⌝ }
+    ensures { λ k. ⌜ Keeps (sizes z) (reader (sizes z) (now (s .entry))) (z .producers) k ⌝ }
+{
+    let mut kept = Kept {
+        place: 0,
+        records: 0,
+    };
     let mut t: u32 = 0;
     while t < z.producers {
         let p = read_producer(s, z, t + 1);
-        let held = retired_place(s, z, p.held);
-        let claimed = retired_place(s, z, p.claimed);
-        kept = select(kept < held, held, kept);
-        kept = select(kept < claimed, claimed, kept);
+        kept = with_link(s, z, kept, p.held);
+        kept = with_link(s, z, kept, p.claimed);
         t += 1;
     }
     kept
 }
 
-// Whether no producer holds record r: it is neither held nor claimed by any of 1 to P.
-fn held_by_none(s: &[u32], z: Shape, r: u32) -> bool
+// The records that are not free by use and place, as digits, record 0 the lowest: a record is free from some place on, that goes by its use. A
+// retired one is kept below the place `kept`. No branch in the loop.
+fn below_least(s: &[u32], z: Shape, kept: u32) -> u64
     requires { ⌜ Admitted (sizes z) (now s) ⌝ }
-    requires { ⌜ r < z .records ⌝ }
-    ensures { λ b. ⌜ every (z .producers) (λ t. not (holds (reader (sizes z) (now (s .entry))) (suc t) r)) ≡ b ⌝ }
+    ensures { λ m. ⌜ bitmap 0 (z .records) (belowLeast (reader (sizes z) (now (s .entry))) kept) ≡ m ⌝ }
 {
-    let name = r + 1;
-    let mut none = true;
-    let mut t: u32 = 0;
-    while t < z.producers {
-        let p = read_producer(s, z, t + 1);
-        none = none & !((p.held == name) | (p.claimed == name));
-        t += 1;
+    let least = [0, NEVER, NEVER, kept];
+    let mut map: u64 = 0;
+    let mut r = z.records;
+    while 0 < r {
+        r -= 1;
+        let used = use_of(s, z, r) as usize;
+        map = map * 2 + digit(part(s, z, r, word::PLACE) < least[used]);
     }
-    none
+    map
 }
 
-// A record is free when its use is 0, or its use is 3 and no producer holds it or any retired record of greater place: `kept` is the
-// greatest place of those. What is past it is held by none.
-fn is_free(s: &[u32], z: Shape, r: u32, kept: u32) -> bool
+// The free records as digits, record 0 the lowest: all but those that are not free by use and place, and the retired ones that are held.
+fn free_map(s: &[u32], z: Shape) -> u64
     requires { ⌜ Admitted (sizes z) (now s) ⌝ }
-    requires { ⌜ (r < z .records) × (keptFrom (reader (sizes z) (now s)) (z .producers) ≡ kept) ⌝ }
-    ensures { λ b. ⌜ free (sizes z) (reader (sizes z) (now (s .entry))) r ≡ b ⌝ }
+    ensures { λ m. ⌜ bitmap 0 (z .records) (free (sizes z) (reader (sizes z) (now (s .entry)))) ≡ m ⌝ }
 {
-    let used = use_of(s, z, r);
-    if used == usage::FREE {
-        return true;
-    }
-    if used != usage::RETIRED {
-        return false;
-    }
-    let place = part(s, z, r, word::PLACE);
-    if place < kept {
-        return false;
-    }
-    if kept < place {
-        return true;
-    }
-    held_by_none(s, z, r)
+    let kept = kept_records(s, z);
+    let others = below_least(s, z, kept.place) | kept.records;
+    let all = u64::MAX >> (size::MOST_RECORDS - z.records);
+    all - others
 }
 
-// The first free record from record `from` on, before record `end`, plus one; 0 where none of them is free.
-fn first_free(s: &[u32], z: Shape, from: u32, end: u32, kept: u32) -> u32
-    requires { ⌜ Admitted (sizes z) (now s) ⌝ }
-    requires { ⌜ (from ≤ end) × (end ≤ z .records) × (keptFrom (reader (sizes z) (now s)) (z .producers) ≡ kept) ⌝ }
-    ensures { λ r. ⌜ (firstFrom from (end - from) (free (sizes z) (reader (sizes z) (now (s .entry)))) ≡ r) × (r ≤ z .records) ⌝ }
+// The first set digit of a map from digit `from` on, plus one; 0 where there is none.
+fn first_set(map: u64, from: u32) -> u32
+    requires { ⌜ from ≤ mostRecords ⌝ }
+    ensures { λ r. ⌜ Finds map from r ⌝ }
 {
-    let mut r = from;
-    while r < end {
-        if is_free(s, z, r, kept) {
-            return r + 1;
-        }
-        r += 1;
+    if size::MOST_RECORDS <= from {
+        return 0;
     }
-    0
+    let rest = map >> from;
+    if rest == 0 {
+        return 0;
+    }
+    from + u64::trailing_zeros(rest) + 1
 }
 
 // The first free record after the one claimed last, counting upward and past the end to record 0, plus one; 0 where none is free.
@@ -122,13 +133,12 @@ pub fn next_free(s: &[u32], z: Shape) -> u32
     requires { ⌜ Admitted (sizes z) (now s) ⌝ }
     ensures { λ r. ⌜ (nextFree (sizes z) (reader (sizes z) (now (s .entry))) ≡ r) × (r ≤ z .records) ⌝ }
 {
-    let kept = kept_from(s, z);
-    let last = last_claimed(s, z);
-    let name = first_free(s, z, last, z.records, kept);
+    let map = free_map(s, z);
+    let name = first_set(map, last_claimed(s, z));
     if name != 0 {
         return name;
     }
-    first_free(s, z, 0, last, kept)
+    first_set(map, 0)
 }
 
 // Claiming takes the next free record, zeroes it and gives it use 1, and word 11 holds it; to phase p. The record plus one; 0, and

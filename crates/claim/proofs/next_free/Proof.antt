@@ -1,43 +1,52 @@
 -- `claim::next_free` meets its contract.
-use mathlib.Core.Path.{_∙_}
 use native.Mathlib.Omega.{arith}
 use borrow.Author.Needs.{needs}
 use denote.Ref.{now}
 use Rattle.rules.specs.Cell.{reader}
+use Rattle.rules.specs.Free.{free}
 use Rattle.store.specs.Shape.{sizes}
-use Rattle.claim.specs.Search.{found-above, found-below}
+use Rattle.claim.specs.Search.{found-most, found-above, found-below}
 use Rattle.claim.proofs.next_free.Statement.{statement}
 use Rattle.claim.proofs.next_free.Tie as tie
 
-kept-from-requires : tie.Need-kept-from-requires
-kept-from-requires c κs = search needs
+free-map-requires : tie.Need-free-map-requires
+free-map-requires c κs = search needs
 
 last-claimed-requires : tie.Need-last-claimed-requires
 last-claimed-requires c κs = search needs
 
-first-free-requires : tie.Need-first-free-requires
-first-free-requires c κs = search needs
+first-set-requires : tie.Need-first-set-requires
+first-set-requires c κs = search needs
 
 returns : tie.Need-returns
 returns c =
     let a = c .before .before .before .before .before .args in
-    (found-above (sizes (a .z)) (reader (sizes (a .z)) (now (a .s))) (c .before .before .last-claimed .ensures .is) (c .before .first-free .ensures .0) (c .if1 .taken), omega arith)
+    let σ = reader (sizes (a .z)) (now (a .s)) in
+    let digits = c .before .before .before .free-map .ensures in
+    let last = c .before .before .last-claimed .ensures in
+    let above = c .before .first-set .ensures in
+    (found-above (sizes (a .z)) σ (last .is) digits (last .most) (omega arith) above (c .if1 .taken), found-most (a .z .records) (free (sizes (a .z)) σ) above digits (last .most) (omega arith))
 
-first-free-requires-2 : tie.Need-first-free-requires-2
-first-free-requires-2 c κs = search needs
+first-set-requires-2 : tie.Need-first-set-requires-2
+first-set-requires-2 c κs = search needs
 
 returns-2 : tie.Need-returns-2
 returns-2 c =
     let a = c .before .before .before .before .before .before .args in
-    (found-below (sizes (a .z)) (reader (sizes (a .z)) (now (a .s))) (c .before .before .before .last-claimed .ensures .is) (c .before .before .first-free .ensures .0) (c .before .if1 .left) ∙ c .first-free2 .ensures .0, omega arith)
+    let σ = reader (sizes (a .z)) (now (a .s)) in
+    let digits = c .before .before .before .before .free-map .ensures in
+    let last = c .before .before .before .last-claimed .ensures in
+    let above = c .before .before .first-set .ensures in
+    let whole = c .first-set2 .ensures in
+    (found-below (sizes (a .z)) σ (last .is) digits (last .most) (omega arith) above (c .before .if1 .left) whole, found-most (a .z .records) (free (sizes (a .z)) σ) whole digits (omega arith) (omega arith))
 
 pub next-free-spec : {M : Type 1} → statement M
 next-free-spec =
     tie.close
     (tie.spec
-    kept-from-requires
+    free-map-requires
     last-claimed-requires
-    first-free-requires
+    first-set-requires
     returns
-    first-free-requires-2
+    first-set-requires-2
     returns-2)

@@ -1,0 +1,3 @@
+pub mod Bitmap
+pub mod Laws
+pub mod Lowest
