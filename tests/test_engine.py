@@ -194,6 +194,23 @@ class Differential(Both, unittest.TestCase):
         for known in ('going', 'end', ('refused', 8)):
             self.assertGreaterEqual(seen[known], 50, seen)
 
+    def test_claims_of_every_size(self):
+        """A search that goes wrong with some number of records, from some record claimed last: that takes a digit past the
+        last record's, misses one, or finds a record where none is free."""
+        rng, found = random.Random(17), collections.Counter()
+        for words in claim_stores.every_size(rng):
+            N, last = words[1], words[model.LAST_CLAIMED]
+            free = model.free_records(words)
+            self.on(words, ('s', 1))
+            took = 'none' if not free else 'the last' if free == [last - 1] else 'above' if words[model.LAST_CLAIMED] > last else 'past the end'
+            found[N, last, took] += 1
+        for N in range(2, 65):
+            for last in range(1, N + 1):
+                self.assertGreaterEqual(found[N, last, 'none'], 1)
+                self.assertGreaterEqual(found[N, last, 'the last'], 1)
+        self.assertGreaterEqual(found[64, 64, 'past the end'], 1)
+        self.assertGreaterEqual(sum(n for (_, _, took), n in found.items() if took == 'above'), 1000)
+
     def test_feeders_go_on(self):
         """A feeder that meets 8 although the dequeue that took the head record's last item has ended, and no other was
         started (document 02, U2)."""

@@ -206,6 +206,14 @@ class LeavesWord11(Intake):
         self.w[im.LAST_CLAIMED] = last
 
 
+class TakesOnePastTheLast(Intake):
+    """A claim finds, where no record after the one claimed last is free, one more than there are."""
+
+    def next_record(self):
+        N, last = self.w[1], self.w[im.LAST_CLAIMED]
+        return next((r for r in range(last, N + 1) if r == N or r in im.free_records(self.w)), None)
+
+
 class Claims(unittest.TestCase):
     """Which record a claim takes. A run gives for each claim the record, None for none, and word 11 after it."""
 
@@ -230,6 +238,13 @@ class Claims(unittest.TestCase):
         self.assertEqual(one_round_run(StopsAtTheEnd)[3], (None, 4))
         self.assertEqual(given_back_run(StopsAtTheEnd, 3, 0)[-1], (None, 3))
         self.assertEqual(one_round_run(LeavesWord11)[0], (1, 1))
+
+    def test_every_size(self):
+        """Stores of which some number of records has none that shows a search to start at the record claimed last, to stop at
+        the end, or to go past the last record."""
+        for wrong in (StartsAtTheLast, StopsAtTheEnd, TakesOnePastTheLast):
+            shown = {words[1] for words in claim_stores.every_size(random.Random(6)) if wrong(words).next_record() != im.next_free(words)}
+            self.assertEqual(shown, set(range(2, 65)), wrong.__name__)
 
     def test_any_store(self):
         """A search that goes wrong from some record claimed last, or among some free ones. It must take the free record

@@ -142,7 +142,7 @@ static uint32_t *entry(Store *z, uint32_t *r, uint32_t p) {
     return p < e && e <= p + z->B ? r + 4 + 3 * (p + z->B - e) : 0;
 }
 
-/* what producers hold: the records, as bits, and the greatest place of a retired one */
+/* the retired records that producers hold, as bits, and the greatest place of one */
 typedef struct {
     uint64_t records;
     uint32_t place;
@@ -151,42 +151,41 @@ typedef struct {
 static void keep(Store *z, Kept *k, uint32_t stored) {
     if (!stored) return;
     uint32_t *r = record(z, stored);
+    if (r[USE] != 3) return;
     k->records |= UINT64_C(1) << (stored - 1);
-    if (r[USE] == 3 && r[PLACE] > k->place) k->place = r[PLACE];
+    if (r[PLACE] > k->place) k->place = r[PLACE];
 }
 
-static Kept kept(Store *z) {
+/* the free records as bits: of use 0, or retired where no producer holds it or a retired record of greater place. A record is free from the
+ * least place of its use on, if it is not a retired one that is held. */
+static uint64_t free_map(Store *z) {
     Kept k = {0, 0};
     for (uint32_t t = 1; t <= z->P; t++) {
         keep(z, &k, thread(z, t)[HELD]);
         keep(z, &k, thread(z, t)[CLAIMED]);
     }
-    return k;
+    const uint32_t least[4] = {0, UINT32_MAX, UINT32_MAX, k.place};
+    uint64_t map = 0;
+    for (uint32_t r = z->N; r > 0; r--) {
+        const uint32_t *w = record(z, r);
+        map = 2 * map + (w[PLACE] < least[w[USE]]);
+    }
+    return (UINT64_MAX >> (64 - z->N)) & ~(map | k.records);
 }
 
-/* a retired record is free where no producer holds it or a retired record of greater place */
-static int is_free(Store *z, Kept k, uint32_t r) {
-    uint32_t *w = record(z, r);
-    if (w[USE] != 3) return w[USE] == 0;
-    return !(k.records >> (r - 1) & 1) && w[PLACE] >= k.place;
+/* the first free record after the one claimed last, past the end to the first, so that the one claimed last comes last; or 0 */
+static uint32_t next_free(Store *z) {
+    uint64_t map = free_map(z), above = map >> (z->s[LAST_CLAIMED] - 1) >> 1;
+    if (above) return z->s[LAST_CLAIMED] + (uint32_t)__builtin_ctzll(above) + 1;
+    return map ? (uint32_t)__builtin_ctzll(map) + 1 : 0;
 }
 
-/* the first free record from one to another, or 0 */
-static uint32_t first_free(Store *z, Kept k, uint32_t from, uint32_t to) {
-    for (uint32_t r = from; r <= to; r++)
-        if (is_free(z, k, r)) return r;
-    return 0;
-}
-
-/* takes the first free record after the one claimed last, past the end to the first; the one claimed last comes last */
 static int claim(Store *z, uint32_t *w, uint32_t phase) {
-    Kept k = kept(z);
-    uint32_t *last = &z->s[LAST_CLAIMED], r = first_free(z, k, *last + 1, z->N);
-    if (!r) r = first_free(z, k, 1, *last);
+    uint32_t r = next_free(z);
     if (!r) return 0;
     clear(record(z, r), z->size);
     record(z, r)[USE] = 1;
-    *last = w[CLAIMED] = r;
+    z->s[LAST_CLAIMED] = w[CLAIMED] = r;
     w[PHASE] = phase;
     return 1;
 }
@@ -491,7 +490,7 @@ static uint32_t step(uint32_t *s, size_t words, uint32_t t, uint32_t *buffer, si
     if (t > z.P) return 4;
     uint32_t *w = thread(&z, t), steps = w[STEPS], answer;
     if (!w[PHASE]) return 7;
-    if (steps == MOST_STEPS) return t && w[PHASE] == 4 && !first_free(&z, kept(&z), 1, z.N) ? 8 : 9; /* no step may be added; 8 comes first */
+    if (steps == MOST_STEPS) return t && w[PHASE] == 4 && !next_free(&z) ? 8 : 9; /* no step may be added; 8 comes first */
     answer = t ? produce(&z, t) : consume(&z, room, reply);
     if (answer < 100) return answer;
     if (answer == 100) w[STEPS] = steps + 1;

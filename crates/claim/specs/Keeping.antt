@@ -35,13 +35,13 @@ abbrev pub heldRetired : Reader → (n r : ℕ) → Bool
 heldRetired σ zero r = false
 heldRetired σ (suc n) r = (heldRetired σ n r || names σ (σ (held (suc n))) r) || names σ (σ (claimed (suc n))) r
 
--- The least place at which a record is free, by its use: any, if it is of use 0; none, if it is claimed or linked; of a retired one that
--- place up to which it is kept.
-abbrev pub leastPlace : (kept : ℕ) → List ℕ
-leastPlace kept = 0 ∷ mostWord ∷ mostWord ∷ kept ∷ []
+-- The least place at which a record is free, by its use: any, if its use is 0; none, if it is claimed or linked; for a retired one the place
+-- below which it is kept.
+abbrev pub leastPlaces : (kept : ℕ) → List ℕ
+leastPlaces kept = 0 ∷ mostWord ∷ mostWord ∷ kept ∷ []
 
-abbrev pub belowLeast : Reader → (kept r : ℕ) → Bool
-belowLeast σ kept r = ltb (σ (place r)) (getD (leastPlace kept) (σ (used r)) 0)
+abbrev pub belowLeast : Reader → (least : List ℕ) → (r : ℕ) → Bool
+belowLeast σ least r = ltb (σ (place r)) (getD least (σ (used r)) 0)
 
 -- Producer t holds record r itself.
 abbrev holds : Reader → (t r : ℕ) → Bool
@@ -115,7 +115,7 @@ module _ (σ : Reader) (r : ℕ) where
   none-retired e (suc n) = rw (none-retired e n, e) refl
 
   -- Free, by use and place and by what is held. The record is in range.
-  pub free-is : (z : Sizes) → σ (used r) ≤ 3 → σ (place r) ≤ mostPlace → free z σ r ≡ not (belowLeast σ (keptFrom σ (z .P)) r || heldRetired σ (z .P) r)
+  pub free-is : (z : Sizes) → σ (used r) ≤ 3 → σ (place r) ≤ mostPlace → free z σ r ≡ not (belowLeast σ (leastPlaces (keptFrom σ (z .P))) r || heldRetired σ (z .P) r)
   unfolding free
   free-is z most most-place = by-use (σ (used r)) refl most
     where
@@ -135,7 +135,7 @@ module _ (σ : Reader) (r : ℕ) where
       both false true = refl
       both false false = refl
 
-      by-use : (u : ℕ) → σ (used r) ≡ u → u ≤ 3 → free z σ r ≡ not (belowLeast σ (keptFrom σ (z .P)) r || heldRetired σ (z .P) r)
+      by-use : (u : ℕ) → σ (used r) ≡ u → u ≤ 3 → free z σ r ≡ not (belowLeast σ (leastPlaces (keptFrom σ (z .P))) r || heldRetired σ (z .P) r)
       by-use zero e h = rw (e, none-retired (rw e refl) (z .P), le-ltb (σ (place r)) 0 (omega arith)) refl
       by-use (suc zero) e h = rw (e, below) refl
       by-use (suc (suc zero)) e h = rw (e, below) refl

@@ -2,3 +2,4 @@ pub mod Claim
 pub mod Keeping
 pub mod Kept
 pub mod Search
+pub mod Walk

@@ -8,8 +8,12 @@ use native.Mathlib.Decide.{ℕ-discrete}
 use native.Mathlib.Numerals.{add-one}
 use native.Mathlib.Omega.{arith}
 use lib.Count.{trailingZeros}
+use lib.Dec.{leb}
+use borrow.Author.Tests.{leb-true}
 use Rattle.rules.specs.Sizes.{Sizes, mostRecords}
 use Rattle.rules.specs.Cell.{Reader, lastClaimed}
+use Rattle.rules.specs.Update.{both}
+use Rattle.rules.specs.InRange.{InRange}
 use Rattle.rules.specs.Free.{free, firstFrom, nextFree}
 use Rattle.bits.specs.Bitmap.{bitmap}
 use Rattle.bits.specs.Laws.{digits-past}
@@ -88,32 +92,36 @@ module _ (map from : ℕ) where
 pub found-most : {map from r : ℕ} (n : ℕ) (p : ℕ → Bool) → Finds map from r → bitmap 0 n p ≡ map → from ≤ n → n ≤ mostRecords → r ≤ n
 found-most {map} {from} n p finds e l m = omega (arith, finds n p e l m, first-most from (n - from) p)
 
+-- Word 11 names a record.
+pub last-least : {z : Sizes} {σ : Reader} → InRange z σ → 1 ≤ σ lastClaimed
+last-least {z} {σ} range = leb-true 1 (σ lastClaimed) (both (leb 1 (σ lastClaimed)) (leb (σ lastClaimed) (z .N)) (range .words lastClaimed tt) .0)
+
 -- The round in two halves: above the record claimed last, and where none is free there, from record 0 on.
-module _ (z : Sizes) (σ : Reader) {last map k : ℕ} (is : σ lastClaimed ≡ last) (digits : bitmap 0 (z .N) (free z σ) ≡ map)
-    (fits : last ≤ z .N) (most : z .N ≤ mostRecords) (above : Finds map last k) where
-  halves : nextFree z σ ≡ orElse k (firstFrom 0 last (free z σ))
+module _ (z : Sizes) (σ : Reader) {map from k : ℕ} (digits : bitmap 0 (z .N) (free z σ) ≡ map) (is : σ lastClaimed ≡ from) (inside : from ≤ z .N)
+    (most : z .N ≤ mostRecords) (above : Finds map from k) where
+  halves : nextFree z σ ≡ orElse k (firstFrom 0 from (free z σ))
   unfolding nextFree
   halves =
       ap (λ (l : ℕ). orElse (firstFrom l (z .N - l) (free z σ)) (firstFrom 0 l (free z σ))) is
-      ∙ ap (λ (c : ℕ). orElse c (firstFrom 0 last (free z σ))) (above (z .N) (free z σ) digits fits most)
+      ∙ ap (λ (c : ℕ). orElse c (firstFrom 0 from (free z σ))) (above (z .N) (free z σ) digits inside most)
 
   pub found-above : (k ≡ 0 → ⊥) → nextFree z σ ≡ k
   found-above n = halves ∙ some k n
     where
-      some : (c : ℕ) → (c ≡ 0 → ⊥) → orElse c (firstFrom 0 last (free z σ)) ≡ c
+      some : (c : ℕ) → (c ≡ 0 → ⊥) → orElse c (firstFrom 0 from (free z σ)) ≡ c
       some zero n = absurd (n refl)
       some (suc r) n = refl
 
-  pub found-below : k ≡ 0 → {j : ℕ} → Finds map 0 j → nextFree z σ ≡ j
-  found-below e whole =
-      let none : firstFrom (0 + last) (z .N - last) (free z σ) ≡ 0 = rw zero-add (above (z .N) (free z σ) digits fits most ∙ e) in
-      let all : z .N - 0 ≡ last + (z .N - last) = omega arith in
+  pub found-below : k ≡ 0 → {first j : ℕ} → first ≡ 0 → Finds map first j → nextFree z σ ≡ j
+  found-below e f whole =
+      let none : firstFrom (0 + from) (z .N - from) (free z σ) ≡ 0 = rw zero-add (above (z .N) (free z σ) digits inside most ∙ e) in
+      let all : z .N - 0 ≡ from + (z .N - from) = omega arith in
       halves
-      ∙ ap (λ (c : ℕ). orElse c (firstFrom 0 last (free z σ))) e
-      ∙ sym (ap (λ (c : ℕ). orElse (firstFrom 0 last (free z σ)) c) none ∙ same (firstFrom 0 last (free z σ)))
-      ∙ sym (first-of-parts 0 last (z .N - last) (free z σ))
+      ∙ ap (λ (c : ℕ). orElse c (firstFrom 0 from (free z σ))) e
+      ∙ sym (ap (λ (c : ℕ). orElse (firstFrom 0 from (free z σ)) c) none ∙ same (firstFrom 0 from (free z σ)))
+      ∙ sym (first-of-parts 0 from (z .N - from) (free z σ))
       ∙ sym (ap (λ (n : ℕ). firstFrom 0 n (free z σ)) all)
-      ∙ whole (z .N) (free z σ) digits (omega arith) most
+      ∙ (rw f at whole) (z .N) (free z σ) digits (omega arith) most
     where
       same : (c : ℕ) → orElse c 0 ≡ c
       same zero = refl

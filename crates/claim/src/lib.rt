@@ -1,6 +1,6 @@
 // Free records, and the phases that claim one (document 01, "Store" and "Calls"; document 02, U1, U6 and U7). The words are admitted.
 ghost use mathlib.Core.Path.{_≡_};
-ghost use Prim.Native.Nat.{_≤_};
+ghost use Prim.Native.Nat.{_≤_, _<_};
 ghost use Rattle.rules.specs.Sizes.{mostRecords};
 ghost use Rattle.rules.specs.Cell.{reader};
 ghost use Rattle.rules.specs.Free.{free, nextFree};
@@ -10,9 +10,10 @@ ghost use Rattle.store.specs.Outcome.{left, does};
 ghost use Rattle.store.specs.Store.{Admitted};
 ghost use Rattle.bits.specs.Bitmap.{digit, bitmap};
 ghost use Rattle.claim.specs.Claim.{Claimed};
-ghost use Rattle.claim.specs.Keeping.{belowLeast};
+ghost use Rattle.claim.specs.Keeping.{leastPlaces, belowLeast};
 ghost use Rattle.claim.specs.Kept.{Keeps, KeepsToo};
 ghost use Rattle.claim.specs.Search.{Finds};
+ghost use Rattle.claim.specs.Walk.{firstWord};
 use store::Reply;
 use store::Shape;
 use store::clear_producer;
@@ -23,6 +24,8 @@ use store::put_last_claimed;
 use store::put_producer;
 use store::put_use;
 use store::read_producer;
+use store::record_at;
+use store::record_words;
 use store::select;
 use store::size;
 use store::usage;
@@ -85,21 +88,40 @@ fn kept_records(s: &[u32], z: Shape) -> Kept
     kept
 }
 
-// The records that are not free by use and place, as digits, record 0 the lowest: a record is free from some place on, that goes by its use. A
-// retired one is kept below the place `kept`. No branch in the loop.
+// Whether record r, whose first word is at `at`, is not free by use and place, as a digit: a record is free from some place on, the least one
+// of its use.
+fn below(s: &[u32], z: Shape, least: &[u32; 4], r: u32, at: usize) -> u64
+    requires { ⌜ Admitted (sizes z) (now s) ⌝ }
+    requires { ⌜ (r < z .records) × (at ≡ firstWord (sizes z) r) ⌝ }
+    ensures { λ d. ⌜ (digit (belowLeast (reader (sizes z) (now (s .entry))) (now (least .entry)) r) ≡ d) × (d ≤ 1) ⌝ }
+{
+    let used = s[at + word::USE as usize] as usize;
+    digit(s[at] < least[used])
+}
+
+// The records that are not free by use and place, as digits, record 0 the lowest; a retired one is kept below the place `kept`. The loop goes
+// over every record, from the last, two at a time and without a branch.
 fn below_least(s: &[u32], z: Shape, kept: u32) -> u64
     requires { ⌜ Admitted (sizes z) (now s) ⌝ }
-    ensures { λ m. ⌜ bitmap 0 (z .records) (belowLeast (reader (sizes z) (now (s .entry))) kept) ≡ m ⌝ }
+    ensures { λ m. ⌜ bitmap 0 (z .records) (belowLeast (reader (sizes z) (now (s .entry))) (leastPlaces kept)) ≡ m ⌝ }
 {
     let least = [0, NEVER, NEVER, kept];
+    let words = record_words(z) as usize;
     let mut map: u64 = 0;
     let mut r = z.records;
-    while 0 < r {
+    let mut at = record_at(z, r) as usize;
+    while 1 < r {
         r -= 1;
-        let used = use_of(s, z, r) as usize;
-        map = map * 2 + digit(part(s, z, r, word::PLACE) < least[used]);
+        at -= words;
+        let upper = below(s, z, &least, r, at);
+        r -= 1;
+        at -= words;
+        map = map * 4 + (upper * 2 + below(s, z, &least, r, at));
     }
-    map
+    if r == 0 {
+        return map;
+    }
+    map * 2 + below(s, z, &least, 0, at - words)
 }
 
 // The free records as digits, record 0 the lowest: all but those that are not free by use and place, and the retired ones that are held.
@@ -134,7 +156,8 @@ pub fn next_free(s: &[u32], z: Shape) -> u32
     ensures { λ r. ⌜ (nextFree (sizes z) (reader (sizes z) (now (s .entry))) ≡ r) × (r ≤ z .records) ⌝ }
 {
     let map = free_map(s, z);
-    let name = first_set(map, last_claimed(s, z));
+    let last = last_claimed(s, z) - 1;
+    let name = first_set(map, last + 1);
     if name != 0 {
         return name;
     }

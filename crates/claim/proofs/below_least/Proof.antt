@@ -1,5 +1,5 @@
--- `claim::below_least` meets its contract. The loop's invariant: the digits of the records from r on are gathered.
-use mathlib.Core.Path.{_≡_, refl, sym}
+-- `claim::below_least` meets its contract. The loop's invariant: the digits of the records from r on are gathered, and record r begins at `at`.
+use mathlib.Core.Path.{_≡_, refl, _∙_}
 use Prim.Native.Nat.{_-_, _≤_}
 use native.Mathlib.Nat.{sub-zero}
 use native.Mathlib.Omega.{arith}
@@ -9,68 +9,143 @@ use Rattle.rules.specs.Cell.{reader}
 use Rattle.store.specs.Shape.{sizes}
 use Rattle.bits.specs.Bitmap.{bitmap}
 use Rattle.bits.specs.Laws.{bitmap-fits, digit-before}
-use Rattle.claim.specs.Keeping.{belowLeast}
+use Rattle.claim.specs.Keeping.{leastPlaces, belowLeast}
+use Rattle.claim.specs.Walk.{firstWord, one-back}
 use Rattle.claim.proofs.below_least.Statement.{statement}
 use Rattle.claim.proofs.below_least.Tie as tie
 
 abbrev Inv-loop : tie.InvT-loop
-Inv-loop s z kept least map₀ r₀ map r = (r ≤ z .records) × (bitmap r (z .records - r) (belowLeast (reader (sizes z) s) kept) ≡ map)
+Inv-loop s z kept least words map₀ r₀ at₀ map r at =
+    (r ≤ z .records) × (at ≡ firstWord (sizes z) r) × (bitmap r (z .records - r) (belowLeast (reader (sizes z) s) (leastPlaces kept)) ≡ map)
 
 abbrev μ-loop : tie.MeasureT-loop
-μ-loop s z kept least map₀ r₀ map r = r
+μ-loop s z kept least words map₀ r₀ at₀ map r at = r
+
+record-words-requires : tie.Need-record-words-requires Inv-loop μ-loop
+record-words-requires c κs = search needs
+
+cast-words : tie.Need-cast-words Inv-loop μ-loop
+cast-words c = omega arith
+
+record-at-requires : tie.Need-record-at-requires Inv-loop μ-loop
+record-at-requires c κs = search needs
+
+cast-at : tie.Need-cast-at Inv-loop μ-loop
+cast-at c = omega arith
 
 loop-holds : tie.Need-loop-holds Inv-loop μ-loop
 unfolding bitmap
 loop-holds c =
-    let none : c .before .args .z .records - c .before .args .z .records ≡ 0 = omega arith in
-    (omega arith, rw none refl)
+    let none : c .before .before .before .args .z .records - c .before .before .before .args .z .records ≡ 0 = omega arith in
+    (omega arith, c .record-at .ensures .0, rw none refl)
 
 sub-r : tie.Need-sub-r Inv-loop μ-loop
 sub-r c = omega arith
 
-use-of-requires : tie.Need-use-of-requires Inv-loop μ-loop
-use-of-requires c κs = (c .before .before .before .pre, omega arith)
+sub-at : tie.Need-sub-at Inv-loop μ-loop
+sub-at c =
+    let a = c .before .before .before .before .before .args in
+    let l = c .before .loop in
+    let words = c .before .before .before .record-words .ensures .0 in
+    let one = one-back (sizes (a .z)) (l .r) (omega arith) (l .inv .1) words in
+    one .0
 
-cast-used : tie.Need-cast-used Inv-loop μ-loop
-cast-used c = omega (arith, c .use-of .ensures .most)
+below-requires : tie.Need-below-requires Inv-loop μ-loop
+below-requires c κs =
+    let a = c .before .before .before .before .before .before .args in
+    let l = c .before .before .loop in
+    let words = c .before .before .before .before .record-words .ensures .0 in
+    let one = one-back (sizes (a .z)) (l .r) (omega arith) (l .inv .1) words in
+    (c .before .before .before .before .before .before .pre, (omega arith, one .1))
+
+sub-r-2 : tie.Need-sub-r-2 Inv-loop μ-loop
+sub-r-2 c = omega arith
+
+sub-at-2 : tie.Need-sub-at-2 Inv-loop μ-loop
+sub-at-2 c =
+    let a = c .before .before .before .before .before .before .before .args in
+    let l = c .before .before .before .loop in
+    let words = c .before .before .before .before .before .record-words .ensures .0 in
+    let one = one-back (sizes (a .z)) (l .r) (omega arith) (l .inv .1) words in
+    one-back (sizes (a .z)) (l .r - 1) (omega arith) (one .1) words .0
 
 mul-map : tie.Need-mul-map Inv-loop μ-loop
 mul-map c =
-    let a = c .before .before .before .before .args in
-    let l = c .before .before .loop in
-    omega (arith, l .inv .1, bitmap-fits (l .r) (a .z .records - l .r) 63 (belowLeast (reader (sizes (a .z)) (now (a .s))) (a .kept)) (omega arith))
+    let a = c .before .before .before .before .before .before .before .args in
+    let l = c .before .before .before .loop in
+    omega (arith, l .inv .2, bitmap-fits (l .r) (a .z .records - l .r) 62 (belowLeast (reader (sizes (a .z)) (now (a .s))) (leastPlaces (a .kept))) (omega arith))
 
-part-requires : tie.Need-part-requires Inv-loop μ-loop
-part-requires c κs = (c .before .before .before .before .pre, (omega arith, omega arith))
+mul-map-2 : tie.Need-mul-map-2 Inv-loop μ-loop
+mul-map-2 c = omega arith
 
-mul-digit : tie.Need-mul-digit Inv-loop μ-loop
-mul-digit c = omega (arith, c .before .use-of .ensures .most)
-
-array-read-digit : tie.Need-array-read-digit Inv-loop μ-loop
-array-read-digit c = omega (arith, c .before .use-of .ensures .most)
-
-digit-requires : tie.Need-digit-requires Inv-loop μ-loop
-digit-requires c κs = search needs
+below-requires-2 : tie.Need-below-requires-2 Inv-loop μ-loop
+below-requires-2 c κs =
+    let a = c .before .before .before .before .before .before .before .before .args in
+    let l = c .before .before .before .before .loop in
+    let words = c .before .before .before .before .before .before .record-words .ensures .0 in
+    let one = one-back (sizes (a .z)) (l .r) (omega arith) (l .inv .1) words in
+    (c .before .before .before .before .before .before .before .before .pre, (omega arith, one-back (sizes (a .z)) (l .r - 1) (omega arith) (one .1) words .1))
 
 add-map : tie.Need-add-map Inv-loop μ-loop
-add-map c =
-    let a = c .before .before .before .before .before .before .args in
-    let l = c .before .before .before .before .loop in
-    omega (arith, l .inv .1, bitmap-fits (l .r) (a .z .records - l .r) 63 (belowLeast (reader (sizes (a .z)) (now (a .s))) (a .kept)) (omega arith))
+add-map c = omega arith
+
+add-map-2 : tie.Need-add-map-2 Inv-loop μ-loop
+add-map-2 c =
+    let a = c .before .before .before .before .before .before .before .before .before .args in
+    let l = c .before .before .before .before .before .loop in
+    omega (arith, l .inv .2, bitmap-fits (l .r) (a .z .records - l .r) 62 (belowLeast (reader (sizes (a .z)) (now (a .s))) (leastPlaces (a .kept))) (omega arith))
 
 loop-less : tie.Need-loop-less Inv-loop μ-loop
 loop-less c = omega arith
 
 loop-again : tie.Need-loop-again Inv-loop μ-loop
 loop-again c =
-    let a = c .before .before .before .before .before .before .args in
-    let l = c .before .before .before .before .loop in
-    (omega arith, digit-before (l .r) (a .z .records) (belowLeast (reader (sizes (a .z)) (now (a .s))) (a .kept)) (omega arith) (omega arith) (l .inv .1) (rw (c .before .part .ensures .is, c .before .before .use-of .ensures .is) (sym (c .digit .ensures .0))))
+    let a = c .before .before .before .before .before .before .before .before .before .args in
+    let l = c .before .before .before .before .before .loop in
+    let words = c .before .before .before .before .before .before .before .record-words .ensures .0 in
+    let one = one-back (sizes (a .z)) (l .r) (omega arith) (l .inv .1) words in
+    let two = one-back (sizes (a .z)) (l .r - 1) (omega arith) (one .1) words in
+    let test = belowLeast (reader (sizes (a .z)) (now (a .s))) (leastPlaces (a .kept)) in
+    let upper = digit-before (l .r) (a .z .records) test (omega arith) (omega arith) (l .inv .2) (c .before .before .below .ensures .0) in
+    let lower = digit-before (l .r - 1) (a .z .records) test (omega arith) (omega arith) upper (c .below2 .ensures .0) in
+    (omega arith, two .1, lower ∙ (omega arith))
 
 returns : tie.Need-returns Inv-loop μ-loop
 returns c =
-    let none : c .before .loop .r ≡ 0 = omega arith in
-    rw (none, sub-zero) at (c .before .loop .inv .1)
+    let none : c .before .before .loop .r ≡ 0 = omega arith in
+    rw (none, sub-zero) at (c .before .before .loop .inv .2)
+
+mul-result : tie.Need-mul-result Inv-loop μ-loop
+mul-result c =
+    let a = c .before .before .before .before .before .before .args in
+    let l = c .before .before .loop in
+    omega (arith, l .inv .2, bitmap-fits (l .r) (a .z .records - l .r) 63 (belowLeast (reader (sizes (a .z)) (now (a .s))) (leastPlaces (a .kept))) (omega arith))
+
+sub-below : tie.Need-sub-below Inv-loop μ-loop
+sub-below c =
+    let a = c .before .before .before .before .before .before .before .args in
+    let l = c .before .before .before .loop in
+    one-back (sizes (a .z)) (l .r) (omega arith) (l .inv .1) (c .before .before .before .before .before .record-words .ensures .0) .0
+
+below-requires-3 : tie.Need-below-requires-3 Inv-loop μ-loop
+below-requires-3 c κs =
+    let a = c .before .before .before .before .before .before .before .args in
+    let l = c .before .before .before .loop in
+    let first : l .r - 1 ≡ 0 = omega arith in
+    (c .before .before .before .before .before .before .before .pre, (omega arith, rw first at (one-back (sizes (a .z)) (l .r) (omega arith) (l .inv .1) (c .before .before .before .before .before .record-words .ensures .0) .1)))
+
+add-result : tie.Need-add-result Inv-loop μ-loop
+add-result c =
+    let a = c .before .before .before .before .before .before .before .before .args in
+    let l = c .before .before .before .before .loop in
+    omega (arith, l .inv .2, bitmap-fits (l .r) (a .z .records - l .r) 63 (belowLeast (reader (sizes (a .z)) (now (a .s))) (leastPlaces (a .kept))) (omega arith))
+
+returns-2 : tie.Need-returns-2 Inv-loop μ-loop
+returns-2 c =
+    let a = c .before .before .before .before .before .before .before .before .args in
+    let l = c .before .before .before .before .loop in
+    let one : l .r ≡ 1 = omega arith in
+    rw sub-zero at (digit-before 1 (a .z .records) (belowLeast (reader (sizes (a .z)) (now (a .s))) (leastPlaces (a .kept))) (omega arith) (omega arith) (rw one at (l .inv .2)) (c .below3 .ensures .0))
 
 pub below-least-spec : {M : Type 1} → statement M
 below-least-spec =
@@ -78,16 +153,26 @@ below-least-spec =
     (tie.spec
     Inv-loop
     μ-loop
+    record-words-requires
+    cast-words
+    record-at-requires
+    cast-at
     loop-holds
     sub-r
-    use-of-requires
-    cast-used
+    sub-at
+    below-requires
+    sub-r-2
+    sub-at-2
     mul-map
-    part-requires
-    mul-digit
-    array-read-digit
-    digit-requires
+    mul-map-2
+    below-requires-2
     add-map
+    add-map-2
     loop-less
     loop-again
-    returns)
+    returns
+    mul-result
+    sub-below
+    below-requires-3
+    add-result
+    returns-2)
