@@ -92,12 +92,17 @@ module _ (z : Sizes) (σ : Reader) where
         sym (either-digits 0 (z .N) (belowLeast σ (leastPlaces (keptFrom σ (z .P)))) (heldRetired σ (z .P)))
         ∙ ap₂ bitOr (ap (λ (x : ℕ). bitmap 0 (z .N) (belowLeast σ (leastPlaces x))) (keeps .place) ∙ e) (keeps .records)
 
-    pub others-most : bitOr m (k .records) ≤ (2 ^ 64 - 1) / 2 ^ (64 - z .N)
-    others-most = rw (all-digits 64 (z .N) most, ← other-digits) (le-ones (z .N) (bitmap-lt 0 (z .N) others))
+    -- all of the records, by the digits that are dropped from a word of set digits
+    module _ (dropped : ℕ) (left : dropped ≡ 64 - z .N) where
+      all : (2 ^ 64 - 1) / 2 ^ dropped ≡ 2 ^ z .N - 1
+      all = rw left (all-digits 64 (z .N) most)
 
-    pub free-digits : InRange z σ → bitmap 0 (z .N) (free z σ) ≡ (2 ^ 64 - 1) / 2 ^ (64 - z .N) - bitOr m (k .records)
-    unfolding others
-    free-digits range =
-        same-digits 0 (z .N) (free z σ) (λ r. not (others r)) (λ r l h. free-is σ r z (leb-true (σ (used r)) 3 (range .words (used r) (omega arith, omega arith))) (leb-true (σ (place r)) mostPlace (range .words (place r) (omega arith, omega arith))))
-        ∙ sym (turned-digits 0 (z .N) others)
-        ∙ ap₂ (λ (x y : ℕ). x - y) (sym (all-digits 64 (z .N) most)) other-digits
+      pub others-most : bitOr m (k .records) ≤ (2 ^ 64 - 1) / 2 ^ dropped
+      others-most = rw (all, ← other-digits) (le-ones (z .N) (bitmap-lt 0 (z .N) others))
+
+      pub free-digits : InRange z σ → bitmap 0 (z .N) (free z σ) ≡ (2 ^ 64 - 1) / 2 ^ dropped - bitOr m (k .records)
+      unfolding others
+      free-digits range =
+          same-digits 0 (z .N) (free z σ) (λ r. not (others r)) (λ r l h. free-is σ r z (leb-true (σ (used r)) 3 (range .words (used r) (omega arith, omega arith))) (leb-true (σ (place r)) mostPlace (range .words (place r) (omega arith, omega arith))))
+          ∙ sym (turned-digits 0 (z .N) others)
+          ∙ ap₂ (λ (x y : ℕ). x - y) (sym all) other-digits

@@ -27,14 +27,14 @@ sub-result : tie.Need-sub-result
 sub-result c =
     let a = c .before .before .before .before .before .args in
     let kept = c .before .before .before .kept-records in
-    others-most (sizes (a .z)) (reader (sizes (a .z)) (now (a .s))) (kept .result) (omega arith) (kept .ensures) (c .before .before .below-least .ensures)
+    others-most (sizes (a .z)) (reader (sizes (a .z)) (now (a .s))) (kept .result) (omega arith) (kept .ensures) (c .before .before .below-least .ensures) _ (omega arith)
 
 returns : tie.Need-returns
 returns c =
     let start = c .before .before .before .before .before in
     let a = start .args in
     let kept = c .before .before .before .kept-records in
-    free-digits (sizes (a .z)) (reader (sizes (a .z)) (now (a .s))) (kept .result) (omega arith) (kept .ensures) (c .before .before .below-least .ensures) (start .pre .ranges)
+    free-digits (sizes (a .z)) (reader (sizes (a .z)) (now (a .s))) (kept .result) (omega arith) (kept .ensures) (c .before .before .below-least .ensures) _ (omega arith) (start .pre .ranges)
 
 pub free-map-spec : {M : Type 1} → statement M
 free-map-spec =
