@@ -15,11 +15,17 @@ use Rattle.store.specs.Words.{reads-word, record-inside}
 abbrev pub firstWord : Sizes → (r : ℕ) → ℕ
 firstWord z r = firstRecord z + r * recordWords z
 
--- of the record before
-pub one-back : (z : Sizes) (r : ℕ) {at words : ℕ} → 0 < r → at ≡ firstWord z r → words ≡ recordWords z → (words ≤ at) × (at - words ≡ firstWord z (r - 1))
-one-back z r h e f =
-    let parts : r ≡ (r - 1) + 1 = omega arith in
-    omega (arith, ap (λ (n : ℕ). n * recordWords z) parts ∙ add-mul (r - 1) 1 (recordWords z))
+-- of the record before, and of the two before
+module _ (z : Sizes) (r : ℕ) {at words : ℕ} (e : at ≡ firstWord z r) (f : words ≡ recordWords z) where
+  pub one-back : 0 < r → (words ≤ at) × (at - words ≡ firstWord z (r - 1))
+  one-back h =
+      let parts : r ≡ (r - 1) + 1 = omega arith in
+      omega (arith, ap (λ (n : ℕ). n * recordWords z) parts ∙ add-mul (r - 1) 1 (recordWords z))
+
+  pub two-back : 1 < r → (2 * words ≤ at) × (at - 2 * words ≡ firstWord z (r - 2)) × (at - 2 * words + words ≡ firstWord z (r - 2 + 1))
+  two-back h =
+      let parts : r ≡ (r - 2) + 2 = omega arith in
+      omega (arith, ap (λ (n : ℕ). n * recordWords z) parts ∙ add-mul (r - 2) 2 (recordWords z), add-mul (r - 2) 1 (recordWords z))
 
 -- Record r begins at `at`: its words are there, and two of them are its place and its use.
 module _ {z : Sizes} {m : List ℕ} {r at : ℕ} (a : Admitted z m) (h : r < z .N) (e : at ≡ firstWord z r) where

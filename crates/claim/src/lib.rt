@@ -59,10 +59,11 @@ fn with_link(s: &[u32], z: Shape, kept: Kept, link: u32) -> Kept
         return kept;
     }
     let r = link - 1;
-    if use_of(s, z, r) != usage::RETIRED {
+    let at = record_at(z, r) as usize;
+    if s[at + word::USE as usize] != usage::RETIRED {
         return kept;
     }
-    let place = part(s, z, r, word::PLACE);
+    let place = s[at];
     Kept {
         place: select(kept.place < place, place, kept.place),
         records: kept.records | 1 << r,
@@ -111,11 +112,9 @@ fn below_least(s: &[u32], z: Shape, kept: u32) -> u64
     let mut r = z.records;
     let mut at = record_at(z, r) as usize;
     while 1 < r {
-        r -= 1;
-        at -= words;
-        let upper = below(s, z, &least, r, at);
-        r -= 1;
-        at -= words;
+        r -= 2;
+        at -= 2 * words;
+        let upper = below(s, z, &least, r + 1, at + words);
         map = map * 4 + (upper * 2 + below(s, z, &least, r, at));
     }
     if r == 0 {

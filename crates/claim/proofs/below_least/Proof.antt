@@ -1,16 +1,16 @@
 -- `claim::below_least` meets its contract. The loop's invariant: the digits of the records from r on are gathered, and record r begins at `at`.
 use mathlib.Core.Path.{_≡_, refl, _∙_}
-use Prim.Native.Nat.{_-_, _≤_}
+use Prim.Native.Nat.{_+_, _-_, _≤_}
 use native.Mathlib.Nat.{sub-zero}
 use native.Mathlib.Omega.{arith}
 use borrow.Author.Needs.{needs}
 use denote.Ref.{now}
 use Rattle.rules.specs.Cell.{reader}
 use Rattle.store.specs.Shape.{sizes}
-use Rattle.bits.specs.Bitmap.{bitmap}
+use Rattle.bits.specs.Bitmap.{digit, bitmap}
 use Rattle.bits.specs.Laws.{bitmap-fits, digit-before}
 use Rattle.claim.specs.Keeping.{leastPlaces, belowLeast}
-use Rattle.claim.specs.Walk.{firstWord, one-back}
+use Rattle.claim.specs.Walk.{firstWord, one-back, two-back, words-there}
 use Rattle.claim.proofs.below_least.Statement.{statement}
 use Rattle.claim.proofs.below_least.Tie as tie
 
@@ -42,32 +42,32 @@ loop-holds c =
 sub-r : tie.Need-sub-r Inv-loop μ-loop
 sub-r c = omega arith
 
+mul-at : tie.Need-mul-at Inv-loop μ-loop
+mul-at c = omega arith
+
 sub-at : tie.Need-sub-at Inv-loop μ-loop
 sub-at c =
     let a = c .before .before .before .before .before .args in
     let l = c .before .loop in
-    let words = c .before .before .before .record-words .ensures .0 in
-    let one = one-back (sizes (a .z)) (l .r) (omega arith) (l .inv .1) words in
-    one .0
+    let back = two-back (sizes (a .z)) (l .r) (l .inv .1) (c .before .before .before .record-words .ensures .0) (omega arith) in
+    back .0
+
+add-below : tie.Need-add-below Inv-loop μ-loop
+add-below c = omega arith
+
+add-below-2 : tie.Need-add-below-2 Inv-loop μ-loop
+add-below-2 c =
+    let a = c .before .before .before .before .before .before .args in
+    let l = c .before .before .loop in
+    let back = two-back (sizes (a .z)) (l .r) (l .inv .1) (c .before .before .before .before .record-words .ensures .0) (omega arith) in
+    omega (arith, words-there (c .before .before .before .before .before .before .pre) (omega arith) (back .2))
 
 below-requires : tie.Need-below-requires Inv-loop μ-loop
 below-requires c κs =
     let a = c .before .before .before .before .before .before .args in
     let l = c .before .before .loop in
-    let words = c .before .before .before .before .record-words .ensures .0 in
-    let one = one-back (sizes (a .z)) (l .r) (omega arith) (l .inv .1) words in
-    (c .before .before .before .before .before .before .pre, (omega arith, one .1))
-
-sub-r-2 : tie.Need-sub-r-2 Inv-loop μ-loop
-sub-r-2 c = omega arith
-
-sub-at-2 : tie.Need-sub-at-2 Inv-loop μ-loop
-sub-at-2 c =
-    let a = c .before .before .before .before .before .before .before .args in
-    let l = c .before .before .before .loop in
-    let words = c .before .before .before .before .before .record-words .ensures .0 in
-    let one = one-back (sizes (a .z)) (l .r) (omega arith) (l .inv .1) words in
-    one-back (sizes (a .z)) (l .r - 1) (omega arith) (one .1) words .0
+    let back = two-back (sizes (a .z)) (l .r) (l .inv .1) (c .before .before .before .before .record-words .ensures .0) (omega arith) in
+    (c .before .before .before .before .before .before .pre, (omega arith, back .2))
 
 mul-map : tie.Need-mul-map Inv-loop μ-loop
 mul-map c =
@@ -82,9 +82,8 @@ below-requires-2 : tie.Need-below-requires-2 Inv-loop μ-loop
 below-requires-2 c κs =
     let a = c .before .before .before .before .before .before .before .before .args in
     let l = c .before .before .before .before .loop in
-    let words = c .before .before .before .before .before .before .record-words .ensures .0 in
-    let one = one-back (sizes (a .z)) (l .r) (omega arith) (l .inv .1) words in
-    (c .before .before .before .before .before .before .before .before .pre, (omega arith, one-back (sizes (a .z)) (l .r - 1) (omega arith) (one .1) words .1))
+    let back = two-back (sizes (a .z)) (l .r) (l .inv .1) (c .before .before .before .before .before .before .record-words .ensures .0) (omega arith) in
+    (c .before .before .before .before .before .before .before .before .pre, (omega arith, back .1))
 
 add-map : tie.Need-add-map Inv-loop μ-loop
 add-map c = omega arith
@@ -102,13 +101,14 @@ loop-again : tie.Need-loop-again Inv-loop μ-loop
 loop-again c =
     let a = c .before .before .before .before .before .before .before .before .before .args in
     let l = c .before .before .before .before .before .loop in
-    let words = c .before .before .before .before .before .before .before .record-words .ensures .0 in
-    let one = one-back (sizes (a .z)) (l .r) (omega arith) (l .inv .1) words in
-    let two = one-back (sizes (a .z)) (l .r - 1) (omega arith) (one .1) words in
+    let back = two-back (sizes (a .z)) (l .r) (l .inv .1) (c .before .before .before .before .before .before .before .record-words .ensures .0) (omega arith) in
+    let upper : c .before .before .before .before .before .loop .r - 2 + 1 ≡ c .before .before .before .before .before .loop .r - 1 = omega arith in
+    let lower : c .before .before .before .before .before .loop .r - 1 - 1 ≡ c .before .before .before .before .before .loop .r - 2 = omega arith in
     let test = belowLeast (reader (sizes (a .z)) (now (a .s))) (leastPlaces (a .kept)) in
-    let upper = digit-before (l .r) (a .z .records) test (omega arith) (omega arith) (l .inv .2) (c .before .before .below .ensures .0) in
-    let lower = digit-before (l .r - 1) (a .z .records) test (omega arith) (omega arith) upper (c .below2 .ensures .0) in
-    (omega arith, two .1, lower ∙ (omega arith))
+    let one = digit-before (l .r) (a .z .records) test (omega arith) (omega arith) (l .inv .2) (rw upper at (c .before .before .below .ensures .0)) in
+    let second : digit (test (l .r - 1 - 1)) ≡ c .below2 .result = rw lower (c .below2 .ensures .0) in
+    let two = digit-before (l .r - 1) (a .z .records) test (omega arith) (omega arith) one second in
+    (omega arith, back .1, (rw lower at two) ∙ (omega arith))
 
 returns : tie.Need-returns Inv-loop μ-loop
 returns c =
@@ -125,14 +125,16 @@ sub-below : tie.Need-sub-below Inv-loop μ-loop
 sub-below c =
     let a = c .before .before .before .before .before .before .before .args in
     let l = c .before .before .before .loop in
-    one-back (sizes (a .z)) (l .r) (omega arith) (l .inv .1) (c .before .before .before .before .before .record-words .ensures .0) .0
+    let back = one-back (sizes (a .z)) (l .r) (l .inv .1) (c .before .before .before .before .before .record-words .ensures .0) (omega arith) in
+    back .0
 
 below-requires-3 : tie.Need-below-requires-3 Inv-loop μ-loop
 below-requires-3 c κs =
     let a = c .before .before .before .before .before .before .before .args in
     let l = c .before .before .before .loop in
+    let back = one-back (sizes (a .z)) (l .r) (l .inv .1) (c .before .before .before .before .before .record-words .ensures .0) (omega arith) in
     let first : l .r - 1 ≡ 0 = omega arith in
-    (c .before .before .before .before .before .before .before .pre, (omega arith, rw first at (one-back (sizes (a .z)) (l .r) (omega arith) (l .inv .1) (c .before .before .before .before .before .record-words .ensures .0) .1)))
+    (c .before .before .before .before .before .before .before .pre, (omega arith, rw first at (back .1)))
 
 add-result : tie.Need-add-result Inv-loop μ-loop
 add-result c =
@@ -159,10 +161,11 @@ below-least-spec =
     cast-at
     loop-holds
     sub-r
+    mul-at
     sub-at
+    add-below
+    add-below-2
     below-requires
-    sub-r-2
-    sub-at-2
     mul-map
     mul-map-2
     below-requires-2

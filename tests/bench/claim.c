@@ -1,0 +1,147 @@
+/* Times the claim's search beside the same search in C, in rounds in which each contestant has its turn; a figure is the best round. At a full
+ * count a step changes nothing: in phase 4 it makes the search and is refused with 9, or 8 where none is free; in phase 3 it is refused with 9
+ * and makes none. The difference is the search alone. A step in phases 4 and 10 that claims is timed with what it changed put back, less the
+ * time of putting it back. */
+#include <stdio.h>
+#include <stdlib.h>
+#include <string.h>
+#include <time.h>
+
+#include "../../include/intake.h"
+#include "bench.h"
+
+enum { ROUNDS = 60, CALLS = 4000, LAST_CLAIMED = 11, THREADS = 16, PHASE = 0, HELD = 4, STEPS = 7, PLACE = 0, USE = 3, FULL = 100000000 };
+
+#define X(name) extern const struct Contestant name;
+CONTESTANTS
+#undef X
+static const struct Contestant engine = {.label = "engine", .step = intake_step};
+#ifdef BEFORE
+uint32_t before_intake_step(uint32_t *s, size_t words, uint32_t t, uint32_t *buffer, size_t buffer_words, uint32_t from, uint32_t reply[4]);
+static const struct Contestant before = {.label = "engine before", .step = before_intake_step};
+#endif
+static const struct Contestant *const contestants[] = {
+    &engine,
+#ifdef BEFORE
+    &before,
+#endif
+#define X(name) &name,
+    CONTESTANTS
+#undef X
+};
+enum { MANY = sizeof contestants / sizeof contestants[0] };
+
+/* which records are free: the next one and all others, none but the one claimed last, none, or those of every third number; in the last the
+ * others that are not linked are retired, and some of them held */
+enum { ALL, LAST_ALONE, NONE, SOME, SITUATIONS };
+static const char *const situations[] = {"all free", "the one claimed last alone", "none free", "a third free, a third retired"};
+
+static const struct Size {
+    uint32_t entries, records, producers;
+} sizes[] = {{2, 64, 16}, {2, 2, 1}};
+
+static volatile uint32_t sink;
+
+static double now(void) {
+    struct timespec t;
+    clock_gettime(CLOCK_MONOTONIC, &t);
+    return (double)t.tv_sec * 1e9 + (double)t.tv_nsec;
+}
+
+static uint32_t *record(uint32_t *s, uint32_t r) { return s + s[5] + r * (3 * s[0] + 4); }
+
+static uint32_t use_of(int situation, uint32_t r, uint32_t last) {
+    if (situation == ALL || (situation == LAST_ALONE && r == last)) return 0;
+    return situation == SOME && r % 3 != 2 ? (r % 3 ? 3 : 0) : 2;
+}
+
+/* a store in range: the producers hold the first records, and producer 1 stands in a phase */
+static void prepare(uint32_t *s, size_t n, const struct Size *z, int situation, uint32_t phase, uint32_t steps) {
+    memset(s, 0, n * 4);
+    if (intake_open(s, n, z->entries, z->records, z->producers, 1000) != INTAKE_OK) exit(1);
+    for (uint32_t r = 0; r < z->records; r++) {
+        record(s, r)[PLACE] = r + 1;
+        record(s, r)[USE] = use_of(situation, r, s[LAST_CLAIMED] - 1);
+    }
+    for (uint32_t t = 1; t <= z->producers; t++) {
+        uint32_t *w = s + THREADS + 8 * t;
+        w[PHASE] = phase;
+        w[HELD] = 1 + (t - 1) % z->records;
+        w[STEPS] = steps;
+    }
+}
+
+static void keep_least(double *least, double took) {
+    if (*least == 0 || took < *least) *least = took;
+}
+
+/* ns of a step that is refused with a number */
+static double refused(const struct Contestant *c, uint32_t *s, size_t n, uint32_t number) {
+    uint32_t none[1], reply[4];
+    double begin = now();
+    for (int k = 0; k < CALLS; k++)
+        if (c->step(s, n, 1, none, 0, 0, reply) != number) exit(1);
+    return (now() - begin) / CALLS;
+}
+
+static void put_back(uint32_t *s, const uint32_t *ready, uint32_t r) {
+    size_t size = 3 * (size_t)s[0] + 4, at = s[5] + r * size;
+    s[LAST_CLAIMED] = ready[LAST_CLAIMED];
+    memcpy(s + THREADS + 8, ready + THREADS + 8, 32);
+    memcpy(s + at, ready + at, size * 4);
+}
+
+/* ns of a step that claims record r */
+static double claiming(const struct Contestant *c, uint32_t *s, const uint32_t *ready, size_t n, uint32_t r) {
+    uint32_t none[1], reply[4];
+    double begin = now(), middle, end;
+    for (int k = 0; k < CALLS; k++) {
+        put_back(s, ready, r);
+        sink += s[LAST_CLAIMED];
+    }
+    middle = now();
+    for (int k = 0; k < CALLS; k++) {
+        put_back(s, ready, r);
+        if (c->step(s, n, 1, none, 0, 0, reply) != INTAKE_GOING) exit(1);
+    }
+    end = now();
+    return ((end - middle) - (middle - begin)) / CALLS;
+}
+
+static void measure(const struct Size *z, int situation) {
+    size_t n = INTAKE_WORDS(z->entries, z->records, z->producers);
+    uint32_t *s = malloc(n * 4), *ready = malloc(n * 4), none[1], reply[4], number = situation == NONE ? 8 : 9;
+    double without[MANY] = {0}, with[MANY] = {0}, in[2][MANY] = {{0}};
+    if (!s || !ready) exit(1);
+    for (int round = 0; round < ROUNDS; round++)
+        for (int c = 0; c < MANY; c++) {
+            prepare(s, n, z, situation, 3, FULL);
+            keep_least(&without[c], refused(contestants[c], s, n, 9));
+            prepare(s, n, z, situation, 4, FULL);
+            keep_least(&with[c], refused(contestants[c], s, n, number));
+            for (int k = 0; k < 2 && situation != NONE; k++) {
+                prepare(s, n, z, situation, k ? 10 : 4, 0);
+                memcpy(ready, s, n * 4);
+                if (contestants[c]->step(s, n, 1, none, 0, 0, reply) != INTAKE_GOING) exit(1);
+                keep_least(&in[k][c], claiming(contestants[c], s, ready, n, s[LAST_CLAIMED] - 1));
+            }
+        }
+    for (int c = 0; c < MANY; c++) {
+        double search = with[c] - without[c];
+        printf("%-32s%-30s%10.1f%10.1f%8.2f", c ? "" : situations[situation], contestants[c]->label, without[c], search,
+               (with[0] - without[0]) / search);
+        for (int k = 0; k < 2 && situation != NONE; k++) printf("%10.1f%6.0f %%", in[k][c], 100 * search / in[k][c]);
+        printf("\n");
+    }
+    free(s);
+    free(ready);
+}
+
+int main(void) {
+    for (size_t k = 0; k < sizeof sizes / sizeof sizes[0]; k++) {
+        printf("%u entries, %u records, %u producers\n%-62s%10s%10s%8s%10s%8s%10s%8s\n", sizes[k].entries, sizes[k].records, sizes[k].producers, "ns",
+               "without", "search", "ratio", "phase 4", "search", "phase 10", "search");
+        for (int situation = 0; situation < SITUATIONS; situation++) measure(&sizes[k], situation);
+    }
+    return 0;
+}
