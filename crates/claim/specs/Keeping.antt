@@ -1,6 +1,6 @@
 -- Which records are free, by their uses and places and by what producers hold: a retired record is kept by the greatest place of a retired
 -- record that a producer holds.
-use mathlib.Core.Path.{_≡_, refl, ap, ap₂, sym, _∙_}
+use mathlib.Core.Path.{_≡_, refl, ap₂, sym}
 use mathlib.Core.Bool.{Bool, true, false, _&&_, _||_, not, cond}
 use mathlib.Core.List.{List, [], _∷_}
 use Prim.Native.Nat.{ℕ, zero, suc, _≤_}
@@ -40,26 +40,16 @@ heldRetired σ (suc n) r = (heldRetired σ n r || names σ (σ (held (suc n))) r
 abbrev pub leastPlaces : (kept : ℕ) → List ℕ
 leastPlaces kept = 0 ∷ mostWord ∷ mostWord ∷ kept ∷ []
 
-abbrev pub belowLeast : Reader → (least : List ℕ) → (r : ℕ) → Bool
-belowLeast σ least r = ltb (σ (place r)) (getD least (σ (used r)) 0)
+abbrev pub placeBelow : Reader → (least : List ℕ) → (r : ℕ) → Bool
+placeBelow σ least r = ltb (σ (place r)) (getD least (σ (used r)) 0)
 
--- Producer t holds record r itself.
-abbrev holds : Reader → (t r : ℕ) → Bool
-holds σ t r = eqb (σ (held t)) (suc r) || eqb (σ (claimed t)) (suc r)
-
-module _ (σ : Reader) where
-  -- It keeps record r: it holds r, or a retired record of greater place.
-  kept-by : (x r : ℕ) → keptBy σ x r ≡ (eqb x (suc r) || not (leb (retiredPlace σ x) (σ (place r))))
-  kept-by zero r = rw (ne-eqb 0 (suc r) (λ e. omega arith), le-leb 0 (σ (place r)) (omega arith)) refl
-  kept-by (suc x) r = ap₂ _||_ (sym (eqb·suc-suc x r)) (go (eqb (σ (used x)) 3))
-    where
-      go : (b : Bool) → (b && ltb (σ (place r)) (σ (place x))) ≡ not (leb (cond b (σ (place x)) 0) (σ (place r)))
-      go true = by (leb (σ (place x)) (σ (place r))) refl
-        where
-          by : (c : Bool) → leb (σ (place x)) (σ (place r)) ≡ c → ltb (σ (place r)) (σ (place x)) ≡ not c
-          by true e = le-ltb (σ (place r)) (σ (place x)) (leb-true (σ (place x)) (σ (place r)) e)
-          by false e = lt-ltb (σ (place r)) (σ (place x)) (leb-false (σ (place x)) (σ (place r)) e)
-      go false = rw (le-leb 0 (σ (place r)) (omega arith)) refl
+-- below is not at least
+below-is : (p k : ℕ) → ltb p k ≡ not (leb k p)
+below-is p k = go (leb k p) refl
+  where
+    go : (b : Bool) → leb k p ≡ b → ltb p k ≡ not b
+    go true e = le-ltb p k (leb-true k p e)
+    go false e = lt-ltb p k (leb-false k p e)
 
 -- at most p, both of two numbers
 greater-most : (a b p : ℕ) → leb (greater a b) p ≡ (leb a p && leb b p)
@@ -75,71 +65,62 @@ greater-most a b p = go (ltb a b) refl (leb a p) refl (leb b p) refl
     go false h false k e l = k
 
 -- the tests of the producers so far, and of one more
-regroup : (H L h c A B : Bool) → ((H && L) && not ((h || not A) || (c || not B))) ≡ ((H && not (h || c)) && ((L && A) && B))
-regroup false L h c A B = refl
-regroup true false true c A B = refl
-regroup true false false true A B = refl
-regroup true false false false A B = refl
-regroup true true true c A B = refl
-regroup true true false true true B = refl
-regroup true true false true false B = refl
-regroup true true false false true true = refl
-regroup true true false false true false = refl
-regroup true true false false false B = refl
+regroup : (R L h c A B : Bool) → ((not R && L) && not ((h || not A) || (c || not B))) ≡ (not ((R || h) || c) && ((L && A) && B))
+regroup true L h c A B = refl
+regroup false false true c A B = refl
+regroup false false false true A B = refl
+regroup false false false false A B = refl
+regroup false true true c A B = refl
+regroup false true false true true B = refl
+regroup false true false true false B = refl
+regroup false true false false true true = refl
+regroup false true false false true false = refl
+regroup false true false false false B = refl
 
 module _ (σ : Reader) (r : ℕ) where
-  -- No producer keeps record r: none holds it, and its place is not below the greatest.
-  kept-by-none : (n : ℕ) → every n (λ t. not (keeps σ (suc t) r)) ≡ (every n (λ t. not (holds σ (suc t) r)) && leb (keptFrom σ n) (σ (place r)))
-  kept-by-none zero = sym (le-leb 0 (σ (place r)) (omega arith))
-  kept-by-none (suc n) =
-      let p = σ (place r) in
-      let a = retiredPlace σ (σ (held (suc n))) in
-      let b = retiredPlace σ (σ (claimed (suc n))) in
-      rw (kept-by-none n, kept-by σ (σ (held (suc n))) r, kept-by σ (σ (claimed (suc n))) r, greater-most (greater (keptFrom σ n) a) b p, greater-most (keptFrom σ n) a p)
-      (regroup (every n (λ t. not (holds σ (suc t) r))) (leb (keptFrom σ n) p) (eqb (σ (held (suc n))) (suc r)) (eqb (σ (claimed (suc n))) (suc r)) (leb a p) (leb b p))
-
-  -- Of a retired record, whether it is held; another is none of the retired ones that are.
-  held-retired : σ (used r) ≡ 3 → (n : ℕ) → heldRetired σ n r ≡ not (every n (λ t. not (holds σ (suc t) r)))
-  held-retired e zero = refl
-  held-retired e (suc n) =
-      rw (held-retired e n, e) (more (every n (λ t. not (holds σ (suc t) r))) (eqb (σ (held (suc n))) (suc r)) (eqb (σ (claimed (suc n))) (suc r)))
+  -- A link keeps record r: it names r, or a retired record of greater place.
+  kept-by : (x : ℕ) → keptBy σ x r ≡ (eqb x (suc r) || not (leb (retiredPlace σ x) (σ (place r))))
+  kept-by zero = rw (ne-eqb 0 (suc r) (λ e. omega arith), le-leb 0 (σ (place r)) (omega arith)) refl
+  kept-by (suc x) = ap₂ _||_ (sym (eqb·suc-suc x r)) (go (eqb (σ (used x)) 3))
     where
-      more : (a h c : Bool) → ((not a || h) || c) ≡ not (a && not (h || c))
-      more true true c = refl
-      more true false true = refl
-      more true false false = refl
-      more false h c = refl
+      go : (b : Bool) → (b && ltb (σ (place r)) (σ (place x))) ≡ not (leb (cond b (σ (place x)) 0) (σ (place r)))
+      go true = below-is (σ (place r)) (σ (place x))
+      go false = rw (le-leb 0 (σ (place r)) (omega arith)) refl
+
+  -- No producer keeps a retired record: none holds it, and its place is not below the greatest.
+  kept-by-none : σ (used r) ≡ 3 → (n : ℕ) → every n (λ t. not (keeps σ (suc t) r)) ≡ (not (heldRetired σ n r) && leb (keptFrom σ n) (σ (place r)))
+  kept-by-none e zero = sym (le-leb 0 (σ (place r)) (omega arith))
+  kept-by-none e (suc n) =
+      let p = σ (place r) in
+      let x = σ (held (suc n)) in
+      let y = σ (claimed (suc n)) in
+      let a = retiredPlace σ x in
+      let b = retiredPlace σ y in
+      rw (kept-by-none e n, kept-by x, kept-by y, greater-most (greater (keptFrom σ n) a) b p, greater-most (keptFrom σ n) a p, e)
+      (regroup (heldRetired σ n r) (leb (keptFrom σ n) p) (eqb x (suc r)) (eqb y (suc r)) (leb a p) (leb b p))
 
   none-retired : eqb (σ (used r)) 3 ≡ false → (n : ℕ) → heldRetired σ n r ≡ false
   none-retired e zero = refl
   none-retired e (suc n) = rw (none-retired e n, e) refl
 
   -- Free, by use and place and by what is held. The record is in range.
-  pub free-is : (z : Sizes) → σ (used r) ≤ 3 → σ (place r) ≤ mostPlace → free z σ r ≡ not (belowLeast σ (leastPlaces (keptFrom σ (z .P))) r || heldRetired σ (z .P) r)
+  pub free-is : (z : Sizes) → σ (used r) ≤ 3 → σ (place r) ≤ mostPlace → free z σ r ≡ not (placeBelow σ (leastPlaces (keptFrom σ (z .P))) r || heldRetired σ (z .P) r)
   unfolding free
   free-is z most most-place = by-use (σ (used r)) refl most
     where
       below : ltb (σ (place r)) mostWord ≡ true
       below = lt-ltb (σ (place r)) mostWord (omega arith)
 
-      not-below : (k : ℕ) → ltb (σ (place r)) k ≡ not (leb k (σ (place r)))
-      not-below k = at (leb k (σ (place r))) refl
-        where
-          at : (b : Bool) → leb k (σ (place r)) ≡ b → ltb (σ (place r)) k ≡ not b
-          at true e = le-ltb (σ (place r)) k (leb-true k (σ (place r)) e)
-          at false e = lt-ltb (σ (place r)) k (leb-false k (σ (place r)) e)
+      neither : (l h : Bool) → (not h && l) ≡ not (not l || h)
+      neither true true = refl
+      neither true false = refl
+      neither false true = refl
+      neither false false = refl
 
-      both : (a b : Bool) → (a && b) ≡ not (not b || not a)
-      both true true = refl
-      both true false = refl
-      both false true = refl
-      both false false = refl
-
-      by-use : (u : ℕ) → σ (used r) ≡ u → u ≤ 3 → free z σ r ≡ not (belowLeast σ (leastPlaces (keptFrom σ (z .P))) r || heldRetired σ (z .P) r)
+      by-use : (u : ℕ) → σ (used r) ≡ u → u ≤ 3 → free z σ r ≡ not (placeBelow σ (leastPlaces (keptFrom σ (z .P))) r || heldRetired σ (z .P) r)
       by-use zero e h = rw (e, none-retired (rw e refl) (z .P), le-ltb (σ (place r)) 0 (omega arith)) refl
       by-use (suc zero) e h = rw (e, below) refl
       by-use (suc (suc zero)) e h = rw (e, below) refl
       by-use (suc (suc (suc zero))) e h =
-          rw (e, kept-by-none (z .P), held-retired e (z .P), not-below (keptFrom σ (z .P)))
-          (both (every (z .P) (λ t. not (holds σ (suc t) r))) (leb (keptFrom σ (z .P)) (σ (place r))))
+          rw (e, kept-by-none e (z .P), below-is (σ (place r)) (keptFrom σ (z .P))) (neither (leb (keptFrom σ (z .P)) (σ (place r))) (heldRetired σ (z .P) r))
       by-use (suc (suc (suc (suc u)))) e h = absurd (omega arith)

@@ -17,7 +17,7 @@ use Rattle.rules.specs.Free.{free}
 use Rattle.bits.specs.Bitmap.{bitmap}
 use Rattle.bits.specs.Laws.{bitmap-lt, same-digits, either-digits, turned-digits, all-digits, no-digit, single-digit}
 use Rattle.claim.specs.declared.Kept.{Kept}
-use Rattle.claim.specs.Keeping.{retiredPlace, greater, keptFrom, names, heldRetired, leastPlaces, belowLeast, free-is}
+use Rattle.claim.specs.Keeping.{retiredPlace, greater, keptFrom, names, heldRetired, leastPlaces, placeBelow, free-is}
 
 -- Of producers 1 to n.
 pub record Keeps (z : Sizes) (σ : Reader) (n : ℕ) (k : Kept) : Type 0 where
@@ -82,15 +82,15 @@ module _ (z : Sizes) (σ : Reader) where
         rw is (record { place = rw e q; records = ap (λ (m : ℕ). bitOr (k .records) m) digit })
 
   -- The free records are all but those that are not free by use and place, and the retired ones that are held.
-  module _ (k : Kept) {m : ℕ} (most : z .N ≤ mostRecords) (keeps : Keeps z σ (z .P) k) (e : bitmap 0 (z .N) (belowLeast σ (leastPlaces (k .place))) ≡ m) where
+  module _ (k : Kept) {m : ℕ} (most : z .N ≤ mostRecords) (keeps : Keeps z σ (z .P) k) (e : bitmap 0 (z .N) (placeBelow σ (leastPlaces (k .place))) ≡ m) where
     others : ℕ → Bool
-    others r = belowLeast σ (leastPlaces (keptFrom σ (z .P))) r || heldRetired σ (z .P) r
+    others r = placeBelow σ (leastPlaces (keptFrom σ (z .P))) r || heldRetired σ (z .P) r
 
     other-digits : bitmap 0 (z .N) others ≡ bitOr m (k .records)
     unfolding others
     other-digits =
-        sym (either-digits 0 (z .N) (belowLeast σ (leastPlaces (keptFrom σ (z .P)))) (heldRetired σ (z .P)))
-        ∙ ap₂ bitOr (ap (λ (x : ℕ). bitmap 0 (z .N) (belowLeast σ (leastPlaces x))) (keeps .place) ∙ e) (keeps .records)
+        sym (either-digits 0 (z .N) (placeBelow σ (leastPlaces (keptFrom σ (z .P)))) (heldRetired σ (z .P)))
+        ∙ ap₂ bitOr (ap (λ (x : ℕ). bitmap 0 (z .N) (placeBelow σ (leastPlaces x))) (keeps .place) ∙ e) (keeps .records)
 
     -- all of the records, by the digits that are dropped from a word of set digits
     module _ (dropped : ℕ) (left : dropped ≡ 64 - z .N) where

@@ -10,7 +10,7 @@ ghost use Rattle.store.specs.Outcome.{left, does};
 ghost use Rattle.store.specs.Store.{Admitted};
 ghost use Rattle.bits.specs.Bitmap.{digit, bitmap};
 ghost use Rattle.claim.specs.Claim.{Claimed};
-ghost use Rattle.claim.specs.Keeping.{leastPlaces, belowLeast};
+ghost use Rattle.claim.specs.Keeping.{leastPlaces, placeBelow};
 ghost use Rattle.claim.specs.Kept.{Keeps, KeepsToo};
 ghost use Rattle.claim.specs.Search.{Finds};
 ghost use Rattle.claim.specs.Walk.{firstWord};
@@ -18,7 +18,6 @@ use store::Reply;
 use store::Shape;
 use store::clear_producer;
 use store::last_claimed;
-use store::part;
 use store::phase;
 use store::put_last_claimed;
 use store::put_producer;
@@ -29,27 +28,27 @@ use store::record_words;
 use store::select;
 use store::size;
 use store::usage;
-use store::use_of;
 use store::wipe_record;
 use store::word;
 
-// A place that no record has: of no record of this use is it free.
+// Past every place: the least place of a free record of some use, where none of that use is free.
 const NEVER: u32 = 4294967295;
 
 // The retired records that producers hold: the greatest place of them, 0 where there are none, and the records as digits of a word, record 0
 // the lowest.
-pub struct Kept {
-    pub place: u32,
-    pub records: u64,
+struct Kept {
+    place: u32,
+    records: u64,
 }
 
+// The digit of a test.
 fn digit(test: bool) -> u64
     ensures { λ d. ⌜ (d ≡ digit test) × (d ≤ 1) ⌝ }
 {
     if test { 1 } else { 0 }
 }
 
-// With the record that a link names, if that is retired.
+// What is kept with the record that a link names, if that is retired.
 fn with_link(s: &[u32], z: Shape, kept: Kept, link: u32) -> Kept
     requires { ⌜ Admitted (sizes z) (now s) ⌝ }
     requires { ⌜ link ≤ z .records ⌝ }
@@ -70,7 +69,7 @@ fn with_link(s: &[u32], z: Shape, kept: Kept, link: u32) -> Kept
     }
 }
 
-// What producers 1 to P keep: a producer holds a record, and may have claimed another.
+// What producers 1 to P keep, by the records that they hold and those that they have claimed.
 fn kept_records(s: &[u32], z: Shape) -> Kept
     requires { ⌜ Admitted (sizes z) (now s) ⌝ }
     ensures { λ k. ⌜ Keeps (sizes z) (reader (sizes z) (now (s .entry))) (z .producers) k ⌝ }
@@ -89,22 +88,21 @@ fn kept_records(s: &[u32], z: Shape) -> Kept
     kept
 }
 
-// Whether record r, whose first word is at `at`, is not free by use and place, as a digit: a record is free from some place on, the least one
-// of its use.
-fn below(s: &[u32], z: Shape, least: &[u32; 4], r: u32, at: usize) -> u64
+// Whether record r, whose first word is at `at`, is not free by use and place, as a digit: its place is below the least one of its use.
+fn place_below(s: &[u32], z: Shape, least: &[u32; 4], r: u32, at: usize) -> u64
     requires { ⌜ Admitted (sizes z) (now s) ⌝ }
     requires { ⌜ (r < z .records) × (at ≡ firstWord (sizes z) r) ⌝ }
-    ensures { λ d. ⌜ (digit (belowLeast (reader (sizes z) (now (s .entry))) (now (least .entry)) r) ≡ d) × (d ≤ 1) ⌝ }
+    ensures { λ d. ⌜ (digit (placeBelow (reader (sizes z) (now (s .entry))) (now (least .entry)) r) ≡ d) × (d ≤ 1) ⌝ }
 {
     let used = s[at + word::USE as usize] as usize;
     digit(s[at] < least[used])
 }
 
-// The records that are not free by use and place, as digits, record 0 the lowest; a retired one is kept below the place `kept`. The loop goes
-// over every record, from the last, two at a time and without a branch.
-fn below_least(s: &[u32], z: Shape, kept: u32) -> u64
+// The records that are not free by use and place, as digits, record 0 the lowest: any place will do of use 0, none of a claimed or linked one,
+// and a retired one is kept below the place `kept`. The loop goes over every record, from the last, two at a time and without a branch.
+fn places_below(s: &[u32], z: Shape, kept: u32) -> u64
     requires { ⌜ Admitted (sizes z) (now s) ⌝ }
-    ensures { λ m. ⌜ bitmap 0 (z .records) (belowLeast (reader (sizes z) (now (s .entry))) (leastPlaces kept)) ≡ m ⌝ }
+    ensures { λ m. ⌜ bitmap 0 (z .records) (placeBelow (reader (sizes z) (now (s .entry))) (leastPlaces kept)) ≡ m ⌝ }
 {
     let least = [0, NEVER, NEVER, kept];
     let words = record_words(z) as usize;
@@ -114,13 +112,13 @@ fn below_least(s: &[u32], z: Shape, kept: u32) -> u64
     while 1 < r {
         r -= 2;
         at -= 2 * words;
-        let upper = below(s, z, &least, r + 1, at + words);
-        map = map * 4 + (upper * 2 + below(s, z, &least, r, at));
+        let upper = place_below(s, z, &least, r + 1, at + words);
+        map = map * 4 + (upper * 2 + place_below(s, z, &least, r, at));
     }
     if r == 0 {
         return map;
     }
-    map * 2 + below(s, z, &least, 0, at - words)
+    map * 2 + place_below(s, z, &least, 0, at - words)
 }
 
 // The free records as digits, record 0 the lowest: all but those that are not free by use and place, and the retired ones that are held.
@@ -129,12 +127,12 @@ fn free_map(s: &[u32], z: Shape) -> u64
     ensures { λ m. ⌜ bitmap 0 (z .records) (free (sizes z) (reader (sizes z) (now (s .entry)))) ≡ m ⌝ }
 {
     let kept = kept_records(s, z);
-    let others = below_least(s, z, kept.place) | kept.records;
+    let others = places_below(s, z, kept.place) | kept.records;
     let all = u64::MAX >> (size::MOST_RECORDS - z.records);
     all - others
 }
 
-// The first set digit of a map from digit `from` on, plus one; 0 where there is none.
+// The first set digit of a map from digit `from` on, plus one; 0 where there is none. (A shift by all 64 digits is none.)
 fn first_set(map: u64, from: u32) -> u32
     requires { ⌜ from ≤ mostRecords ⌝ }
     ensures { λ r. ⌜ Finds map from r ⌝ }

@@ -11,8 +11,8 @@ use Rattle.claim.proofs.free_map.Tie as tie
 kept-records-requires : tie.Need-kept-records-requires
 kept-records-requires c κs = search needs
 
-below-least-requires : tie.Need-below-least-requires
-below-least-requires c κs = search needs
+places-below-requires : tie.Need-places-below-requires
+places-below-requires c κs = search needs
 
 sub-all : tie.Need-sub-all
 sub-all c = search needs
@@ -27,21 +27,21 @@ sub-result : tie.Need-sub-result
 sub-result c =
     let a = c .before .before .before .before .before .args in
     let kept = c .before .before .before .kept-records in
-    others-most (sizes (a .z)) (reader (sizes (a .z)) (now (a .s))) (kept .result) (omega arith) (kept .ensures) (c .before .before .below-least .ensures) _ (omega arith)
+    others-most (sizes (a .z)) (reader (sizes (a .z)) (now (a .s))) (kept .result) (omega arith) (kept .ensures) (c .before .before .places-below .ensures) _ (omega arith)
 
 returns : tie.Need-returns
 returns c =
     let start = c .before .before .before .before .before in
     let a = start .args in
     let kept = c .before .before .before .kept-records in
-    free-digits (sizes (a .z)) (reader (sizes (a .z)) (now (a .s))) (kept .result) (omega arith) (kept .ensures) (c .before .before .below-least .ensures) _ (omega arith) (start .pre .ranges)
+    free-digits (sizes (a .z)) (reader (sizes (a .z)) (now (a .s))) (kept .result) (omega arith) (kept .ensures) (c .before .before .places-below .ensures) _ (omega arith) (start .pre .ranges)
 
 pub free-map-spec : {M : Type 1} → statement M
 free-map-spec =
     tie.close
     (tie.spec
     kept-records-requires
-    below-least-requires
+    places-below-requires
     sub-all
     cast-all
     shr-all

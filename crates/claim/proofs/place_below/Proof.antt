@@ -1,12 +1,12 @@
--- `claim::below` meets its contract.
+-- `claim::place_below` meets its contract.
 use mathlib.Core.Path.{sym}
 use Prim.Native.Nat.{_+_}
 use native.Mathlib.Omega.{arith}
 use borrow.Author.Needs.{needs}
 use Rattle.rules.specs.Cell.{place, used}
 use Rattle.claim.specs.Walk.{words-there, reads-use, reads-place}
-use Rattle.claim.proofs.below.Statement.{statement}
-use Rattle.claim.proofs.below.Tie as tie
+use Rattle.claim.proofs.place_below.Statement.{statement}
+use Rattle.claim.proofs.place_below.Tie as tie
 
 cast-used : tie.Need-cast-used
 cast-used c = search needs
@@ -45,8 +45,8 @@ returns c =
     let place = reads-place (start .pre .0) (start .pre .1 .0) (start .pre .1 .1) (omega (arith, c .before .before .shared-slice-known3 .given (start .args .at))) in
     (rw (place .is, used .is) (sym (c .digit .ensures .0)), c .digit .ensures .1)
 
-pub below-spec : {M : Type 1} → statement M
-below-spec =
+pub place-below-spec : {M : Type 1} → statement M
+place-below-spec =
     tie.close
     (tie.spec
     cast-used

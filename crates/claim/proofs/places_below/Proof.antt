@@ -1,4 +1,4 @@
--- `claim::below_least` meets its contract. The loop's invariant: the digits of the records from r on are gathered, and record r begins at `at`.
+-- `claim::places_below` meets its contract. The loop's invariant: the digits of the records from r on are gathered, and record r begins at `at`.
 use mathlib.Core.Path.{_≡_, refl, _∙_}
 use Prim.Native.Nat.{_+_, _-_, _≤_}
 use native.Mathlib.Nat.{sub-zero}
@@ -9,14 +9,14 @@ use Rattle.rules.specs.Cell.{reader}
 use Rattle.store.specs.Shape.{sizes}
 use Rattle.bits.specs.Bitmap.{digit, bitmap}
 use Rattle.bits.specs.Laws.{bitmap-fits, digit-before}
-use Rattle.claim.specs.Keeping.{leastPlaces, belowLeast}
+use Rattle.claim.specs.Keeping.{leastPlaces, placeBelow}
 use Rattle.claim.specs.Walk.{firstWord, one-back, two-back, words-there}
-use Rattle.claim.proofs.below_least.Statement.{statement}
-use Rattle.claim.proofs.below_least.Tie as tie
+use Rattle.claim.proofs.places_below.Statement.{statement}
+use Rattle.claim.proofs.places_below.Tie as tie
 
 abbrev Inv-loop : tie.InvT-loop
 Inv-loop s z kept least words map₀ r₀ at₀ map r at =
-    (r ≤ z .records) × (at ≡ firstWord (sizes z) r) × (bitmap r (z .records - r) (belowLeast (reader (sizes z) s) (leastPlaces kept)) ≡ map)
+    (r ≤ z .records) × (at ≡ firstWord (sizes z) r) × (bitmap r (z .records - r) (placeBelow (reader (sizes z) s) (leastPlaces kept)) ≡ map)
 
 abbrev μ-loop : tie.MeasureT-loop
 μ-loop s z kept least words map₀ r₀ at₀ map r at = r
@@ -52,18 +52,18 @@ sub-at c =
     let back = two-back (sizes (a .z)) (l .r) (l .inv .1) (c .before .before .before .record-words .ensures .0) (omega arith) in
     back .0
 
-add-below : tie.Need-add-below Inv-loop μ-loop
-add-below c = omega arith
+add-place-below : tie.Need-add-place-below Inv-loop μ-loop
+add-place-below c = omega arith
 
-add-below-2 : tie.Need-add-below-2 Inv-loop μ-loop
-add-below-2 c =
+add-place-below-2 : tie.Need-add-place-below-2 Inv-loop μ-loop
+add-place-below-2 c =
     let a = c .before .before .before .before .before .before .args in
     let l = c .before .before .loop in
     let back = two-back (sizes (a .z)) (l .r) (l .inv .1) (c .before .before .before .before .record-words .ensures .0) (omega arith) in
     omega (arith, words-there (c .before .before .before .before .before .before .pre) (omega arith) (back .2))
 
-below-requires : tie.Need-below-requires Inv-loop μ-loop
-below-requires c κs =
+place-below-requires : tie.Need-place-below-requires Inv-loop μ-loop
+place-below-requires c κs =
     let a = c .before .before .before .before .before .before .args in
     let l = c .before .before .loop in
     let back = two-back (sizes (a .z)) (l .r) (l .inv .1) (c .before .before .before .before .record-words .ensures .0) (omega arith) in
@@ -73,13 +73,13 @@ mul-map : tie.Need-mul-map Inv-loop μ-loop
 mul-map c =
     let a = c .before .before .before .before .before .before .before .args in
     let l = c .before .before .before .loop in
-    omega (arith, l .inv .2, bitmap-fits (l .r) (a .z .records - l .r) 62 (belowLeast (reader (sizes (a .z)) (now (a .s))) (leastPlaces (a .kept))) (omega arith))
+    omega (arith, l .inv .2, bitmap-fits (l .r) (a .z .records - l .r) 62 (placeBelow (reader (sizes (a .z)) (now (a .s))) (leastPlaces (a .kept))) (omega arith))
 
 mul-map-2 : tie.Need-mul-map-2 Inv-loop μ-loop
 mul-map-2 c = omega arith
 
-below-requires-2 : tie.Need-below-requires-2 Inv-loop μ-loop
-below-requires-2 c κs =
+place-below-requires-2 : tie.Need-place-below-requires-2 Inv-loop μ-loop
+place-below-requires-2 c κs =
     let a = c .before .before .before .before .before .before .before .before .args in
     let l = c .before .before .before .before .loop in
     let back = two-back (sizes (a .z)) (l .r) (l .inv .1) (c .before .before .before .before .before .before .record-words .ensures .0) (omega arith) in
@@ -92,7 +92,7 @@ add-map-2 : tie.Need-add-map-2 Inv-loop μ-loop
 add-map-2 c =
     let a = c .before .before .before .before .before .before .before .before .before .args in
     let l = c .before .before .before .before .before .loop in
-    omega (arith, l .inv .2, bitmap-fits (l .r) (a .z .records - l .r) 62 (belowLeast (reader (sizes (a .z)) (now (a .s))) (leastPlaces (a .kept))) (omega arith))
+    omega (arith, l .inv .2, bitmap-fits (l .r) (a .z .records - l .r) 62 (placeBelow (reader (sizes (a .z)) (now (a .s))) (leastPlaces (a .kept))) (omega arith))
 
 loop-less : tie.Need-loop-less Inv-loop μ-loop
 loop-less c = omega arith
@@ -104,9 +104,9 @@ loop-again c =
     let back = two-back (sizes (a .z)) (l .r) (l .inv .1) (c .before .before .before .before .before .before .before .record-words .ensures .0) (omega arith) in
     let upper : c .before .before .before .before .before .loop .r - 2 + 1 ≡ c .before .before .before .before .before .loop .r - 1 = omega arith in
     let lower : c .before .before .before .before .before .loop .r - 1 - 1 ≡ c .before .before .before .before .before .loop .r - 2 = omega arith in
-    let test = belowLeast (reader (sizes (a .z)) (now (a .s))) (leastPlaces (a .kept)) in
-    let one = digit-before (l .r) (a .z .records) test (omega arith) (omega arith) (l .inv .2) (rw upper at (c .before .before .below .ensures .0)) in
-    let second : digit (test (l .r - 1 - 1)) ≡ c .below2 .result = rw lower (c .below2 .ensures .0) in
+    let test = placeBelow (reader (sizes (a .z)) (now (a .s))) (leastPlaces (a .kept)) in
+    let one = digit-before (l .r) (a .z .records) test (omega arith) (omega arith) (l .inv .2) (rw upper at (c .before .before .place-below .ensures .0)) in
+    let second : digit (test (l .r - 1 - 1)) ≡ c .place-below2 .result = rw lower (c .place-below2 .ensures .0) in
     let two = digit-before (l .r - 1) (a .z .records) test (omega arith) (omega arith) one second in
     (omega arith, back .1, (rw lower at two) ∙ (omega arith))
 
@@ -119,17 +119,17 @@ mul-result : tie.Need-mul-result Inv-loop μ-loop
 mul-result c =
     let a = c .before .before .before .before .before .before .args in
     let l = c .before .before .loop in
-    omega (arith, l .inv .2, bitmap-fits (l .r) (a .z .records - l .r) 63 (belowLeast (reader (sizes (a .z)) (now (a .s))) (leastPlaces (a .kept))) (omega arith))
+    omega (arith, l .inv .2, bitmap-fits (l .r) (a .z .records - l .r) 63 (placeBelow (reader (sizes (a .z)) (now (a .s))) (leastPlaces (a .kept))) (omega arith))
 
-sub-below : tie.Need-sub-below Inv-loop μ-loop
-sub-below c =
+sub-place-below : tie.Need-sub-place-below Inv-loop μ-loop
+sub-place-below c =
     let a = c .before .before .before .before .before .before .before .args in
     let l = c .before .before .before .loop in
     let back = one-back (sizes (a .z)) (l .r) (l .inv .1) (c .before .before .before .before .before .record-words .ensures .0) (omega arith) in
     back .0
 
-below-requires-3 : tie.Need-below-requires-3 Inv-loop μ-loop
-below-requires-3 c κs =
+place-below-requires-3 : tie.Need-place-below-requires-3 Inv-loop μ-loop
+place-below-requires-3 c κs =
     let a = c .before .before .before .before .before .before .before .args in
     let l = c .before .before .before .loop in
     let back = one-back (sizes (a .z)) (l .r) (l .inv .1) (c .before .before .before .before .before .record-words .ensures .0) (omega arith) in
@@ -140,17 +140,17 @@ add-result : tie.Need-add-result Inv-loop μ-loop
 add-result c =
     let a = c .before .before .before .before .before .before .before .before .args in
     let l = c .before .before .before .before .loop in
-    omega (arith, l .inv .2, bitmap-fits (l .r) (a .z .records - l .r) 63 (belowLeast (reader (sizes (a .z)) (now (a .s))) (leastPlaces (a .kept))) (omega arith))
+    omega (arith, l .inv .2, bitmap-fits (l .r) (a .z .records - l .r) 63 (placeBelow (reader (sizes (a .z)) (now (a .s))) (leastPlaces (a .kept))) (omega arith))
 
 returns-2 : tie.Need-returns-2 Inv-loop μ-loop
 returns-2 c =
     let a = c .before .before .before .before .before .before .before .before .args in
     let l = c .before .before .before .before .loop in
     let one : l .r ≡ 1 = omega arith in
-    rw sub-zero at (digit-before 1 (a .z .records) (belowLeast (reader (sizes (a .z)) (now (a .s))) (leastPlaces (a .kept))) (omega arith) (omega arith) (rw one at (l .inv .2)) (c .below3 .ensures .0))
+    rw sub-zero at (digit-before 1 (a .z .records) (placeBelow (reader (sizes (a .z)) (now (a .s))) (leastPlaces (a .kept))) (omega arith) (omega arith) (rw one at (l .inv .2)) (c .place-below3 .ensures .0))
 
-pub below-least-spec : {M : Type 1} → statement M
-below-least-spec =
+pub places-below-spec : {M : Type 1} → statement M
+places-below-spec =
     tie.close
     (tie.spec
     Inv-loop
@@ -163,19 +163,19 @@ below-least-spec =
     sub-r
     mul-at
     sub-at
-    add-below
-    add-below-2
-    below-requires
+    add-place-below
+    add-place-below-2
+    place-below-requires
     mul-map
     mul-map-2
-    below-requires-2
+    place-below-requires-2
     add-map
     add-map-2
     loop-less
     loop-again
     returns
     mul-result
-    sub-below
-    below-requires-3
+    sub-place-below
+    place-below-requires-3
     add-result
     returns-2)
