@@ -1,7 +1,8 @@
 /* Times the claim's search beside the same search in C, in rounds in which each contestant has its turn; a figure is the best round. At a full
  * count a step changes nothing: in phase 4 it makes the search and is refused with 9, or 8 where none is free; in phase 3 it is refused with 9
  * and makes none. The difference is the search alone. A step in phases 4 and 10 that claims is timed with what it changed put back, less the
- * time of putting it back. */
+ * time of putting it back. Last, random calls as a host makes them that keeps the room and clears the way: how many of them search, and so which
+ * part of their time is searched. */
 #include <stdio.h>
 #include <stdlib.h>
 #include <string.h>
@@ -40,6 +41,7 @@ static const struct Size {
     uint32_t entries, records, producers;
 } sizes[] = {{2, 64, 16}, {2, 2, 1}};
 
+static double of_search[MANY]; /* ns, with a third of the records free, on the first store */
 static volatile uint32_t sink;
 
 static double now(void) {
@@ -108,6 +110,50 @@ static double claiming(const struct Contestant *c, uint32_t *s, const uint32_t *
     return ((end - middle) - (middle - begin)) / CALLS;
 }
 
+static uint64_t state = 88172645463325252u;
+static uint32_t draw(uint32_t below) {
+    state ^= state << 13;
+    state ^= state >> 7;
+    state ^= state << 17;
+    return (uint32_t)((state >> 33) % below);
+}
+
+/* how many calls of one a host made, and how many of them searched */
+struct Made {
+    uint32_t calls, searches;
+};
+
+static void step_on(const struct Contestant *c, uint32_t *s, size_t n, uint32_t t, struct Made *made) {
+    uint32_t none[1], reply[4], phase = s[THREADS + 8 * t];
+    made->calls++;
+    made->searches += t > 0 && (phase == 4 || phase == 10);
+    sink += c->step(s, n, t, none, 0, 0, reply);
+}
+
+/* random calls, the consumer's a third of them */
+static struct Made host(const struct Contestant *c, uint32_t *s, size_t n, const struct Size *z) {
+    struct Made made = {0, 0};
+    uint32_t reply[4];
+    state = 88172645463325252u;
+    if (intake_open(s, n, z->entries, z->records, z->producers, 1000000) != INTAKE_OK) exit(1);
+    for (int k = 0; k < 20 * CALLS; k++) {
+        uint32_t t = draw(3) ? 1 + draw(z->producers) : 0;
+        if (s[THREADS + 8 * t] != 0) {
+            if (t == 0)
+                for (uint32_t other = 1; other <= z->producers; other++)
+                    if (intake_in_the_way(s, other)) step_on(c, s, n, other, &made);
+            step_on(c, s, n, t, &made);
+        } else if (t == 0) {
+            sink += intake_start_dequeue(s, n);
+            made.calls++;
+        } else if (intake_has_room(s)) {
+            sink += intake_start_enqueue(s, n, t, 7, reply);
+            made.calls++;
+        }
+    }
+    return made;
+}
+
 static void measure(const struct Size *z, int situation) {
     size_t n = INTAKE_WORDS(z->entries, z->records, z->producers);
     uint32_t *s = malloc(n * 4), *ready = malloc(n * 4), none[1], reply[4], number = situation == NONE ? 8 : 9;
@@ -128,6 +174,7 @@ static void measure(const struct Size *z, int situation) {
         }
     for (int c = 0; c < MANY; c++) {
         double search = with[c] - without[c];
+        if (situation == SOME && z == sizes) of_search[c] = search;
         printf("%-32s%-30s%10.1f%10.1f%8.2f", c ? "" : situations[situation], contestants[c]->label, without[c], search,
                (with[0] - without[0]) / search);
         for (int k = 0; k < 2 && situation != NONE; k++) printf("%10.1f%6.0f %%", in[k][c], 100 * search / in[k][c]);
@@ -137,11 +184,32 @@ static void measure(const struct Size *z, int situation) {
     free(ready);
 }
 
+/* the time of a host's calls beside that of its searches, each of which is as long as where a third of the records is free */
+static void measure_host(const struct Size *z) {
+    size_t n = INTAKE_WORDS(z->entries, z->records, z->producers);
+    uint32_t *s = malloc(n * 4);
+    double took[MANY] = {0};
+    struct Made made = {0, 0};
+    if (!s) exit(1);
+    for (int round = 0; round < 20; round++)
+        for (int c = 0; c < MANY; c++) {
+            double begin = now();
+            made = host(contestants[c], s, n, z);
+            keep_least(&took[c], now() - begin);
+        }
+    for (int c = 0; c < MANY; c++)
+        printf("%-32s%-30s%10.1f%10.1f%8.1f %%\n", c ? "" : "a host's calls", contestants[c]->label, took[c] / made.calls, of_search[c],
+               100 * made.searches * of_search[c] / took[c]);
+    printf("%u calls, of which %u search\n", made.calls, made.searches);
+    free(s);
+}
+
 int main(void) {
     for (size_t k = 0; k < sizeof sizes / sizeof sizes[0]; k++) {
         printf("%u entries, %u records, %u producers\n%-62s%10s%10s%8s%10s%8s%10s%8s\n", sizes[k].entries, sizes[k].records, sizes[k].producers, "ns",
                "without", "search", "ratio", "phase 4", "search", "phase 10", "search");
         for (int situation = 0; situation < SITUATIONS; situation++) measure(&sizes[k], situation);
     }
+    measure_host(&sizes[0]);
     return 0;
 }
