@@ -5,10 +5,10 @@
 #include <stdio.h>
 #include <stdlib.h>
 #include <string.h>
-#include <time.h>
 
 #include "../../include/intake.h"
 #include "bench.h"
+#include "rounds.h"
 
 #define X(name) extern const struct Contestant name;
 CONTESTANTS
@@ -17,7 +17,7 @@ CONTESTANTS
 PASSES
 #undef X
 
-static const struct Contestant engine = {"engine", intake_start_enqueue, intake_start_dequeue, intake_start_drain, intake_step};
+static const struct Contestant engine = {"engine", intake_start_enqueue, intake_start_dequeue, intake_start_drain, intake_step, 0};
 #define X(name) , &name
 static const struct Contestant *const contestants[] = {&engine CONTESTANTS}; /* the engine is the first */
 #undef X
@@ -33,31 +33,17 @@ static const struct Size {
     uint32_t entries, records, producers, calls;
 } sizes[STORES] = {{"smallest", 2, 2, 1, 100000}, {"middle", 16, 16, 8, 25000}, {"largest", 64, 64, 16, 6000}};
 
-static uint64_t state;
-static uint32_t draw(uint32_t below) {
-    state ^= state << 13;
-    state ^= state >> 7;
-    state ^= state << 17;
-    return (uint32_t)((state >> 33) % below);
-}
-
-static double now(void) {
-    struct timespec t;
-    clock_gettime(CLOCK_MONOTONIC, &t);
-    return (double)t.tv_sec * 1e9 + (double)t.tv_nsec;
-}
-
 static volatile uint32_t sink;
 
 /* ns a call; each thread starts when it is idle, and a fourth of the consumer's calls are drains of a few items */
 static double time_calls(const struct Contestant *c, uint32_t *s, size_t n, uint32_t producers, uint32_t calls) {
     uint32_t busy[17] = {0}, buffer[2 * FEW] = {0}, reply[4] = {0};
-    state = 88172645463325252u;
+    uint64_t state = SEED;
     double begin = now();
     for (uint32_t k = 0; k < calls; k++) {
-        uint32_t t = draw(3) ? draw(producers + 1) : 0, answer;
+        uint32_t t = draw(&state, 3) ? draw(&state, producers + 1) : 0, answer;
         if (!busy[t]) {
-            answer = t ? c->start_enqueue(s, n, t, k, reply) : draw(4) ? c->start_dequeue(s, n) : c->start_drain(s, n, FEW);
+            answer = t ? c->start_enqueue(s, n, t, k, reply) : draw(&state, 4) ? c->start_dequeue(s, n) : c->start_drain(s, n, FEW);
             busy[t] = answer == INTAKE_OK;
         } else {
             answer = c->step(s, n, t, buffer, 2 * FEW, 0, reply);
@@ -100,10 +86,6 @@ static struct Taken take(const struct Contestant *c, uint32_t *s, size_t n, int 
 
 static double of_calls[CALLED][STORES], of_passes[PASSED][STORES], of_waiting[CALLED][STORES][WAYS];
 static struct Taken first_taken[STORES][WAYS];
-
-static void keep_least(double *least, double took) {
-    if (*least == 0 || took < *least) *least = took;
-}
 
 static void measure(int k) {
     const struct Size z = sizes[k];

@@ -1,15 +1,15 @@
-/* Times the claim's search beside the same search in C, in rounds in which each contestant has its turn; a figure is the best round. At a full
- * count a step changes nothing: in phase 4 it makes the search and is refused with 9, or 8 where none is free; in phase 3 it is refused with 9
- * and makes none. The difference is the search alone. A step in phases 4 and 10 that claims is timed with what it changed put back, less the
- * time of putting it back. Last, random calls as a host makes them that keeps the room and clears the way: how many of them search, and so which
+/* Times the claim's search beside the same search in C, in rounds in which each contestant has its turn; a figure is the best round. The C is
+ * called by itself. The engine's search is a difference: at a full count a step changes nothing, in phase 4 it makes the search and is refused
+ * with 9, or 8 where none is free, and in phase 3 it is refused with 9 and makes none. A step in phases 4 and 10 that claims is timed with what
+ * it changed put back, less the time of putting it back. Last, random calls as a host makes them that keeps the room and clears the way: how many of them search, and so which
  * part of their time is searched. */
 #include <stdio.h>
 #include <stdlib.h>
 #include <string.h>
-#include <time.h>
 
 #include "../../include/intake.h"
 #include "bench.h"
+#include "rounds.h"
 
 enum { ROUNDS = 60, CALLS = 4000, LAST_CLAIMED = 11, THREADS = 16, PHASE = 0, HELD = 4, STEPS = 7, PLACE = 0, USE = 3, FULL = 100000000 };
 
@@ -44,12 +44,6 @@ static const struct Size {
 static double of_search[MANY]; /* ns, with a third of the records free, on the first store */
 static volatile uint32_t sink;
 
-static double now(void) {
-    struct timespec t;
-    clock_gettime(CLOCK_MONOTONIC, &t);
-    return (double)t.tv_sec * 1e9 + (double)t.tv_nsec;
-}
-
 static uint32_t *record(uint32_t *s, uint32_t r) { return s + s[5] + r * (3 * s[0] + 4); }
 
 static uint32_t use_of(int situation, uint32_t r, uint32_t last) {
@@ -57,7 +51,7 @@ static uint32_t use_of(int situation, uint32_t r, uint32_t last) {
     return situation == SOME && r % 3 != 2 ? (r % 3 ? 3 : 0) : 2;
 }
 
-/* a store in range: the producers hold the first records, and producer 1 stands in a phase */
+/* a store in range: the producers hold the first records and all stand in one phase */
 static void prepare(uint32_t *s, size_t n, const struct Size *z, int situation, uint32_t phase, uint32_t steps) {
     memset(s, 0, n * 4);
     if (intake_open(s, n, z->entries, z->records, z->producers, 1000) != INTAKE_OK) exit(1);
@@ -73,16 +67,19 @@ static void prepare(uint32_t *s, size_t n, const struct Size *z, int situation, 
     }
 }
 
-static void keep_least(double *least, double took) {
-    if (*least == 0 || took < *least) *least = took;
-}
-
 /* ns of a step that is refused with a number */
 static double refused(const struct Contestant *c, uint32_t *s, size_t n, uint32_t number) {
     uint32_t none[1], reply[4];
     double begin = now();
     for (int k = 0; k < CALLS; k++)
         if (c->step(s, n, 1, none, 0, 0, reply) != number) exit(1);
+    return (now() - begin) / CALLS;
+}
+
+/* ns of a search that is called by itself */
+static double searching(const struct Contestant *c, uint32_t *s) {
+    double begin = now();
+    for (int k = 0; k < CALLS; k++) sink += c->search(s);
     return (now() - begin) / CALLS;
 }
 
@@ -110,15 +107,7 @@ static double claiming(const struct Contestant *c, uint32_t *s, const uint32_t *
     return ((end - middle) - (middle - begin)) / CALLS;
 }
 
-static uint64_t state = 88172645463325252u;
-static uint32_t draw(uint32_t below) {
-    state ^= state << 13;
-    state ^= state >> 7;
-    state ^= state << 17;
-    return (uint32_t)((state >> 33) % below);
-}
-
-/* how many calls of one a host made, and how many of them searched */
+/* how many calls a host made, and how many of them searched */
 struct Made {
     uint32_t calls, searches;
 };
@@ -134,10 +123,10 @@ static void step_on(const struct Contestant *c, uint32_t *s, size_t n, uint32_t 
 static struct Made host(const struct Contestant *c, uint32_t *s, size_t n, const struct Size *z) {
     struct Made made = {0, 0};
     uint32_t reply[4];
-    state = 88172645463325252u;
+    uint64_t state = SEED;
     if (intake_open(s, n, z->entries, z->records, z->producers, 1000000) != INTAKE_OK) exit(1);
     for (int k = 0; k < 20 * CALLS; k++) {
-        uint32_t t = draw(3) ? 1 + draw(z->producers) : 0;
+        uint32_t t = draw(&state, 3) ? 1 + draw(&state, z->producers) : 0;
         if (s[THREADS + 8 * t] != 0) {
             if (t == 0)
                 for (uint32_t other = 1; other <= z->producers; other++)
@@ -157,7 +146,8 @@ static struct Made host(const struct Contestant *c, uint32_t *s, size_t n, const
 static void measure(const struct Size *z, int situation) {
     size_t n = INTAKE_WORDS(z->entries, z->records, z->producers);
     uint32_t *s = malloc(n * 4), *ready = malloc(n * 4), none[1], reply[4], number = situation == NONE ? 8 : 9;
-    double without[MANY] = {0}, with[MANY] = {0}, in[2][MANY] = {{0}};
+    uint32_t claimed = 0; /* by the first contestant; all must claim the same record */
+    double without[MANY] = {0}, with[MANY] = {0}, alone[MANY] = {0}, in[2][MANY] = {{0}};
     if (!s || !ready) exit(1);
     for (int round = 0; round < ROUNDS; round++)
         for (int c = 0; c < MANY; c++) {
@@ -165,15 +155,18 @@ static void measure(const struct Size *z, int situation) {
             keep_least(&without[c], refused(contestants[c], s, n, 9));
             prepare(s, n, z, situation, 4, FULL);
             keep_least(&with[c], refused(contestants[c], s, n, number));
+            if (contestants[c]->search) keep_least(&alone[c], searching(contestants[c], s));
             for (int k = 0; k < 2 && situation != NONE; k++) {
                 prepare(s, n, z, situation, k ? 10 : 4, 0);
                 memcpy(ready, s, n * 4);
                 if (contestants[c]->step(s, n, 1, none, 0, 0, reply) != INTAKE_GOING) exit(1);
-                keep_least(&in[k][c], claiming(contestants[c], s, ready, n, s[LAST_CLAIMED] - 1));
+                if (!claimed) claimed = s[LAST_CLAIMED];
+                if (claimed != s[LAST_CLAIMED] || (contestants[c]->search && claimed != contestants[c]->search(ready))) exit(1);
+                keep_least(&in[k][c], claiming(contestants[c], s, ready, n, claimed - 1));
             }
         }
     for (int c = 0; c < MANY; c++) {
-        double search = with[c] - without[c];
+        double search = contestants[c]->search ? alone[c] : with[c] - without[c];
         if (situation == SOME && z == sizes) of_search[c] = search;
         printf("%-32s%-30s%10.1f%10.1f%8.2f", c ? "" : situations[situation], contestants[c]->label, without[c], search,
                (with[0] - without[0]) / search);

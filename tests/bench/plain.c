@@ -104,12 +104,12 @@ static int records_ok(Store *z) {
     return 1;
 }
 
+static Store shape(uint32_t *s) { return (Store){s, s[0], s[1], s[2], s[3], 16 + 8 * (s[2] + 1), 3 * s[0] + 4, 0}; }
+
 static uint32_t admit(Store *z, uint32_t *s, size_t words) {
     if (words < 16) return 2;
-    *z = (Store){s, s[0], s[1], s[2], s[3], 0, 0, 0};
+    *z = shape(s);
     if (z->B < 2 || z->B > 64 || z->N < 2 || z->N > 64 || z->P < 1 || z->P > 16 || z->M < 1 || z->M > 1000000) return 3;
-    z->first = 16 + 8 * (z->P + 1);
-    z->size = 3 * z->B + 4;
     if (words < z->first + (size_t)z->N * z->size + DRAIN_WORDS) return 2;
     z->drain = record(z, z->N + 1);
     if (s[4] != 16 || s[5] != z->first || s[TAIL] > z->M || s[TAIL_RECORD] < 1 || s[TAIL_RECORD] > z->N || s[HEAD_RECORD] < 1 ||
@@ -498,4 +498,9 @@ static uint32_t step(uint32_t *s, size_t words, uint32_t t, uint32_t *buffer, si
     return answer;
 }
 
-const struct Contestant CONTESTANT = {LABEL, start_enqueue, start_dequeue, start_drain, step};
+static uint32_t search(uint32_t *s) {
+    Store z = shape(s);
+    return next_free(&z);
+}
+
+const struct Contestant CONTESTANT = {LABEL, start_enqueue, start_dequeue, start_drain, step, search};
