@@ -3,6 +3,7 @@ use Prim.Native.Nat.{_/_, _^_}
 use native.Mathlib.Omega.{arith}
 use borrow.Author.Needs.{needs}
 use lib.Count.{trailing-le}
+use lib.Pow.{shr-le}
 use Rattle.claim.specs.Search.{finds-past, finds-none, finds-lowest}
 use Rattle.claim.proofs.first_set.Statement.{statement}
 use Rattle.claim.proofs.first_set.Tie as tie
@@ -14,7 +15,7 @@ shr-rest : tie.Need-shr-rest
 shr-rest c = search needs
 
 returns-2 : tie.Need-returns-2
-returns-2 c = finds-none (c .before .before .args .map) (c .before .before .args .from) (omega (arith, c .if2 .taken))
+returns-2 c = finds-none (c .before .before .args .map) (c .before .before .args .from) (omega (arith, c .if2 .taken, shr-le (c .before .before .args .map) (c .before .before .args .from)))
 
 add-result : tie.Need-add-result
 add-result c = omega (arith, trailing-le 64 (c .before .before .args .map / 2 ^ c .before .before .args .from))

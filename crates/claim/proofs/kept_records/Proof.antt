@@ -28,10 +28,10 @@ read-producer-requires : tie.Need-read-producer-requires Inv-loop μ-loop
 read-producer-requires c κs = (c .before .before .before .before .pre, omega arith)
 
 with-link-requires : tie.Need-with-link-requires Inv-loop μ-loop
-with-link-requires c κs = (c .before .before .before .before .before .pre, c .read-producer .ensures .held-most)
+with-link-requires c κs = (c .before .before .before .before .before .pre, omega (arith, c .read-producer .ensures .held-most, c .read-producer .ensures .claimed-most))
 
 with-link-requires-2 : tie.Need-with-link-requires-2 Inv-loop μ-loop
-with-link-requires-2 c κs = (c .before .before .before .before .before .before .pre, c .before .read-producer .ensures .claimed-most)
+with-link-requires-2 c κs = (c .before .before .before .before .before .before .pre, omega (arith, c .before .read-producer .ensures .held-most, c .before .read-producer .ensures .claimed-most))
 
 add-t : tie.Need-add-t Inv-loop μ-loop
 add-t c = omega arith
