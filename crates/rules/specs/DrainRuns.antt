@@ -10,14 +10,14 @@ use Rattle.rules.specs.Sizes.{Sizes, storeWords}
 use Rattle.rules.specs.Cell.{Write, reader, writes, _:=_, consumerPhase, foundRecord, itemNumber, itemValue, scanned, stepCount, drainLimit, drainCount, pairNumber, pairValue, state}
 use Rattle.rules.specs.Free.{free, nextFree}
 use Rattle.rules.specs.Rule.{Response, refused, accepted, ok, started, going, ended, item, drained}
-use Rattle.rules.specs.Producer.{takePosition, loadTail, lookNext, claimRecord, linkClaimed, shiftTail, goBack, writeEntry, setEntry, claimAhead, linkAhead, producerStep}
+use Rattle.rules.specs.Producer.{loadTail, lookNext, claimRecord, linkClaimed, shiftTail, goBack, writeEntry, setEntry, claimAhead, linkAhead, producerStep}
 use Rattle.rules.specs.Consumer.{front, readTail, scan, readEntry, rescan, readItem, markHandled, retireHead, consumerStep}
 use Rattle.rules.specs.Request.{startEnqueue, startDequeue, startDrain, step, Invocation, lending, Result, applied, opened, startingEnqueue, startingDequeue, startingDrain, phaseStep, counted, stepping, effect, result}
 use Rattle.rules.specs.Play.{Played, playOne}
 use Rattle.rules.specs.Quick.{quickResult, result-is, withResult}
 use Rattle.rules.specs.Update.{both}
 use Rattle.rules.specs.Lengths.{lengths-as-written}
-use Rattle.rules.specs.Runs.{sized, times, plain, first, ends, begun, call, playedOn, quickOn, played-on, repliesTo, quickReplies, replies-to, computed}
+use Rattle.rules.specs.Runs.{sized, times, plain, first, ends, begun, call, placed, enqueue, playedOn, quickOn, played-on, repliesTo, quickReplies, replies-to, computed}
 use Rattle.rules.specs.Sameness.{passes-after, Sameness, lists, responses, events, wordLists}
 
 -- Calls on an opened store whose cells were then written so, and a last one; what they come to.
@@ -79,7 +79,7 @@ outcome d =
 
 -- The same, quicker to compute.
 unfoldable quickOutcome : DrainRun → Outcome
-unfolding quickOn applied effect startingEnqueue startingDequeue startingDrain phaseStep counted stepping opened reader writes free nextFree takePosition loadTail lookNext claimRecord linkClaimed shiftTail goBack writeEntry setEntry claimAhead linkAhead producerStep front readTail scan readEntry rescan readItem markHandled retireHead consumerStep
+unfolding quickOn applied effect startingEnqueue startingDequeue startingDrain phaseStep counted stepping opened reader writes free nextFree loadTail lookNext claimRecord linkClaimed shiftTail goBack writeEntry setEntry claimAhead linkAhead producerStep front readTail scan readEntry rescan readItem markHandled retireHead consumerStep
 quickOutcome d =
     let before = quickOn (d .calls) (openedAs d) in
     let r = quickResult (d .last) (before .words) in
@@ -99,12 +99,12 @@ abbrev threeIn : List Invocation
 threeIn =
     map plain
     (startEnqueue 1 10
-    ∷ times 4 (step 1)
-    ++ (startEnqueue 1 11 ∷ times 6 (step 1))
-    ++ (startEnqueue 1 12 ∷ times 7 (step 1)))
+    ∷ times 3 (step 1)
+    ++ (startEnqueue 1 11 ∷ times 5 (step 1))
+    ++ (startEnqueue 1 12 ∷ times 6 (step 1)))
 
 abbrev threeReplies : List Response
-threeReplies = call (started 1) 3 ended ++ call (started 2) 5 ended ++ call (started 3) 6 ended
+threeReplies = enqueue 1 4 ++ enqueue 2 6 ++ enqueue 3 7
 
 abbrev threeEvents : History
 threeEvents =
@@ -177,9 +177,9 @@ drainRuns =
     ∷ record {
       sizes = small;
       cells = [];
-      calls = threeIn ++ map plain (startDrain 5 ∷ times 10 (step 0) ++ (startEnqueue 1 13 ∷ step 1 ∷ []));
+      calls = threeIn ++ map plain (startDrain 5 ∷ times 10 (step 0) ++ (startEnqueue 1 13 ∷ []));
       last = into (replicate 6 0) 0;
-      replies = threeReplies ++ begun ok 10 ++ begun (started 4) 1 ++ ends 10 0 (drained threeItems);
+      replies = threeReplies ++ begun ok 10 ++ placed 4 1 ++ ends 10 0 (drained threeItems);
       history = gaveItem 3 12 ∷ enqueueStarted 1 4 13 ∷ dequeueStarted ∷ twoMarked;
       buffer = 1 ∷ 10 ∷ 2 ∷ 11 ∷ 3 ∷ 12 ∷ [];
       area = noArea;
@@ -214,12 +214,12 @@ drainRuns =
       calls =
           map plain
           (startEnqueue 1 10
-          ∷ times 3 (step 1)
+          ∷ times 2 (step 1)
           ++ (startDrain 9 ∷ times 2 (step 0))
-          ++ (step 1 ∷ startEnqueue 2 20 ∷ times 6 (step 2))
+          ++ (step 1 ∷ startEnqueue 2 20 ∷ times 5 (step 2))
           ++ times 4 (step 0));
       last = into (replicate 3 0) 1;
-      replies = begun (started 1) 3 ++ begun ok 2 ++ ends 3 0 ended ++ call (started 2) 5 ended ++ ends 2 4 (drained (an 1 10 ∷ []));
+      replies = placed 1 3 ++ begun ok 2 ++ ends 3 0 ended ++ enqueue 2 6 ++ ends 2 4 (drained (an 1 10 ∷ []));
       history =
           gaveItem 1 10
           ∷ enqueueEnded 2 2 20

@@ -11,7 +11,7 @@ use Rattle.rules.specs.Rule.{Response, refused, accepted, ok, started, g
 use Rattle.rules.specs.Request.{startEnqueue, startDequeue, step, opened}
 use Rattle.rules.specs.Play.{Played}
 use Rattle.rules.specs.Update.{both}
-use Rattle.rules.specs.Runs.{Trial, sized, times, plain, first, ends, begun, call, playedOn, quickOn, played-on, replay, quickReplay, replay-is, computed, runs-as-written}
+use Rattle.rules.specs.Runs.{Trial, sized, times, plain, first, ends, call, placed, enqueue, playedOn, quickOn, played-on, replay, quickReplay, replay-is, computed, runs-as-written}
 use Rattle.rules.specs.Sameness.{passes-after, Sameness, lists, responses, wordLists}
 
 abbrev pub foldRuns : List Trial
@@ -25,36 +25,35 @@ foldRuns =
       sizes = sized 2 4 2 9;
       requests =
           startEnqueue 1 10
-          ∷ step 1
           ∷ startEnqueue 2 11
-          ∷ times 6 (step 2)
-          ++ (startEnqueue 2 12 ∷ times 7 (step 2))
-          ++ (startEnqueue 2 13 ∷ times 6 (step 2))
-          ++ (startEnqueue 2 14 ∷ times 7 (step 2))
-          ++ (startEnqueue 2 15 ∷ times 6 (step 2))
+          ∷ times 5 (step 2)
+          ++ (startEnqueue 2 12 ∷ times 6 (step 2))
+          ++ (startEnqueue 2 13 ∷ times 5 (step 2))
+          ++ (startEnqueue 2 14 ∷ times 6 (step 2))
+          ++ (startEnqueue 2 15 ∷ times 5 (step 2))
           ++ (startDequeue ∷ times 7 (step 0))
           ++ (startDequeue ∷ times 11 (step 0))
           ++ (startDequeue ∷ times 15 (step 0))
           ++ (startDequeue ∷ times 17 (step 0))
-          ++ (startEnqueue 2 16 ∷ times 7 (step 2))
-          ++ (startEnqueue 2 17 ∷ times 6 (step 2))
+          ++ (startEnqueue 2 16 ∷ times 6 (step 2))
+          ++ (startEnqueue 2 17 ∷ times 5 (step 2))
           ++ times 5 (step 1)
           ++ (startDequeue ∷ times 3 (step 0))
           ++ (startDequeue ∷ times 7 (step 0));
       replies =
           first ok
-          ∷ begun (started 1) 1
-          ++ call (started 2) 5 ended
-          ++ call (started 3) 6 ended
-          ++ call (started 4) 5 ended
-          ++ call (started 5) 6 ended
-          ++ call (started 6) 5 ended
+          ∷ placed 1 1
+          ++ enqueue 2 6
+          ++ enqueue 3 7
+          ++ enqueue 4 6
+          ++ enqueue 5 7
+          ++ enqueue 6 6
           ++ call ok 6 (item 2 11)
           ++ call ok 10 (item 3 12)
           ++ call ok 14 (item 4 13)
           ++ call ok 16 (item 5 14)
-          ++ call (started 7) 6 ended
-          ++ call (started 8) 5 ended
+          ++ enqueue 7 7
+          ++ enqueue 8 6
           ++ ends 1 4 ended
           ++ call ok 2 (item 1 10)
           ++ call ok 6 (item 6 15);

@@ -7,7 +7,7 @@ use lib.ListN.{replicate}
 use Rattle.rules.specs.Sizes.{Sizes, storeWords}
 use Rattle.rules.specs.Cell.{reader, writes}
 use Rattle.rules.specs.Free.{free, nextFree}
-use Rattle.rules.specs.Producer.{takePosition, loadTail, lookNext, claimRecord, linkClaimed, shiftTail, goBack, writeEntry, setEntry, claimAhead, linkAhead, producerStep}
+use Rattle.rules.specs.Producer.{loadTail, lookNext, claimRecord, linkClaimed, shiftTail, goBack, writeEntry, setEntry, claimAhead, linkAhead, producerStep}
 use Rattle.rules.specs.Consumer.{front, readTail, scan, readEntry, rescan, readItem, markHandled, retireHead, consumerStep}
 use Rattle.rules.specs.Request.{Request, startEnqueue, startDequeue, step, Invocation, applied, opened, startingEnqueue, startingDequeue, startingDrain, phaseStep, counted, stepping, effect}
 use Rattle.rules.specs.Play.{Played, stepsMade}
@@ -35,7 +35,7 @@ acceptedSteps l = stepsMade (l .thread) (calls l) (openedAs l) 0
 
 -- The same, quicker to compute.
 unfoldable quickLength : Length → ℕ
-unfolding applied effect startingEnqueue startingDequeue startingDrain phaseStep counted stepping opened reader writes free nextFree takePosition loadTail lookNext claimRecord linkClaimed shiftTail goBack writeEntry setEntry claimAhead linkAhead producerStep front readTail scan readEntry rescan readItem markHandled retireHead consumerStep
+unfolding applied effect startingEnqueue startingDequeue startingDrain phaseStep counted stepping opened reader writes free nextFree loadTail lookNext claimRecord linkClaimed shiftTail goBack writeEntry setEntry claimAhead linkAhead producerStep front readTail scan readEntry rescan readItem markHandled retireHead consumerStep
 quickLength l = quickSteps (l .thread) (calls l) (openedAs l) 0
 
 length-is : (l : Length) → acceptedSteps l ≡ quickLength l
@@ -46,10 +46,10 @@ length-is l = steps-are (l .thread) (calls l) (openedAs l) 0
 abbrev filled : List Request
 filled =
     startEnqueue 1 10
-    ∷ times 4 (step 1)
-    ++ (startEnqueue 1 11 ∷ times 6 (step 1))
-    ++ (startEnqueue 1 12 ∷ times 7 (step 1))
-    ++ (startEnqueue 1 13 ∷ times 5 (step 1))
+    ∷ times 3 (step 1)
+    ++ (startEnqueue 1 11 ∷ times 5 (step 1))
+    ++ (startEnqueue 1 12 ∷ times 6 (step 1))
+    ++ (startEnqueue 1 13 ∷ times 4 (step 1))
 
 abbrev pub lengths : List Length
 lengths =
@@ -59,9 +59,9 @@ lengths =
       sizes = sized 2 3 3 9;
       requests =
           startEnqueue 1 10
-          ∷ times 4 (step 1)
-          ++ (startEnqueue 2 11 ∷ times 3 (step 2))
-          ++ (startEnqueue 1 12 ∷ times 5 (step 1))
+          ∷ times 3 (step 1)
+          ++ (startEnqueue 2 11 ∷ times 2 (step 2))
+          ++ (startEnqueue 1 12 ∷ times 4 (step 1))
           ++ (startEnqueue 3 13 ∷ []);
       thread = 3;
       made = 9;
@@ -71,12 +71,11 @@ lengths =
       sizes = sized 2 4 3 9;
       requests =
           startEnqueue 3 30
-          ∷ step 3
           ∷ startEnqueue 1 10
-          ∷ times 6 (step 1)
-          ++ (startEnqueue 1 11 ∷ times 7 (step 1))
-          ++ (startEnqueue 1 12 ∷ times 6 (step 1))
-          ++ (startEnqueue 1 13 ∷ times 7 (step 1));
+          ∷ times 5 (step 1)
+          ++ (startEnqueue 1 11 ∷ times 6 (step 1))
+          ++ (startEnqueue 1 12 ∷ times 5 (step 1))
+          ++ (startEnqueue 1 13 ∷ times 6 (step 1));
       thread = 3;
       made = 6;
     }
@@ -86,7 +85,7 @@ lengths =
       sizes = sized 2 2 2 6;
       requests =
           filled
-          ++ (startEnqueue 2 20 ∷ step 2 ∷ startEnqueue 1 14 ∷ step 1 ∷ [])
+          ++ (startEnqueue 2 20 ∷ startEnqueue 1 14 ∷ [])
           ++ (startDequeue ∷ times 3 (step 0))
           ++ (startDequeue ∷ times 4 (step 0))
           ++ times 5 (step 1)

@@ -111,9 +111,10 @@ play [] p = p
 play (v ∷ vs) p = play vs (playOne v p)
 
 -- The accepted steps of the call that thread t started last, counted by the calls of a list (document 02, U3): an accepted start of t's
--- begins at 0, an accepted step of t's is one more. The number that a reply carries is not looked at.
+-- begins at 0, an enqueue's at 1 with its take (document 02, U8); an accepted step of t's is one more. The number that a reply carries is not
+-- looked at.
 abbrev pub oneMore : Request → ℕ → ℕ
-oneMore (startEnqueue t v) k = 0
+oneMore (startEnqueue t v) k = 1
 oneMore startDequeue k = 0
 oneMore (startDrain n) k = 0
 oneMore (step t) k = suc k

@@ -1,11 +1,12 @@
--- The producer's phases 1 to 11 (document 01, "Calls"). Each rule stands under the sentence that it renders.
+-- The producer's phases 2 to 11 (document 01, "Calls"; *start enqueue* takes the position: document 02, U8). Each rule stands under the
+-- sentence that it renders.
 use mathlib.Core.Bool.{_&&_, cond}
 use mathlib.Core.List.{List, [], _∷_, _++_}
 use Prim.Native.Nat.{ℕ, zero, suc, _+_, _*_}
 use lib.Dec.{leb, ltb, eqb}
 use lib.ListN.{getD}
 use Rattle.rules.specs.Sizes.{Sizes, mostPlace}
-use Rattle.rules.specs.Cell.{Reader, Write, _:=_, clearProducer, wipe, lastClaimed, tail, tailRecord, phase, call, value, position, held, claimed, backed, place, next, prev, used, state, entryNumber, entryValue}
+use Rattle.rules.specs.Cell.{Reader, Write, _:=_, clearProducer, wipe, lastClaimed, tailRecord, phase, call, value, position, held, claimed, backed, place, next, prev, used, state, entryNumber, entryValue}
 use Rattle.rules.specs.Rule.{Effect, refuse, reply, ended, goes, need, upTo, inside}
 
 module _ (z : Sizes) (σ : Reader) (t : ℕ) where
@@ -14,10 +15,6 @@ module _ (z : Sizes) (σ : Reader) (t : ℕ) where
   choose r =
       cond (leb (z .B * σ (place r)) (σ (position t))) 3
       (cond (ltb (σ (position t) + z .B) (z .B * σ (place r))) 7 8)
-
-  -- 1. Take: L becomes tail, tail grows by one; to 2.
-  unfoldable pub takePosition : Effect
-  takePosition = upTo (z .M) (suc (σ tail)) (goes (position t := σ tail ∷ tail := suc (σ tail) ∷ phase t := 2 ∷ []))
 
   -- 2. Load: hold the tail record; choose.
   unfoldable pub loadTail : Effect
@@ -89,11 +86,12 @@ module _ (z : Sizes) (σ : Reader) (t : ℕ) where
   unfoldable pub linkAhead : Effect
   linkAhead = linked λ ws. reply ended (ws ++ (clearProducer t ∷ []))
 
--- A producer's rule in each phase, where a claim takes this record (plus one; zero for none); refusal 7 while it is idle.
+-- A producer's rule in each phase, where a claim takes this record (plus one; zero for none); refusal 7 while it is idle. (Phase 1 is out of
+-- range, and no step comes to it.)
 abbrev pub producerRules : (choice : ℕ) → List (Sizes → Reader → ℕ → Effect)
 producerRules choice =
     (λ z σ t. refuse 7)
-    ∷ takePosition
+    ∷ (λ z σ t. refuse 7)
     ∷ loadTail
     ∷ lookNext
     ∷ (λ z σ t. claimRecord z σ t choice)

@@ -1,5 +1,5 @@
 -- The range of every word of a store: refusal 3 (document 01, "Where a call is turned down", Ranges).
-use mathlib.Core.Bool.{Bool, true, _&&_, _||_, cond}
+use mathlib.Core.Bool.{Bool, true, false, _&&_, _||_, cond}
 use mathlib.Core.List.{List, [], _∷_}
 use Prim.Native.Nat.{ℕ, zero, suc}
 use lib.Dec.{leb, ltb, eqb}
@@ -8,7 +8,7 @@ use Rattle.rules.specs.Sizes.{Sizes, between, mostPlace, mostSteps, cont
 use Rattle.rules.specs.Cell.{Reader, content, lastClaimed, allHandled, spare, consumer, producer, part, entry, pair, consumerPhase, drainLimit, drainCount}
 
 -- What a word may hold: zero alone (a spare word, or one not in use); one number; a position, call number or count, 0 to M; a
--- record number, 0 to N; the same with none left out, 1 to N; a number up to another; anything.
+-- record number, 0 to N; the same with none left out, 1 to N; a number up to another; anything; nothing (of a phase that is out of range).
 pub data Sort : Type 0 where
   unused : Sort
   exactly : ℕ → Sort
@@ -17,6 +17,7 @@ pub data Sort : Type 0 where
   record-number : Sort
   most : ℕ → Sort
   any : Sort
+  nothing : Sort
 
 abbrev pub ofSort : Sizes → Sort → ℕ → Bool
 ofSort z unused x = eqb x 0
@@ -26,6 +27,7 @@ ofSort z link x = leb x (z .N)
 ofSort z record-number x = between 1 (z .N) x
 ofSort z (most n) x = leb x n
 ofSort z any x = true
+ofSort z nothing x = false
 
 -- Words 0 to 10. Contents as *open* writes them (of words 0 to 3, the sizes, the limits are looked at before): sizes, first words;
 -- tail, tail record, head record, head position, starts.
@@ -76,8 +78,8 @@ steps = most mostSteps
 abbrev pub idleSorts : List Sort
 idleSorts = unused ∷ unused ∷ unused ∷ unused ∷ unused ∷ unused ∷ unused ∷ []
 
-abbrev pub startedSorts : List Sort
-startedSorts = number ∷ any ∷ unused ∷ unused ∷ unused ∷ unused ∷ steps ∷ []
+abbrev pub outOfRange : List Sort
+outOfRange = nothing ∷ nothing ∷ nothing ∷ nothing ∷ nothing ∷ nothing ∷ nothing ∷ []
 
 abbrev pub placedSorts : List Sort
 placedSorts = number ∷ any ∷ number ∷ link ∷ unused ∷ most 1 ∷ steps ∷ []
@@ -91,14 +93,14 @@ aheadSorts = number ∷ any ∷ number ∷ link ∷ unused ∷ unused ∷ steps 
 abbrev pub linkingAheadSorts : List Sort
 linkingAheadSorts = number ∷ any ∷ number ∷ link ∷ link ∷ unused ∷ steps ∷ []
 
--- phases 0 to 11
+-- Phases 0 to 11 without 1: *start enqueue* takes the position (document 02, U8).
 abbrev pub lastProducerPhase : ℕ
 lastProducerPhase = 11
 
 abbrev pub producerSorts : List (List Sort)
 producerSorts =
     idleSorts
-    ∷ startedSorts
+    ∷ outOfRange
     ∷ placedSorts
     ∷ placedSorts
     ∷ placedSorts

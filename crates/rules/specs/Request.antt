@@ -8,7 +8,7 @@ use lib.ListN.{length, getD, drop, replicate}
 use lib.Seq.{sets}
 use Rattle.history.specs.Linearization.{Item}
 use Rattle.rules.specs.Sizes.{Sizes, between, sizesInRange, mostSteps, mostDrained, contentWords, firstRecord, storeWords}
-use Rattle.rules.specs.Cell.{Cell, Reader, Write, reader, writes, _:=_, content, lastClaimed, tailRecord, headRecord, starts, consumerPhase, drainLimit, phase, call, value, stepCount, place, used}
+use Rattle.rules.specs.Cell.{Cell, Reader, Write, reader, writes, _:=_, content, lastClaimed, tail, tailRecord, headRecord, starts, consumerPhase, drainLimit, phase, call, value, position, stepCount, place, used}
 use Rattle.rules.specs.Range.{inRange}
 use Rattle.rules.specs.Free.{nextFree}
 use Rattle.rules.specs.Rule.{Effect, Reply, Response, refused, accepted, ok, started, going, ended, empty, item, drained, refuse, reply, upTo}
@@ -96,15 +96,23 @@ pub record Invocation : Type 0 where
 abbrev pub lending : (buffer : List ℕ) (from : ℕ) → Request → Invocation
 lending b n q = record { request = q; buffer = b; from = n }
 
--- *Start enqueue* gives call number starts + 1, phase 1. 4: no such producer. 5: that thread has a call under way. 6: starts
--- equal M.
+-- *Start enqueue* gives call number starts + 1 and takes a position: L becomes tail, tail grows by one. The take is the call's first step;
+-- phase 2 (document 02, U8). 4: no such producer. 5: that thread has a call under way. 6: starts equal M. 9: tail equals M.
 unfoldable pub startingEnqueue : (t v : ℕ) → Sizes → Reader → Effect
 startingEnqueue t v z σ =
     cond (eqb t 0 || ltb (z .P) t) (refuse 4)
     (cond (not (eqb (σ (phase t)) 0)) (refuse 5)
     (cond (eqb (σ starts) (z .M)) (refuse 6)
+    (cond (eqb (σ tail) (z .M)) (refuse 9)
     (reply (started (suc (σ starts)))
-    (starts := suc (σ starts) ∷ phase t := 1 ∷ call t := suc (σ starts) ∷ value t := v ∷ []))))
+    (starts := suc (σ starts)
+    ∷ tail := suc (σ tail)
+    ∷ phase t := 2
+    ∷ call t := suc (σ starts)
+    ∷ value t := v
+    ∷ position t := σ tail
+    ∷ stepCount t := 1
+    ∷ [])))))
 
 -- *Start dequeue* puts the consumer in phase 1. 5: that thread has a call under way.
 unfoldable pub startingDequeue : Sizes → Reader → Effect
@@ -164,9 +172,10 @@ admitted m f =
     (cond (ltb (length m) (storeWords (sizesOf m))) (refuse 2)
     (cond (not (inRange (sizesOf m) (reader (sizesOf m) m))) (refuse 3) (f (sizesOf m) (reader (sizesOf m) m)))))
 
--- The number of accepted steps that an accepted call's reply carries: a start 0, a step the stored number plus one.
+-- The number of accepted steps that an accepted call's reply carries: a start enqueue 1, its take; another start 0; a step the stored number
+-- plus one.
 abbrev pub stepsSoFar : Request → Reader → ℕ
-stepsSoFar (startEnqueue t v) σ = 0
+stepsSoFar (startEnqueue t v) σ = 1
 stepsSoFar startDequeue σ = 0
 stepsSoFar (startDrain n) σ = 0
 stepsSoFar (step t) σ = suc (σ (stepCount t))

@@ -3,13 +3,13 @@
 use mathlib.Core.Path.{_≡_, refl, ap, ap₂, _∙_}
 use mathlib.Core.Bool.{true}
 use mathlib.Core.List.{List, [], _∷_, _++_, map, reverse}
-use Prim.Native.Nat.{ℕ, zero, suc, _+_}
+use Prim.Native.Nat.{ℕ, zero, suc, _+_, _-_}
 use lib.ListN.{replicate}
 use Rattle.rules.specs.Sizes.{Sizes}
 use Rattle.rules.specs.Cell.{reader, writes}
 use Rattle.rules.specs.Free.{free, nextFree}
 use Rattle.rules.specs.Rule.{Reply, Response, refused, accepted, ok, started, going, ended, empty, item}
-use Rattle.rules.specs.Producer.{takePosition, loadTail, lookNext, claimRecord, linkClaimed, shiftTail, goBack, writeEntry, setEntry, claimAhead, linkAhead, producerStep}
+use Rattle.rules.specs.Producer.{loadTail, lookNext, claimRecord, linkClaimed, shiftTail, goBack, writeEntry, setEntry, claimAhead, linkAhead, producerStep}
 use Rattle.rules.specs.Consumer.{front, readTail, scan, readEntry, rescan, readItem, markHandled, retireHead, consumerStep}
 use Rattle.rules.specs.Request.{Request, startEnqueue, startDequeue, step, Invocation, lending, applied, opened, open-store, startingEnqueue, startingDequeue, startingDrain, phaseStep, counted, stepping, effect}
 use Rattle.rules.specs.Play.{Played, play}
@@ -35,7 +35,7 @@ times (suc n) q = q ∷ times n q
 abbrev pub plain : Request → Invocation
 plain q = lending [] 0 q
 
--- The reply of an open or a start; of the n steps after a call's first k, all going; of those and the one that ends it.
+-- The reply of an open, or of a start that makes no step; of the n steps after a call's first k, all going; of those and the one that ends it.
 abbrev pub first : Reply → Response
 first r = accepted r 0
 
@@ -46,12 +46,19 @@ goings k (suc n) = accepted going (suc k) ∷ goings (suc k) n
 abbrev pub ends : (k n : ℕ) → Reply → List Response
 ends k n r = goings k n ++ (accepted r (suc (k + n)) ∷ [])
 
--- of a start and n steps that go on; of a whole call
+-- of the start of a dequeue or a drain and n steps that go on; of a whole one
 abbrev pub begun : Reply → ℕ → List Response
 begun r n = first r ∷ goings 0 n
 
 abbrev pub call : Reply → ℕ → Reply → List Response
 call r n e = first r ∷ ends 0 n e
+
+-- of n steps of the enqueue with call number k, the first its start's take; of a whole one that has n
+abbrev pub placed : (k n : ℕ) → List Response
+placed k n = accepted (started k) 1 ∷ goings 1 (n - 1)
+
+abbrev pub enqueue : (k n : ℕ) → List Response
+enqueue k n = accepted (started k) 1 ∷ ends 1 (n - 2) ended
 
 -- What the rules make of some calls on these words, the replies that they give to them, and to an open and the calls after it.
 unfoldable pub playedOn : List Invocation → List ℕ → Played
@@ -65,7 +72,7 @@ replay t = let o = open-store (t .sizes) (replicate (t .words) 0) in o .reply �
 
 -- The same, quicker to compute.
 unfoldable pub quickOn : List Invocation → List ℕ → Played
-unfolding applied effect startingEnqueue startingDequeue startingDrain phaseStep counted stepping reader writes free nextFree takePosition loadTail lookNext claimRecord linkClaimed shiftTail goBack writeEntry setEntry claimAhead linkAhead producerStep front readTail scan readEntry rescan readItem markHandled retireHead consumerStep
+unfolding applied effect startingEnqueue startingDequeue startingDrain phaseStep counted stepping reader writes free nextFree loadTail lookNext claimRecord linkClaimed shiftTail goBack writeEntry setEntry claimAhead linkAhead producerStep front readTail scan readEntry rescan readItem markHandled retireHead consumerStep
 quickOn vs m = quickPlay vs (record { words = m; replies = []; history = [] })
 
 pub played-on : (vs : List Invocation) (m : List ℕ) → playedOn vs m ≡ quickOn vs m
@@ -101,32 +108,32 @@ computed s f g e h xs t = map-same f g h xs ∙ lists s .sound (map g xs) (map e
 
 abbrev pub table : List Trial
 table =
-    -- the printed run, with the step counts of document 02, U3; then `d` and three steps give going, going, item 1 7
+    -- the printed run, with the step counts of document 02, U3, and its start that takes the position (U8); then `d` and three steps give going, going, item 1 7
     record {
       words = 12826;
       sizes = sized 2 2 1 9;
-      requests = startDequeue ∷ times 2 (step 0) ++ (startEnqueue 1 7 ∷ times 4 (step 1)) ++ (startDequeue ∷ times 3 (step 0));
-      replies = first ok ∷ call ok 1 empty ++ call (started 1) 3 ended ++ call ok 2 (item 1 7);
+      requests = startDequeue ∷ times 2 (step 0) ++ (startEnqueue 1 7 ∷ times 3 (step 1)) ++ (startDequeue ∷ times 3 (step 0));
+      replies = first ok ∷ call ok 1 empty ++ enqueue 1 4 ++ call ok 2 (item 1 7);
     }
-    -- B = 2, N = 2: the enqueue at position 1 takes 6 steps, at position 2 takes 7, at 3 takes 5; the one at position 4, nothing
-    -- dequeued, meets 8 on its fourth
+    -- B = 2, N = 2: the enqueue at position 1 takes 6 steps, its start among them, at position 2 takes 7, at 3 takes 5; the one at position 4,
+    -- nothing dequeued, meets 8 on its fourth
     ∷ record {
       words = 182;
       sizes = sized 2 2 1 9;
       requests =
           startEnqueue 1 10
-          ∷ times 4 (step 1)
-          ++ (startEnqueue 1 11 ∷ times 6 (step 1))
-          ++ (startEnqueue 1 12 ∷ times 7 (step 1))
-          ++ (startEnqueue 1 13 ∷ times 5 (step 1))
-          ++ (startEnqueue 1 14 ∷ times 4 (step 1));
+          ∷ times 3 (step 1)
+          ++ (startEnqueue 1 11 ∷ times 5 (step 1))
+          ++ (startEnqueue 1 12 ∷ times 6 (step 1))
+          ++ (startEnqueue 1 13 ∷ times 4 (step 1))
+          ++ (startEnqueue 1 14 ∷ times 3 (step 1));
       replies =
           first ok
-          ∷ call (started 1) 3 ended
-          ++ call (started 2) 5 ended
-          ++ call (started 3) 6 ended
-          ++ call (started 4) 4 ended
-          ++ begun (started 5) 3
+          ∷ enqueue 1 4
+          ++ enqueue 2 6
+          ++ enqueue 3 7
+          ++ enqueue 4 5
+          ++ placed 5 3
           ++ (refused 8 ∷ []);
     }
     -- B = 4. Producer 1 takes 0 and stops before phase 9. The dequeue steps twice. Producer 1 ends; producer 2 enqueues and
@@ -136,12 +143,12 @@ table =
       sizes = sized 4 2 2 9;
       requests =
           startEnqueue 1 10
-          ∷ times 3 (step 1)
+          ∷ times 2 (step 1)
           ++ (startDequeue ∷ times 2 (step 0))
-          ++ (step 1 ∷ startEnqueue 2 20 ∷ times 6 (step 2))
+          ++ (step 1 ∷ startEnqueue 2 20 ∷ times 5 (step 2))
           ++ times 5 (step 0);
       replies =
-          first ok ∷ begun (started 1) 3 ++ begun ok 2 ++ ends 3 0 ended ++ call (started 2) 5 ended ++ ends 2 4 (item 1 10);
+          first ok ∷ placed 1 3 ++ begun ok 2 ++ ends 3 0 ended ++ enqueue 2 6 ++ ends 2 4 (item 1 10);
     }
     -- B = 1, N = 65, P = 0, P = 17, M = 0 give 1; B = 64, N = 64, P = 16 needs 12,826 words
     ∷ record { words = 182; sizes = sized 1 2 1 9; requests = []; replies = refused 1 ∷ [] }
@@ -155,8 +162,8 @@ table =
     ∷ record {
       words = 182;
       sizes = sized 2 2 1 1;
-      requests = startEnqueue 1 7 ∷ times 4 (step 1) ++ (startEnqueue 1 8 ∷ []);
-      replies = first ok ∷ call (started 1) 3 ended ++ (refused 6 ∷ []);
+      requests = startEnqueue 1 7 ∷ times 3 (step 1) ++ (startEnqueue 1 8 ∷ []);
+      replies = first ok ∷ enqueue 1 4 ++ (refused 6 ∷ []);
     }
     ∷ []
 

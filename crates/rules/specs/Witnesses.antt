@@ -5,12 +5,12 @@ use mathlib.Core.List.{List, [], _∷_, _++_, map}
 use Prim.Native.Nat.{ℕ, suc}
 use lib.ListN.{replicate}
 use Rattle.rules.specs.Sizes.{Sizes, storeWords}
-use Rattle.rules.specs.Cell.{Write, reader, writes, _:=_, lastClaimed, tailRecord, headPosition, consumerPhase, foundRecord, foundPosition, itemNumber, itemValue, phase, held, claimed, stepCount, place, next, used}
+use Rattle.rules.specs.Cell.{Write, reader, writes, _:=_, lastClaimed, tail, tailRecord, headPosition, consumerPhase, foundRecord, foundPosition, starts, itemNumber, itemValue, phase, value, held, claimed, stepCount, place, next, used}
 use Rattle.rules.specs.Rule.{Response, refused, accepted, ok, started, going, ended, empty, item}
 use Rattle.rules.specs.Request.{Request, startEnqueue, startDequeue, step, opened}
 use Rattle.rules.specs.Play.{Played}
 use Rattle.rules.specs.FoldRuns as fold
-use Rattle.rules.specs.Runs.{Trial, sized, times, plain, first, goings, ends, begun, call, playedOn, quickOn, played-on, repliesTo, quickReplies, replies-to, replay, quickReplay, replay-is, computed}
+use Rattle.rules.specs.Runs.{Trial, sized, times, plain, first, goings, ends, begun, call, placed, enqueue, playedOn, quickOn, played-on, repliesTo, quickReplies, replies-to, replay, quickReplay, replay-is, computed}
 use Rattle.rules.specs.Sameness.{passes-after, lists, responses, wordLists}
 
 abbrev pub witnesses : List Trial
@@ -22,28 +22,28 @@ witnesses =
       sizes = sized 2 2 2 9;
       requests =
           startEnqueue 2 10
-          ∷ times 4 (step 2)
-          ++ (startEnqueue 2 11 ∷ times 6 (step 2))
-          ++ (startEnqueue 1 12 ∷ times 2 (step 1))
+          ∷ times 3 (step 2)
+          ++ (startEnqueue 2 11 ∷ times 5 (step 2))
+          ++ (startEnqueue 1 12 ∷ times 1 (step 1))
           ++ (startDequeue ∷ times 3 (step 0))
           ++ (startDequeue ∷ times 3 (step 0))
           ++ (startDequeue ∷ times 1 (step 0))
-          ++ (startEnqueue 2 13 ∷ times 8 (step 2))
+          ++ (startEnqueue 2 13 ∷ times 7 (step 2))
           ++ (startDequeue ∷ times 8 (step 0))
-          ++ (startEnqueue 2 14 ∷ times 4 (step 2))
+          ++ (startEnqueue 2 14 ∷ times 3 (step 2))
           ++ times 5 (step 1)
           ++ times 6 (step 2);
       replies =
           first ok
-          ∷ call (started 1) 3 ended
-          ++ call (started 2) 5 ended
-          ++ begun (started 3) 2
+          ∷ enqueue 1 4
+          ++ enqueue 2 6
+          ++ placed 3 2
           ++ call ok 2 (item 1 10)
           ++ call ok 2 (item 2 11)
           ++ call ok 0 empty
-          ++ call (started 4) 7 ended
+          ++ enqueue 4 8
           ++ call ok 7 (item 4 13)
-          ++ begun (started 5) 3
+          ++ placed 5 3
           ++ (refused 8 ∷ [])
           ++ ends 2 4 ended
           ++ ends 3 5 ended;
@@ -55,11 +55,11 @@ witnesses =
       sizes = sized 2 3 3 9;
       requests =
           startEnqueue 1 10
-          ∷ times 4 (step 1)
-          ++ (startEnqueue 2 11 ∷ times 3 (step 2))
-          ++ (startEnqueue 1 12 ∷ times 5 (step 1))
-          ++ (startEnqueue 3 13 ∷ times 9 (step 3));
-      replies = first ok ∷ call (started 1) 3 ended ++ begun (started 2) 3 ++ begun (started 3) 5 ++ call (started 4) 8 ended;
+          ∷ times 3 (step 1)
+          ++ (startEnqueue 2 11 ∷ times 2 (step 2))
+          ++ (startEnqueue 1 12 ∷ times 4 (step 1))
+          ++ (startEnqueue 3 13 ∷ times 8 (step 3));
+      replies = first ok ∷ enqueue 1 4 ++ placed 2 3 ++ placed 3 5 ++ enqueue 4 9;
     }
     -- The scan passes an empty and a handled entry and crosses into the next record.
     ∷ record {
@@ -67,17 +67,17 @@ witnesses =
       sizes = sized 2 3 2 9;
       requests =
           startEnqueue 1 10
-          ∷ times 3 (step 1)
-          ++ (startEnqueue 2 11 ∷ times 6 (step 2))
+          ∷ times 2 (step 1)
+          ++ (startEnqueue 2 11 ∷ times 5 (step 2))
           ++ (startDequeue ∷ times 7 (step 0))
-          ++ (startEnqueue 2 12 ∷ times 7 (step 2))
+          ++ (startEnqueue 2 12 ∷ times 6 (step 2))
           ++ (startDequeue ∷ times 11 (step 0));
       replies =
           first ok
-          ∷ begun (started 1) 3
-          ++ call (started 2) 5 ended
+          ∷ placed 1 3
+          ++ enqueue 2 6
           ++ call ok 6 (item 2 11)
-          ++ call (started 3) 6 ended
+          ++ enqueue 3 7
           ++ call ok 10 (item 3 12);
     }
     -- Phase 7. Producers 3 and 2 take 0 and 1 and stop; producer 1 takes 2, links a record and moves the tail record. Producers 3 and 2
@@ -87,15 +87,13 @@ witnesses =
       sizes = sized 2 4 3 9;
       requests =
           startEnqueue 3 30
-          ∷ step 3
           ∷ startEnqueue 2 20
-          ∷ step 2
           ∷ startEnqueue 1 10
-          ∷ times 6 (step 1)
+          ∷ times 5 (step 1)
           ++ times 4 (step 3)
           ++ times 4 (step 2);
       replies =
-          first ok ∷ begun (started 1) 1 ++ begun (started 2) 1 ++ begun (started 3) 6 ++ ends 1 3 ended ++ ends 1 3 ended;
+          first ok ∷ placed 1 1 ++ placed 2 1 ++ placed 3 6 ++ ends 1 3 ended ++ ends 1 3 ended;
     }
     -- Phase 5 gives back. Producer 3, at position 2, claims the third record after producer 1 has linked the second, and gives it back;
     -- so producer 1 finds it free in phase 10.
@@ -104,17 +102,17 @@ witnesses =
       sizes = sized 2 3 3 9;
       requests =
           startEnqueue 3 30
-          ∷ times 4 (step 3)
-          ++ (startEnqueue 2 20 ∷ step 2 ∷ startEnqueue 3 31 ∷ times 3 (step 3))
-          ++ (startEnqueue 1 10 ∷ times 8 (step 1))
+          ∷ times 3 (step 3)
+          ++ (startEnqueue 2 20 ∷ startEnqueue 3 31 ∷ times 2 (step 3))
+          ++ (startEnqueue 1 10 ∷ times 7 (step 1))
           ++ times 2 (step 3)
           ++ times 2 (step 1);
       replies =
           first ok
-          ∷ call (started 1) 3 ended
-          ++ begun (started 2) 1
-          ++ begun (started 3) 3
-          ++ begun (started 4) 8
+          ∷ enqueue 1 4
+          ++ placed 2 1
+          ++ placed 3 3
+          ++ placed 4 8
           ++ goings 3 2
           ++ goings 8 2;
     }
@@ -125,13 +123,13 @@ witnesses =
       sizes = sized 2 3 3 9;
       requests =
           startEnqueue 1 10
-          ∷ times 4 (step 1)
-          ++ (startEnqueue 3 30 ∷ times 4 (step 3))
-          ++ (startEnqueue 1 11 ∷ times 6 (step 1))
+          ∷ times 3 (step 1)
+          ++ (startEnqueue 3 30 ∷ times 3 (step 3))
+          ++ (startEnqueue 1 11 ∷ times 5 (step 1))
           ++ times 2 (step 3)
-          ++ (startEnqueue 3 31 ∷ times 5 (step 3));
+          ++ (startEnqueue 3 31 ∷ times 4 (step 3));
       replies =
-          first ok ∷ call (started 1) 3 ended ++ begun (started 2) 4 ++ begun (started 3) 6 ++ ends 4 1 ended ++ begun (started 4) 5;
+          first ok ∷ enqueue 1 4 ++ placed 2 4 ++ placed 3 6 ++ ends 4 1 ended ++ placed 4 5;
     }
     -- Handled advances the head. The item at 1 is taken while 0 is empty, then the one at 0; the next dequeue passes 1 and answers empty
     -- at the record's end.
@@ -140,8 +138,8 @@ witnesses =
       sizes = sized 2 3 2 9;
       requests =
           startEnqueue 2 20
-          ∷ times 2 (step 2)
-          ++ (startEnqueue 1 10 ∷ times 4 (step 1))
+          ∷ times 1 (step 2)
+          ++ (startEnqueue 1 10 ∷ times 3 (step 1))
           ++ (startDequeue ∷ times 5 (step 0))
           ++ times 2 (step 2)
           ++ times 2 (step 0)
@@ -149,8 +147,8 @@ witnesses =
           ++ (startDequeue ∷ times 2 (step 0));
       replies =
           first ok
-          ∷ begun (started 1) 2
-          ++ begun (started 2) 4
+          ∷ placed 1 2
+          ++ placed 2 4
           ++ begun ok 5
           ++ ends 2 1 ended
           ++ ends 5 1 (item 2 10)
@@ -161,14 +159,14 @@ witnesses =
     ∷ record {
       words = 182;
       sizes = sized 2 2 1 9;
-      requests = startEnqueue 1 10 ∷ step 1 ∷ startDequeue ∷ times 3 (step 0);
-      replies = first ok ∷ begun (started 1) 1 ++ call ok 2 empty;
+      requests = startEnqueue 1 10 ∷ startDequeue ∷ times 3 (step 0);
+      replies = first ok ∷ placed 1 1 ++ call ok 2 empty;
     }
     ∷ record {
       words = 208;
       sizes = sized 2 3 3 9;
-      requests = startEnqueue 3 30 ∷ startEnqueue 1 10 ∷ step 1 ∷ step 3 ∷ startDequeue ∷ times 5 (step 0);
-      replies = first ok ∷ first (started 1) ∷ first (started 2) ∷ goings 0 1 ++ goings 0 1 ++ call ok 4 empty;
+      requests = startEnqueue 3 30 ∷ startEnqueue 1 10 ∷ startDequeue ∷ times 5 (step 0);
+      replies = first ok ∷ placed 1 1 ++ placed 2 1 ++ call ok 4 empty;
     }
     -- The rescan returns to the head. The item at 2 is found, 0 is passed while it is empty, 1 is set before it is read and found in
     -- its place, and 0 is set before it is read again: item 1.
@@ -177,16 +175,16 @@ witnesses =
       sizes = sized 4 2 3 9;
       requests =
           startEnqueue 1 10
-          ∷ times 3 (step 1)
-          ++ (startEnqueue 2 20 ∷ times 3 (step 2))
-          ++ (startEnqueue 3 30 ∷ times 4 (step 3))
+          ∷ times 2 (step 1)
+          ++ (startEnqueue 2 20 ∷ times 2 (step 2))
+          ++ (startEnqueue 3 30 ∷ times 3 (step 3))
           ++ (startDequeue ∷ times 7 (step 0))
           ++ (step 2 ∷ step 0 ∷ step 1 ∷ times 3 (step 0));
       replies =
           first ok
-          ∷ begun (started 1) 3
-          ++ begun (started 2) 3
-          ++ call (started 3) 3 ended
+          ∷ placed 1 3
+          ++ placed 2 3
+          ++ enqueue 3 4
           ++ begun ok 7
           ++ goings 3 1
           ++ goings 7 1
@@ -200,22 +198,22 @@ witnesses =
       sizes = sized 2 2 1 9;
       requests =
           startEnqueue 1 10
-          ∷ times 4 (step 1)
-          ++ (startEnqueue 1 11 ∷ times 6 (step 1))
-          ++ (startEnqueue 1 12 ∷ times 7 (step 1))
-          ++ (startEnqueue 1 13 ∷ times 5 (step 1))
-          ++ (startEnqueue 1 14 ∷ times 4 (step 1))
+          ∷ times 3 (step 1)
+          ++ (startEnqueue 1 11 ∷ times 5 (step 1))
+          ++ (startEnqueue 1 12 ∷ times 6 (step 1))
+          ++ (startEnqueue 1 13 ∷ times 4 (step 1))
+          ++ (startEnqueue 1 14 ∷ times 3 (step 1))
           ++ (startDequeue ∷ times 3 (step 0))
           ++ (step 1 ∷ startDequeue ∷ times 4 (step 0))
           ++ times 6 (step 1)
           ++ (startDequeue ∷ times 3 (step 0));
       replies =
           first ok
-          ∷ call (started 1) 3 ended
-          ++ call (started 2) 5 ended
-          ++ call (started 3) 6 ended
-          ++ call (started 4) 4 ended
-          ++ begun (started 5) 3
+          ∷ enqueue 1 4
+          ++ enqueue 2 6
+          ++ enqueue 3 7
+          ++ enqueue 4 5
+          ++ placed 5 3
           ++ (refused 8 ∷ [])
           ++ call ok 2 (item 1 10)
           ++ (refused 8 ∷ [])
@@ -246,7 +244,7 @@ witnesses =
           ∷ refused 4
           ∷ refused 4
           ∷ refused 4
-          ∷ first (started 1)
+          ∷ accepted (started 1) 1
           ∷ refused 5
           ∷ first ok
           ∷ refused 5
@@ -365,6 +363,14 @@ probes =
       replies = refused 3 ∷ [];
     }
     ∷ record { sizes = sized 2 2 1 9; cells = stepCount 1 := 1 ∷ []; requests = startDequeue ∷ []; replies = refused 3 ∷ [] }
+    -- A start takes its position (document 02, U8). With tail at M it is refused with 9, looked at after 5 and 6.
+    ∷ record { sizes = sized 2 2 1 9; cells = tail := 8 ∷ []; requests = startEnqueue 1 7 ∷ []; replies = placed 1 1 }
+    ∷ record { sizes = sized 2 2 1 9; cells = tail := 9 ∷ []; requests = startEnqueue 1 7 ∷ []; replies = refused 9 ∷ [] }
+    ∷ record { sizes = sized 2 2 1 9; cells = tail := 9 ∷ starts := 9 ∷ []; requests = startEnqueue 1 7 ∷ []; replies = refused 6 ∷ [] }
+    ∷ record { sizes = sized 2 2 1 9; cells = tail := 9 ∷ phase 1 := 2 ∷ []; requests = startEnqueue 1 7 ∷ []; replies = refused 5 ∷ [] }
+    -- A producer's phase 1 is out of range, whatever its words hold.
+    ∷ record { sizes = sized 2 2 1 9; cells = phase 1 := 1 ∷ []; requests = step 1 ∷ startDequeue ∷ []; replies = refused 3 ∷ refused 3 ∷ [] }
+    ∷ record { sizes = sized 2 2 1 9; cells = phase 1 := 1 ∷ value 1 := 7 ∷ []; requests = step 1 ∷ []; replies = refused 3 ∷ [] }
     ∷ []
 
 probes-pass : lists responses .test (map quickProbe probes) (map (λ p. p .replies) probes) ≡ true
