@@ -14,15 +14,15 @@ use Rattle.model.specs.Walking.{producer-clause}
 use Rattle.model.specs.Dequeues.{consumer-clause}
 
 module _ (B : ℕ) (s : State) (i : Invariant B s) where
-  open State s using (tail, hp, lo, tp, hi, entry, owner, history)
+  open State s using (tail, hp, lo, tp, hi, entry, history)
 
   -- producers
 
-  pub placed-past-head : (n v L : ℕ) → AtPosition tail n v L entry owner history → hp ≤ L
+  pub placed-past-head : (n v L : ℕ) → AtPosition tail n v L entry history → hp ≤ L
   placed-past-head n v L o = blank-past-head B s i L (o .is-blank)
 
   -- a record that a blank position does not lie past is not before the head record
-  placed-place : (n v L k : ℕ) → AtPosition tail n v L entry owner history → L < B * k → lo ≤ k
+  placed-place : (n v L k : ℕ) → AtPosition tail n v L entry history → L < B * k → lo ≤ k
   placed-place n v L k o l =
       let below : lo < suc k = lt-of-mul-lt-mul-left B (omega (arith, i .places, placed-past-head n v L o)) in
       omega arith

@@ -1,8 +1,8 @@
--- No more positions are taken than enqueues have started. From the owners: calls with distinct numbers from 1 to starts.
+-- No more positions lie past the tail record than producers have calls under way.
 use mathlib.Core.Path.{_≡_, refl, ap, sym, _∙_}
 use mathlib.Core.Logic.{_⊎_, inl, inr, ⊎-elim, _≢_}
 use mathlib.Core.Bool.{Bool, true, false, cond}
-use mathlib.Core.Option.{none, some}
+use mathlib.Core.Option.{none, some, Option·none-ne-some}
 use Prim.Native.Nat.{ℕ, zero, suc, _+_, _-_, _*_, _≤_, _<_}
 use native.Mathlib.Decide.{decLe, decLt}
 use native.Mathlib.Omega.{arith}
@@ -12,10 +12,8 @@ use Rattle.history.specs.Form.{wellFormed}
 use Rattle.history.specs.Linearization.{Item}
 use Rattle.criterion.specs.Explained.{Ended}
 use Rattle.criterion.specs.UnderWay.{same-number, begun-is-current}
-use Rattle.model.specs.State.{Entry, blank, put, gone, idle, started, State, callOf}
+use Rattle.model.specs.State.{Entry, blank, put, gone, idle, State, owner, callOf}
 use Rattle.model.specs.Invariant.{Has, Invariant}
-use Rattle.model.specs.Positions.{take-position}
-use Rattle.model.specs.Walking.{producer-clause}
 
 -- f p, but d in the place of k
 module _ (f : ℕ → ℕ) (k d : ℕ) where
@@ -60,34 +58,25 @@ pigeonhole (suc m) (suc k) f within apart = omega (arith, pigeonhole m k g g-wit
         go (inr c) (inl d) = absurd (apart-last p lp (sym (c .1) ∙ e ∙ d .1))
         go (inr c) (inr d) = apart p q (omega arith) (omega arith) (sym (c .1) ∙ e ∙ d .1)
 
-module _ (B : ℕ) (s : State) (i : Invariant B s) where
-  pub tail-most : s .tail ≤ s .starts
-  tail-most =
-      pigeonhole (s .tail) (s .starts) (s .owner) (λ p l. i .past .numbered (s .owner p) (i .owners .begun p l)) (i .owners .apart)
-
--- a call that has no position yet is one more than the positions
-pub tail-below : (B : ℕ) (s : State) (i : Invariant B s) (t n v : ℕ) → s .producer t ≡ started n v → s .tail < s .starts
-tail-below B s i t n v e = tail-most B _ (take-position B s i t n v e)
-
--- Positions past the tail record belong to producers: each to another one, and none of them to one that is about to take.
+-- Positions past the tail record belong to producers: each to another one, and none of them to an idle one.
 module _ (B : ℕ) (s : State) (i : Invariant B s) (formed : wellFormed (s .history) ≡ true) (P : ℕ)
     (outside : (t : ℕ) → ((1 ≤ t) × (t ≤ P) → ⊥) → s .producer t ≡ idle) where
   -- the producer whose call owns position p
   abbrev Taker : ℕ → Type 0
-  Taker p = (t : ℕ) × (v : ℕ) × (callOf (s .producer t) ≡ some (record { number = s .owner p; value = v }))
+  Taker p = (t : ℕ) × (v : ℕ) × (callOf (s .producer t) ≡ some (record { number = owner p; value = v }))
 
   taker-of : (p : ℕ) → B * s .tp ≤ p → p < s .tail → Taker p
   taker-of p past l =
-      let c = begun-is-current (s .owner p) (s .history) formed (i .owners .begun p l) not-ended in
+      let c = begun-is-current (owner p) (s .history) formed (i .owners .begun p l) not-ended in
       (c .0, c .1, sym (i .calls .of-producers (c .0)) ∙ c .2)
     where
       -- its entry is empty
-      other : (e : Entry) → e ≢ blank → Has (s .tail) (s .entry) (s .owner) e (s .owner p) → ⊥
+      other : (e : Entry) → e ≢ blank → Has (s .tail) (s .entry) e (owner p) → ⊥
       other e n (q, m, own, is) =
-          n (sym is ∙ ap (s .entry) (i .owners .apart q p m l own) ∙ i .entries .blank-ahead p past)
+          n (sym is ∙ ap (s .entry) (omega arith) ∙ i .entries .blank-ahead p past)
 
-      not-ended : Ended (s .owner p) (s .history) → ⊥
-      not-ended e = ⊎-elim (λ w. other gone (λ q. let x : _≡_ {A = ℕ} 0 1 = cc in omega arith) (i .past .taken-has (s .owner p) w)) (other put (λ q. let x : _≡_ {A = ℕ} 0 1 = cc in omega arith)) (i .past .ended-has (s .owner p) e)
+      not-ended : Ended (owner p) (s .history) → ⊥
+      not-ended e = ⊎-elim (λ w. other gone (λ q. let x : _≡_ {A = ℕ} 0 1 = cc in omega arith) (i .past .taken-has (owner p) w)) (other put (λ q. let x : _≡_ {A = ℕ} 0 1 = cc in omega arith)) (i .past .ended-has (owner p) e)
 
   taker : (k : ℕ) → B * s .tp + k < s .tail → Taker (B * s .tp + k)
   taker k = taker-of (B * s .tp + k) (omega arith)
@@ -104,7 +93,11 @@ module _ (B : ℕ) (s : State) (i : Invariant B s) (formed : wellFormed (s .hist
       go (yes a) (no b) = absurd (none-there (λ h. b (h .1)))
       go (no a) b = absurd (none-there (λ h. a (h .0)))
 
-  module _ (t n v : ℕ) (e : s .producer t ≡ started n v) where
+  module _ (t : ℕ) (a : (1 ≤ t) × (t ≤ P)) (e : s .producer t ≡ idle) where
+    -- t has no call
+    not-there : (u : ℕ) (x : Item) → callOf (s .producer u) ≡ some x → u ≢ t
+    not-there u x c q = Option·none-ne-some x (sym (ap (λ (k : ℕ). callOf (s .producer k)) q ∙ ap callOf e) ∙ c)
+
     -- the thread of the k-th such position, and t behind them
     thread : (k : ℕ) → Dec (B * s .tp + k < s .tail) → ℕ
     thread k (yes l) = taker k l .0
@@ -113,22 +106,20 @@ module _ (B : ℕ) (s : State) (i : Invariant B s) (formed : wellFormed (s .hist
     within : (k : ℕ) (d : Dec (B * s .tp + k < s .tail)) → (1 ≤ thread k d) × (thread k d ≤ P)
     unfolding thread
     within k (yes l) = let w = taker k l in is-there (w .0) _ (w .2)
-    within k (no l) = is-there t _ (ap callOf e)
+    within k (no l) = a
 
     apart : (j k : ℕ) (d : Dec (B * s .tp + j < s .tail)) (f : Dec (B * s .tp + k < s .tail)) → j ≤ s .tail - B * s .tp → k ≤ s .tail - B * s .tp
         → thread j d ≡ thread k f → j ≡ k
     unfolding thread
     apart j k (yes l) (yes m) a b q =
         let own = same-number (sym (taker j l .2) ∙ ap (λ (u : ℕ). callOf (s .producer u)) q ∙ taker k m .2) in
-        omega (arith, i .owners .apart (B * s .tp + j) (B * s .tp + k) l m own)
-    apart j k (yes l) (no m) a b q =
-        absurd (producer-clause B s i t _ e .1 (B * s .tp + j) l (same-number (sym (taker j l .2) ∙ ap (λ (u : ℕ). callOf (s .producer u)) q ∙ ap callOf e)))
-    apart j k (no l) (yes m) a b q =
-        absurd (producer-clause B s i t _ e .1 (B * s .tp + k) m (same-number (sym (taker k m .2) ∙ ap (λ (u : ℕ). callOf (s .producer u)) (sym q) ∙ ap callOf e)))
+        omega (arith, own)
+    apart j k (yes l) (no m) a b q = let w = taker j l in absurd (not-there (w .0) _ (w .2) q)
+    apart j k (no l) (yes m) a b q = let w = taker k m in absurd (not-there (w .0) _ (w .2) (sym q))
     apart j k (no l) (no m) a b q = omega arith
 
-    pub take-room : s .tail < B * s .tp + P
-    take-room = go (decLe (B * s .tp) (s .tail))
+    pub start-room : s .tail < B * s .tp + P
+    start-room = go (decLe (B * s .tp) (s .tail))
       where
         go : Dec (B * s .tp ≤ s .tail) → s .tail < B * s .tp + P
         go (yes l) =

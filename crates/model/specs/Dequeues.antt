@@ -9,23 +9,23 @@ use native.Mathlib.Omega.{arith}
 use Rattle.history.specs.Event.{Event, History, dequeueStarted, gaveItem, gaveEmpty}
 use Rattle.history.specs.Linearization.{Item}
 use Rattle.criterion.specs.Explained.{Started, Taken, EndedBefore, EndedBeforeDequeue, MayGive, MayBeEmpty}
-use Rattle.model.specs.State.{blank, put, gone, Consumer, resting, front, scanning, holding, State, override}
+use Rattle.model.specs.State.{blank, put, gone, Consumer, resting, front, scanning, holding, State, owner, override}
 use Rattle.model.specs.Invariant.{Has, Places, Owners, Contents, Past, Calls, ConsumerOk, Invariant, isBusy}
 use Rattle.model.specs.Moves.{withConsumer, withEvent, withPlaces, beginDequeue, answerEmpty, takeItem, takeFront}
 use Rattle.model.specs.Facts.{ended-before-ended, ended-before-dequeue-ended, put-not-blank, put-not-gone, override-same, override-other, override-all}
-use Rattle.model.specs.Frame.{Kept, KeptCall, same-call, same-owner, kept-call, producer-kept}
+use Rattle.model.specs.Frame.{Kept, KeptCall, same-call, kept-call, producer-kept}
 use Rattle.model.specs.Known.{put-below-tail, put-in-records, put-past-head, put-untaken}
 
 module _ (B : ℕ) (s : State) (i : Invariant B s) where
-  open State s using (tail, hp, lo, tp, hi, entry, owner, content, history)
+  open State s using (tail, hp, lo, tp, hi, entry, content, history)
 
   -- the clause of the phase that the consumer is in
   pub consumer-clause : (x : Consumer) → s .consumer ≡ x → ConsumerOk B s x
   consumer-clause x e = subst (ConsumerOk B s) e (i .consuming)
 
   -- an event of the consumer that says nothing of any enqueue
-  dequeue-event : (d : Event) (c : Consumer) → Owners tail owner (d ∷ history) → Contents entry owner content (d ∷ history)
-      → Past tail (s .starts) entry owner (d ∷ history) → Calls (s .producer) (isBusy c) (d ∷ history)
+  dequeue-event : (d : Event) (c : Consumer) → Owners tail (s .starts) (d ∷ history) → Contents entry content (d ∷ history)
+      → Past tail (s .starts) entry (d ∷ history) → Calls (s .producer) (isBusy c) (d ∷ history)
       → ((n : ℕ) → KeptCall n history (d ∷ history)) → ConsumerOk B (withEvent (withConsumer s c) d) c
       → Invariant B (withEvent (withConsumer s c) d)
   dequeue-event d c owners contents past calls same ok =
@@ -41,7 +41,7 @@ module _ (B : ℕ) (s : State) (i : Invariant B s) where
       }
     where
       kept : (n : ℕ) → Kept s (withEvent (withConsumer s c) d) n
-      kept n = kept-call s (withEvent (withConsumer s c) d) n refl refl (omega arith) refl refl (same n)
+      kept n = kept-call s (withEvent (withConsumer s c) d) n (omega arith) refl refl (same n)
 
   pub begin-dequeue : Invariant B (beginDequeue s)
   begin-dequeue =
@@ -81,7 +81,7 @@ module _ (B : ℕ) (s : State) (i : Invariant B s) where
       answer-empty (λ p is-put d. consumer-clause _ e .4 p (omega (arith, put-below-tail B s i p is-put)) is-put d)
 
 module _ (B : ℕ) (s : State) (i : Invariant B s) (f g : ℕ) (x : Item) (e : s .consumer ≡ holding f g x) where
-  open State s using (tail, hp, lo, tp, hi, entry, owner, content, history)
+  open State s using (tail, hp, lo, tp, hi, entry, content, history)
 
   is-put : entry f ≡ put
   is-put = consumer-clause B s i _ e .1 .2
@@ -130,11 +130,11 @@ module _ (B : ℕ) (s : State) (i : Invariant B s) (f g : ℕ) (x : Item) (e : s
       override-all entry f gone (λ q a. owner q ≡ m → entry q ≡ put → Taken m after ⊎ (a ≡ put)) (λ o d. inl (inl (sym o ∙ owner-is)))
       (λ q ne o d. inr d) p o p-put
 
-  ended-take : (m : ℕ) → Taken m history ⊎ Has tail entry owner put m → Taken m after ⊎ Has tail (override entry f gone) owner put m
+  ended-take : (m : ℕ) → Taken m history ⊎ Has tail entry put m → Taken m after ⊎ Has tail (override entry f gone) put m
   ended-take m (inl taken) = inl (inr taken)
   ended-take m (inr (p, l, o, p-put)) = ⊎-elim inl (λ d. inr (p, l, o, d)) (taken-or-put m p o p-put)
 
-  taken-take : (m : ℕ) → Taken m after → Has tail (override entry f gone) owner gone m
+  taken-take : (m : ℕ) → Taken m after → Has tail (override entry f gone) gone m
   taken-take m (inl d) = (f, consumer-clause B s i _ e .1 .1, owner-is ∙ sym d, override-same entry f gone)
   taken-take m (inr d) = let (p, l, o, is-gone) = i .past .taken-has m d in (p, l, o, still-gone p is-gone)
 
@@ -150,7 +150,7 @@ module _ (B : ℕ) (s : State) (i : Invariant B s) (f g : ℕ) (x : Item) (e : s
               blank-ahead = λ p l. still-blank p (i .entries .blank-ahead p l);
               gone-below = gone-below;
             };
-        owners = record { begun = i .owners .begun; apart = i .owners .apart; in-order = i .owners .in-order };
+        owners = search (i .owners);
         contents =
             record {
               number-is = λ p d. i .contents .number-is p (was-put p d);
@@ -175,7 +175,6 @@ module _ (B : ℕ) (s : State) (i : Invariant B s) (f g : ℕ) (x : Item) (e : s
           record {
             numbers = omega arith;
             call = record { stays-started = λ v d. d; stays-open = λ d. d; stays-taken = inr };
-            position = same-owner m tail owner;
             state = record { stays-blank = λ p o d. still-blank p d; stays-put = taken-or-put m; stays-content = λ p o. refl };
           }
 

@@ -8,7 +8,7 @@ use native.Mathlib.Omega.{arith}
 use Rattle.history.specs.Event.{History}
 use Rattle.history.specs.Linearization.{Item}
 use Rattle.criterion.specs.Explained.{Started, Ended, Taken, EndedBefore, EndedBeforeDequeue}
-use Rattle.model.specs.State.{Entry, blank, put, Producer, idle, started, seeking, ahead, shifting, behind, writing, setting, done, Consumer, resting, front, reading, scanning, looking, rescanning, found, holding, retiring, State, callOf}
+use Rattle.model.specs.State.{Entry, blank, put, Producer, idle, seeking, ahead, shifting, behind, writing, setting, done, Consumer, resting, front, reading, scanning, looking, rescanning, found, holding, retiring, State, owner, callOf}
 use Rattle.model.specs.Invariant.{Open, AtPosition, ProducerOk, ConsumerOk, Passed, Rescanned, Reached, Found}
 
 -- call n stays as it is: started, open, taken
@@ -17,13 +17,8 @@ pub record KeptCall (n : ℕ) (h h′ : History) : Type 0 where
   pub stays-open : Ended n h′ → Ended n h
   pub stays-taken : Taken n h → Taken n h′
 
--- it keeps its position and gets no other
-pub record KeptOwner (n tail tail′ : ℕ) (owner owner′ : ℕ → ℕ) : Type 0 where
-  pub stays-owner : (p : ℕ) → p < tail → owner p ≡ n → owner′ p ≡ n
-  pub was-owner : (p : ℕ) → p < tail′ → owner′ p ≡ n → (p < tail) × (owner p ≡ n)
-
 -- its entry stays empty, or set until it is taken, and holds what it held
-pub record KeptEntry (n : ℕ) (owner : ℕ → ℕ) (entry entry′ : ℕ → Entry) (content content′ : ℕ → Item) (h′ : History) : Type 0 where
+pub record KeptEntry (n : ℕ) (entry entry′ : ℕ → Entry) (content content′ : ℕ → Item) (h′ : History) : Type 0 where
   pub stays-blank : (p : ℕ) → owner p ≡ n → entry p ≡ blank → entry′ p ≡ blank
   pub stays-put : (p : ℕ) → owner p ≡ n → entry p ≡ put → Taken n h′ ⊎ (entry′ p ≡ put)
   pub stays-content : (p : ℕ) → owner p ≡ n → content′ p ≡ content p
@@ -32,44 +27,34 @@ pub record KeptEntry (n : ℕ) (owner : ℕ → ℕ) (entry entry′ : ℕ → E
 pub record Kept (s s′ : State) (n : ℕ) : Type 0 where
   pub numbers : (s .tail ≤ s′ .tail) × (s .tp ≤ s′ .tp) × (s .hi ≤ s′ .hi)
   pub call : KeptCall n (s .history) (s′ .history)
-  pub position : KeptOwner n (s .tail) (s′ .tail) (s .owner) (s′ .owner)
-  pub state : KeptEntry n (s .owner) (s .entry) (s′ .entry) (s .content) (s′ .content) (s′ .history)
+  pub state : KeptEntry n (s .entry) (s′ .entry) (s .content) (s′ .content) (s′ .history)
 
 -- what a move does not touch is kept
 pub same-call : (n : ℕ) (h : History) → KeptCall n h h
 same-call n h = record { stays-started = λ v e. e; stays-open = λ e. e; stays-taken = λ e. e }
 
-pub same-owner : (n tail : ℕ) (owner : ℕ → ℕ) → KeptOwner n tail tail owner owner
-same-owner n tail owner = record { stays-owner = λ p l e. e; was-owner = λ p l e. (l, e) }
-
-pub same-entry : (n : ℕ) (owner : ℕ → ℕ) (entry : ℕ → Entry) (content : ℕ → Item) (h′ : History)
-    → KeptEntry n owner entry entry content content h′
-same-entry n owner entry content h′ =
+pub same-entry : (n : ℕ) (entry : ℕ → Entry) (content : ℕ → Item) (h′ : History) → KeptEntry n entry entry content content h′
+same-entry n entry content h′ =
     record { stays-blank = λ p o e. e; stays-put = λ p o e. inr e; stays-content = λ p o. refl }
 
--- a move that leaves tail and owners alone
-module _ (s s′ : State) (n : ℕ) (tail-same : s′ .tail ≡ s .tail) (owner-same : s′ .owner ≡ s .owner) (up : (s .tp ≤ s′ .tp) × (s .hi ≤ s′ .hi)) where
-  placed : KeptOwner n (s .tail) (s′ .tail) (s .owner) (s′ .owner)
-  placed = rw (tail-same, owner-same) (same-owner n (s .tail) (s .owner))
-
+-- a move after which tail and places are no lower
+module _ (s s′ : State) (n : ℕ) (up : (s .tail ≤ s′ .tail) × (s .tp ≤ s′ .tp) × (s .hi ≤ s′ .hi)) where
   -- where it leaves entries and contents alone, a call is kept that stays as it is
   pub kept-call : s′ .entry ≡ s .entry → s′ .content ≡ s .content → KeptCall n (s .history) (s′ .history) → Kept s s′ n
   kept-call entry-same content-same k =
       record {
-        numbers = omega arith;
+        numbers = up;
         call = k;
-        position = placed;
-        state = rw (entry-same, content-same) (same-entry n (s .owner) (s .entry) (s .content) (s′ .history));
+        state = rw (entry-same, content-same) (same-entry n (s .entry) (s .content) (s′ .history));
       }
 
   -- where it leaves the history alone, and entries and contents but at L, a call is kept that does not own L
-  pub kept-elsewhere : s′ .history ≡ s .history → (L : ℕ) → s .owner L ≢ n
+  pub kept-elsewhere : s′ .history ≡ s .history → (L : ℕ) → owner L ≢ n
       → ((p : ℕ) → p ≢ L → (s′ .entry p ≡ s .entry p) × (s′ .content p ≡ s .content p)) → Kept s s′ n
   kept-elsewhere history-same L other same =
       record {
-        numbers = omega arith;
+        numbers = up;
         call = rw history-same (same-call n (s .history));
-        position = placed;
         state =
             record {
               stays-blank = λ p o b. same p (elsewhere p o) .0 ∙ b;
@@ -78,25 +63,25 @@ module _ (s s′ : State) (n : ℕ) (tail-same : s′ .tail ≡ s .tail) (owner-
             };
       }
     where
-      elsewhere : (p : ℕ) → s .owner p ≡ n → p ≢ L
-      elsewhere p o q = other (ap (s .owner) (sym q) ∙ o)
+      elsewhere : (p : ℕ) → owner p ≡ n → p ≢ L
+      elsewhere p o q = other (ap owner (sym q) ∙ o)
 
 module _ (B : ℕ) (s s′ : State) where
   open-kept : (n v : ℕ) → Kept s s′ n → Open n v (s .history) → Open n v (s′ .history)
   open-kept n v k o =
       record { is-started = k .call .stays-started v (o .is-started); not-ended = λ e. o .not-ended (k .call .stays-open e) }
 
-  placed-kept : (n v L : ℕ) → Kept s s′ n → AtPosition (s .tail) n v L (s .entry) (s .owner) (s .history)
-      → AtPosition (s′ .tail) n v L (s′ .entry) (s′ .owner) (s′ .history)
+  placed-kept : (n v L : ℕ) → Kept s s′ n → AtPosition (s .tail) n v L (s .entry) (s .history)
+      → AtPosition (s′ .tail) n v L (s′ .entry) (s′ .history)
   placed-kept n v L k o =
       record {
         is-open = open-kept n v k (o .is-open);
         taken = omega (arith, k .numbers, o .taken);
         is-blank = k .state .stays-blank L (o .owns) (o .is-blank);
-        owns = k .position .stays-owner L (o .taken) (o .owns);
+        owns = o .owns;
       }
 
-  settled-kept : (n L : ℕ) → Kept s s′ n → s .owner L ≡ n → Taken n (s .history) ⊎ (s .entry L ≡ put)
+  settled-kept : (n L : ℕ) → Kept s s′ n → owner L ≡ n → Taken n (s .history) ⊎ (s .entry L ≡ put)
       → Taken n (s′ .history) ⊎ (s′ .entry L ≡ put)
   settled-kept n L k o (inl e) = inl (k .call .stays-taken e)
   settled-kept n L k o (inr e) = k .state .stays-put L o e
@@ -104,9 +89,6 @@ module _ (B : ℕ) (s s′ : State) where
   pub producer-kept : (x : Producer) → ((y : Item) → callOf x ≡ some y → Kept s s′ (y .number)) → ProducerOk B s x
       → ProducerOk B s′ x
   producer-kept idle k o = tt
-  producer-kept (started n v) k o =
-      let e : Kept s s′ n = k _ refl in
-      (open-kept n v e (o .0), λ p l d. let w = e .position .was-owner p l d in o .1 p (w .0) (w .1))
   producer-kept (seeking n v L) k o = placed-kept n v L (k _ refl) o
   producer-kept (ahead n v L j) k o =
       let e : Kept s s′ n = k _ refl in
@@ -127,7 +109,7 @@ module _ (B : ℕ) (s s′ : State) where
       let e : Kept s s′ n = k _ refl in (
         open-kept n v e (o .0),
         omega (arith, e .numbers),
-        e .position .stays-owner L (o .1) (o .2),
+        o .2,
         omega (arith, e .numbers),
         o .4,
         settled-kept n L e (o .2) (o .5),
@@ -138,10 +120,10 @@ pub record Watched (s s′ : State) : Type 0 where
   pub numbers : (s .tail ≤ s′ .tail) × (s .tp ≤ s′ .tp) × (s′ .hp ≡ s .hp) × (s′ .lo ≡ s .lo)
   pub stays-put : (p : ℕ) → s .entry p ≡ put → s′ .entry p ≡ put
   pub stays-content : (p : ℕ) → s .entry p ≡ put → s′ .content p ≡ s .content p
-  pub none-before-dequeue : (p : ℕ) → s′ .entry p ≡ put → EndedBeforeDequeue (s′ .owner p) (s′ .history)
-      → (s .entry p ≡ put) × EndedBeforeDequeue (s .owner p) (s .history)
-  pub none-before : (p f : ℕ) → f < s .tail → s′ .entry p ≡ put → EndedBefore (s′ .owner p) (s′ .owner f) (s′ .history)
-      → (s .entry p ≡ put) × EndedBefore (s .owner p) (s .owner f) (s .history)
+  pub none-before-dequeue : (p : ℕ) → s′ .entry p ≡ put → EndedBeforeDequeue (owner p) (s′ .history)
+      → (s .entry p ≡ put) × EndedBeforeDequeue (owner p) (s .history)
+  pub none-before : (p f : ℕ) → f < s .tail → s′ .entry p ≡ put → EndedBefore (owner p) (owner f) (s′ .history)
+      → (s .entry p ≡ put) × EndedBefore (owner p) (owner f) (s .history)
 
 module _ (B : ℕ) (s s′ : State) (w : Watched s s′) where
   passed-kept : (c c′ : ℕ) → c′ ≤ c → Passed B s c → Passed B s′ c′

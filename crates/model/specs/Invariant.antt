@@ -7,14 +7,14 @@
 -- before x started, and before x the rescan does. When a dequeue answers empty, every set entry lies below its cursor, since
 -- nothing is set at or past tail, or past the tail record.
 use mathlib.Core.Path.{_≡_}
-use mathlib.Core.Logic.{_⊎_, _≢_}
+use mathlib.Core.Logic.{_⊎_}
 use mathlib.Core.Bool.{Bool, true, false}
 use mathlib.Core.Option.{some}
 use Prim.Native.Nat.{ℕ, suc, _+_, _*_, _≤_, _<_}
 use Rattle.history.specs.Event.{History}
 use Rattle.history.specs.Linearization.{Item}
 use Rattle.criterion.specs.Explained.{Started, Begun, Ended, Taken, EndedBefore, EndedBeforeDequeue, Explained, current, dequeuing}
-use Rattle.model.specs.State.{Entry, blank, put, gone, Producer, idle, started, seeking, ahead, shifting, behind, writing, setting, done, Consumer, resting, front, reading, scanning, looking, rescanning, found, holding, retiring, State, callOf}
+use Rattle.model.specs.State.{Entry, blank, put, gone, Producer, idle, seeking, ahead, shifting, behind, writing, setting, done, Consumer, resting, front, reading, scanning, looking, rescanning, found, holding, retiring, State, owner, callOf}
 
 -- the head is in the head record or at its end, and no place overtakes the next
 pub record Places (B tail hp lo tp hi : ℕ) : Type 0 where
@@ -31,30 +31,30 @@ pub record Entries (B tail hp tp : ℕ) (entry : ℕ → Entry) : Type 0 where
   pub blank-ahead : (p : ℕ) → B * tp ≤ p → entry p ≡ blank
   pub gone-below : (p : ℕ) → p < hp → entry p ≡ gone
 
--- owners: every taken position belongs to a call that has begun, no two to one call, and no later one's call ended before an
+-- owners: every start has taken a position, every taken position belongs to a call that has begun, and no later one's call ended before an
 -- earlier one's started (nor before its own)
-pub record Owners (tail : ℕ) (owner : ℕ → ℕ) (h : History) : Type 0 where
+pub record Owners (tail starts : ℕ) (h : History) : Type 0 where
+  pub all-placed : starts ≡ tail
   pub begun : (p : ℕ) → p < tail → Begun (owner p) h
-  pub apart : (p q : ℕ) → p < tail → q < tail → owner p ≡ owner q → p ≡ q
   pub in-order : (p q : ℕ) → p ≤ q → q < tail → EndedBefore (owner q) (owner p) h → ⊥
 
 -- what a set entry holds is its owner's number, with the value of that start
-pub record Contents (entry : ℕ → Entry) (owner : ℕ → ℕ) (content : ℕ → Item) (h : History) : Type 0 where
+pub record Contents (entry : ℕ → Entry) (content : ℕ → Item) (h : History) : Type 0 where
   pub number-is : (p : ℕ) → entry p ≡ put → content p .number ≡ owner p
   pub value-is : (p : ℕ) → entry p ≡ put → Started (content p .number) (content p .value) h
 
 -- enqueue n has a position whose entry is e
-abbrev pub Has : (tail : ℕ) (entry : ℕ → Entry) (owner : ℕ → ℕ) → Entry → ℕ → Type 0
-Has tail entry owner e n = (p : ℕ) × (p < tail) × (owner p ≡ n) × (entry p ≡ e)
+abbrev pub Has : (tail : ℕ) (entry : ℕ → Entry) → Entry → ℕ → Type 0
+Has tail entry e n = (p : ℕ) × (p < tail) × (owner p ≡ n) × (entry p ≡ e)
 
 -- the past: the history is explained, numbers are 1 to starts and each starts with one value, an ended enqueue is taken or its
 -- entry is set, a taken one's entry is handled
-pub record Past (tail starts : ℕ) (entry : ℕ → Entry) (owner : ℕ → ℕ) (h : History) : Type 0 where
+pub record Past (tail starts : ℕ) (entry : ℕ → Entry) (h : History) : Type 0 where
   pub explained : Explained h
   pub numbered : (n : ℕ) → Begun n h → (1 ≤ n) × (n ≤ starts)
   pub one-value : (n v w : ℕ) → Started n v h → Started n w h → v ≡ w
-  pub ended-has : (n : ℕ) → Ended n h → Taken n h ⊎ Has tail entry owner put n
-  pub taken-has : (n : ℕ) → Taken n h → Has tail entry owner gone n
+  pub ended-has : (n : ℕ) → Ended n h → Taken n h ⊎ Has tail entry put n
+  pub taken-has : (n : ℕ) → Taken n h → Has tail entry gone n
 
 -- what is under way: no call has two threads
 pub record Calls (producer : ℕ → Producer) (consumer : Bool) (h : History) : Type 0 where
@@ -68,7 +68,7 @@ pub record Open (n v : ℕ) (h : History) : Type 0 where
   pub not-ended : Ended n h → ⊥
 
 -- a producer with a position whose entry is empty
-pub record AtPosition (tail n v L : ℕ) (entry : ℕ → Entry) (owner : ℕ → ℕ) (h : History) : Type 0 where
+pub record AtPosition (tail n v L : ℕ) (entry : ℕ → Entry) (h : History) : Type 0 where
   pub is-open : Open n v h
   pub taken : L < tail
   pub is-blank : entry L ≡ blank
@@ -79,18 +79,17 @@ abbrev pub Inside : (B p k : ℕ) → Type 0
 Inside B p k = (p < B * k) × (B * k ≤ p + B)
 
 module _ (B : ℕ) (s : State) where
-  open State s using (tail, hp, lo, tp, hi, entry, owner, content, history)
+  open State s using (tail, hp, lo, tp, hi, entry, content, history)
 
   abbrev pub ProducerOk : Producer → Type 0
   ProducerOk idle = Unit
-  ProducerOk (started n v) = Open n v history × ((p : ℕ) → p < tail → owner p ≢ n)
-  ProducerOk (seeking n v L) = AtPosition tail n v L entry owner history
-  ProducerOk (ahead n v L k) = AtPosition tail n v L entry owner history × (k ≤ tp) × (B * k ≤ L)
-  ProducerOk (shifting n v L k) = AtPosition tail n v L entry owner history × (k ≤ tp) × (B * k ≤ L) × (k < hi)
-  ProducerOk (behind n v L k) = AtPosition tail n v L entry owner history × (k ≤ tp) × (L + B < B * k)
-  ProducerOk (writing n v L k) = AtPosition tail n v L entry owner history × (k ≤ tp) × Inside B L k
+  ProducerOk (seeking n v L) = AtPosition tail n v L entry history
+  ProducerOk (ahead n v L k) = AtPosition tail n v L entry history × (k ≤ tp) × (B * k ≤ L)
+  ProducerOk (shifting n v L k) = AtPosition tail n v L entry history × (k ≤ tp) × (B * k ≤ L) × (k < hi)
+  ProducerOk (behind n v L k) = AtPosition tail n v L entry history × (k ≤ tp) × (L + B < B * k)
+  ProducerOk (writing n v L k) = AtPosition tail n v L entry history × (k ≤ tp) × Inside B L k
   ProducerOk (setting n v L k) =
-      AtPosition tail n v L entry owner history × (k ≤ tp) × Inside B L k × (content L ≡ record { number = n; value = v })
+      AtPosition tail n v L entry history × (k ≤ tp) × Inside B L k × (content L ≡ record { number = n; value = v })
   ProducerOk (done n v L k) =
       Open n v history × (L < tail) × (owner L ≡ n) × (k ≤ tp) × Inside B L k × (Taken n history ⊎ (entry L ≡ put))
 
@@ -140,9 +139,9 @@ isBusy retiring = true
 pub record Invariant (B : ℕ) (s : State) : Type 0 where
   pub places : Places B (s .tail) (s .hp) (s .lo) (s .tp) (s .hi)
   pub entries : Entries B (s .tail) (s .hp) (s .tp) (s .entry)
-  pub owners : Owners (s .tail) (s .owner) (s .history)
-  pub contents : Contents (s .entry) (s .owner) (s .content) (s .history)
-  pub past : Past (s .tail) (s .starts) (s .entry) (s .owner) (s .history)
+  pub owners : Owners (s .tail) (s .starts) (s .history)
+  pub contents : Contents (s .entry) (s .content) (s .history)
+  pub past : Past (s .tail) (s .starts) (s .entry) (s .history)
   pub calls : Calls (s .producer) (isBusy (s .consumer)) (s .history)
   pub producers : (t : ℕ) → ProducerOk B s (s .producer t)
   pub consuming : ConsumerOk B s (s .consumer)

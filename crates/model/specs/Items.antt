@@ -8,7 +8,7 @@ use native.Mathlib.Omega.{arith}
 use Rattle.history.specs.Lists.{All, Pairwise, Member}
 use Rattle.history.specs.Linearization.{Item, Queue}
 use Rattle.criterion.specs.Explained.{Started, Ended, Taken, EndedBefore, Rest}
-use Rattle.model.specs.State.{Entry, blank, put, gone, State}
+use Rattle.model.specs.State.{Entry, blank, put, gone, State, owner}
 use Rattle.model.specs.Invariant.{Invariant}
 use Rattle.model.specs.Known.{below-suc, put-untaken, ended-put}
 
@@ -85,7 +85,7 @@ abbrev pub items : State → Queue
 items s = itemsBelow (s .tail) (s .entry) (s .content)
 
 module _ (B : ℕ) (s : State) (i : Invariant B s) where
-  open State s using (tail, entry, owner, content, history)
+  open State s using (tail, entry, content, history)
 
   number : (p : ℕ) → entry p ≡ put → content p .number ≡ owner p
   number = i .contents .number-is
@@ -107,7 +107,7 @@ module _ (B : ℕ) (s : State) (i : Invariant B s) where
       (member-items entry content tail p l e)
 
   distinct-items : (p q : ℕ) → p < q → q < tail → entry p ≡ put → entry q ≡ put → content p .number ≢ content q .number
-  distinct-items p q l b ep eq e = omega (arith, i .owners .apart p q (omega arith) b (sym (number p ep) ∙ e ∙ number q eq))
+  distinct-items p q l b ep eq e = omega (arith, sym (number p ep) ∙ e ∙ number q eq)
 
   ordered-items : (p q : ℕ) → p < q → q < tail → entry p ≡ put → entry q ≡ put
       → EndedBefore (content q .number) (content p .number) history → ⊥

@@ -5,7 +5,7 @@ use Prim.Native.Nat.{ℕ, suc, _*_, _≤_, _<_}
 use native.Mathlib.Decide.{decLe, decLt}
 use native.Mathlib.Omega.{arith}
 use Rattle.criterion.specs.Explained.{Begun, Ended, Taken}
-use Rattle.model.specs.State.{Entry, blank, put, gone, State}
+use Rattle.model.specs.State.{Entry, blank, put, gone, State, owner}
 use Rattle.model.specs.Invariant.{Has, Open, HandledFrom, Invariant}
 use Rattle.model.specs.Facts.{put-not-blank, put-not-gone, gone-not-blank, started-begun}
 
@@ -18,12 +18,11 @@ pub below-suc : (P : ℕ → Type 0) (c : ℕ) → ((p : ℕ) → p < c → P p)
 below-suc P c below here p l = by-cases (decLt p c) (below p) (λ n. subst P (omega arith) here)
 
 -- a position of one state is of that state elsewhere too, where the move keeps it
-pub has-kept : (tail tail′ : ℕ) (entry entry′ : ℕ → Entry) (owner owner′ : ℕ → ℕ) (e : Entry) (n : ℕ)
-    → ((p : ℕ) → p < tail → owner p ≡ n → entry p ≡ e → (p < tail′) × (owner′ p ≡ n) × (entry′ p ≡ e))
-    → Has tail entry owner e n → Has tail′ entry′ owner′ e n
-has-kept tail tail′ entry entry′ owner owner′ e n keep (p, l, o, is-e) =
-    let k = keep p l o is-e in
-    (p, k .0, k .1, k .2)
+pub has-kept : (tail tail′ : ℕ) (entry entry′ : ℕ → Entry) (e : Entry) (n : ℕ)
+    → ((p : ℕ) → p < tail → entry p ≡ e → (p < tail′) × (entry′ p ≡ e)) → Has tail entry e n → Has tail′ entry′ e n
+has-kept tail tail′ entry entry′ e n keep (p, l, o, is-e) =
+    let k = keep p l is-e in
+    (p, k .0, o, k .1)
 
 module _ (B : ℕ) (s : State) (i : Invariant B s) where
   pub put-below-tail : (p : ℕ) → s .entry p ≡ put → p < s .tail
@@ -56,20 +55,20 @@ module _ (B : ℕ) (s : State) (i : Invariant B s) where
       by-cases (decLt r p) (λ b. below r b e) (λ nb. absurd (put-not-gone _ e (handled r (omega arith) l)))
 
   -- the owner of a set entry is not taken
-  pub put-untaken : (p n : ℕ) → s .entry p ≡ put → s .owner p ≡ n → Taken n (s .history) → ⊥
+  pub put-untaken : (p n : ℕ) → s .entry p ≡ put → owner p ≡ n → Taken n (s .history) → ⊥
   put-untaken p n e o taken =
       let (q, l, o′, is-gone) = i .past .taken-has n taken in
-      put-not-gone _ e (ap (s .entry) (i .owners .apart p q (put-below-tail p e) l (o ∙ sym o′)) ∙ is-gone)
+      put-not-gone _ e (ap (s .entry) (omega arith) ∙ is-gone)
 
   -- a call that has begun has a number from 1 to starts
   pub open-numbered : (n v : ℕ) → Open n v (s .history) → (1 ≤ n) × (n ≤ s .starts)
   open-numbered n v o = i .past .numbered n (started-begun n v (s .history) (o .is-started))
 
   -- an untaken call that has ended has a set entry
-  pub ended-put : (n : ℕ) → Ended n (s .history) → (Taken n (s .history) → ⊥) → Has (s .tail) (s .entry) (s .owner) put n
+  pub ended-put : (n : ℕ) → Ended n (s .history) → (Taken n (s .history) → ⊥) → Has (s .tail) (s .entry) put n
   ended-put n e untaken = go (i .past .ended-has n e)
     where
-      go : Taken n (s .history) ⊎ Has (s .tail) (s .entry) (s .owner) put n → Has (s .tail) (s .entry) (s .owner) put n
+      go : Taken n (s .history) ⊎ Has (s .tail) (s .entry) put n → Has (s .tail) (s .entry) put n
       go (inl taken) = absurd (untaken taken)
       go (inr has) = has
 
@@ -77,13 +76,9 @@ module _ (B : ℕ) (s : State) (i : Invariant B s) where
   pub ended-begun : (n : ℕ) → Ended n (s .history) → Begun n (s .history)
   ended-begun n e = go (i .past .ended-has n e)
     where
-      owned : (x : Entry) → Has (s .tail) (s .entry) (s .owner) x n → Begun n (s .history)
+      owned : (x : Entry) → Has (s .tail) (s .entry) x n → Begun n (s .history)
       owned x (p, l, o, d) = subst (λ (m : ℕ). Begun m (s .history)) o (i .owners .begun p l)
 
-      go : Taken n (s .history) ⊎ Has (s .tail) (s .entry) (s .owner) put n → Begun n (s .history)
+      go : Taken n (s .history) ⊎ Has (s .tail) (s .entry) put n → Begun n (s .history)
       go (inl taken) = owned gone (i .past .taken-has n taken)
       go (inr has) = owned put has
-
-  -- no position belongs to a call that starts later
-  pub owner-numbered : (p : ℕ) → p < s .tail → s .owner p ≤ s .starts
-  owner-numbered p l = i .past .numbered (s .owner p) (i .owners .begun p l) .1

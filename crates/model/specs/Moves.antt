@@ -5,7 +5,7 @@ use Prim.Native.Nat.{ℕ, suc, _+_, _*_}
 use lib.Dec.{leb, ltb}
 use Rattle.history.specs.Event.{Event, enqueueStarted, enqueueEnded, dequeueStarted, gaveItem, gaveEmpty}
 use Rattle.history.specs.Linearization.{Item}
-use Rattle.model.specs.State.{Entry, put, gone, Producer, idle, started, seeking, ahead, shifting, behind, writing, setting, done, Consumer, resting, front, retiring, State, override}
+use Rattle.model.specs.State.{Entry, put, gone, Producer, idle, seeking, ahead, shifting, behind, writing, setting, done, Consumer, resting, front, retiring, State, override}
 
 -- the state with thread t's producer, or with the consumer, changed
 abbrev pub withProducer : State → ℕ → Producer → State
@@ -18,7 +18,6 @@ withProducer s t x =
       hi = s .hi;
       starts = s .starts;
       entry = s .entry;
-      owner = s .owner;
       content = s .content;
       producer = override (s .producer) t x;
       consumer = s .consumer;
@@ -35,7 +34,6 @@ withConsumer s x =
       hi = s .hi;
       starts = s .starts;
       entry = s .entry;
-      owner = s .owner;
       content = s .content;
       producer = s .producer;
       consumer = x;
@@ -53,7 +51,6 @@ withEvent s e =
       hi = s .hi;
       starts = s .starts;
       entry = s .entry;
-      owner = s .owner;
       content = s .content;
       producer = s .producer;
       consumer = s .consumer;
@@ -70,7 +67,6 @@ withEntry s p e =
       hi = s .hi;
       starts = s .starts;
       entry = override (s .entry) p e;
-      owner = s .owner;
       content = s .content;
       producer = s .producer;
       consumer = s .consumer;
@@ -88,47 +84,27 @@ withPlaces s hp lo tp hi =
       hi = hi;
       starts = s .starts;
       entry = s .entry;
-      owner = s .owner;
       content = s .content;
       producer = s .producer;
       consumer = s .consumer;
       history = s .history;
     }
 
--- *Start enqueue*: from idle.
+-- *Start enqueue*, from idle: the next number, and the next position.
 abbrev pub beginEnqueue : State → (t v : ℕ) → State
 beginEnqueue s t v =
-    record {
-      tail = s .tail;
-      hp = s .hp;
-      lo = s .lo;
-      tp = s .tp;
-      hi = s .hi;
-      starts = suc (s .starts);
-      entry = s .entry;
-      owner = s .owner;
-      content = s .content;
-      producer = override (s .producer) t (started (suc (s .starts)) v);
-      consumer = s .consumer;
-      history = enqueueStarted t (suc (s .starts)) v ∷ s .history;
-    }
-
--- 1, from started n v: take a position.
-abbrev pub takePosition : State → (t n v : ℕ) → State
-takePosition s t n v =
     record {
       tail = suc (s .tail);
       hp = s .hp;
       lo = s .lo;
       tp = s .tp;
       hi = s .hi;
-      starts = s .starts;
+      starts = suc (s .starts);
       entry = s .entry;
-      owner = override (s .owner) (s .tail) n;
       content = s .content;
-      producer = override (s .producer) t (seeking n v (s .tail));
+      producer = override (s .producer) t (seeking (suc (s .starts)) v (s .tail));
       consumer = s .consumer;
-      history = s .history;
+      history = enqueueStarted t (suc (s .starts)) v ∷ s .history;
     }
 
 -- "choose", with the record of place k held
@@ -169,7 +145,6 @@ writeEntry s t n v L k =
       hi = s .hi;
       starts = s .starts;
       entry = s .entry;
-      owner = s .owner;
       content = override (s .content) L (record { number = n; value = v });
       producer = override (s .producer) t (setting n v L k);
       consumer = s .consumer;

@@ -1,133 +1,23 @@
--- A producer takes its position, writes its entry and sets it, phases 1, 8 and 9: each keeps the invariant. From the frames of
--- producers and consumer. Set-entry is where a set entry may appear behind the cursor: its call has not ended.
-use mathlib.Core.Path.{_≡_, refl, sym, _∙_, ap, subst, subst₂}
+-- A producer writes its entry and sets it, phases 8 and 9: each keeps the invariant. From the frames of producers and consumer. Set-entry is
+-- where a set entry may appear behind the cursor: its call has not ended.
+use mathlib.Core.Path.{_≡_, refl, sym, _∙_, ap, subst}
 use mathlib.Core.Logic.{inl, inr, _≢_, ⊎-elim}
-use Prim.Native.Nat.{ℕ, suc, _≤_, _<_}
+use Prim.Native.Nat.{ℕ}
 use native.Mathlib.Nat.{mul-le-mul-left}
 use native.Mathlib.Omega.{arith}
 use Rattle.history.specs.Linearization.{Item}
-use Rattle.criterion.specs.Explained.{Started, Begun, Ended, EndedBefore, EndedBeforeDequeue}
-use Rattle.model.specs.State.{Entry, put, gone, started, seeking, writing, setting, done, State, override, callOf}
-use Rattle.model.specs.Invariant.{Has, Owners, ProducerOk, Invariant}
-use Rattle.model.specs.Moves.{takePosition, writeEntry, setEntry}
-use Rattle.model.specs.Facts.{started-begun, ended-before-ended, ended-before-dequeue-ended, put-not-blank, gone-not-blank, override-same, override-other, override-all, OverrideCases, override-cases}
-use Rattle.model.specs.Frame.{Kept, same-call, same-entry, kept-elsewhere, Watched, consumer-kept}
+use Rattle.criterion.specs.Explained.{Started, Ended}
+use Rattle.model.specs.State.{Entry, put, gone, writing, setting, done, State, owner, override, callOf}
+use Rattle.model.specs.Invariant.{Has, ProducerOk, Invariant}
+use Rattle.model.specs.Moves.{writeEntry, setEntry}
+use Rattle.model.specs.Facts.{ended-before-ended, ended-before-dequeue-ended, put-not-blank, gone-not-blank, override-same, override-other, override-all}
+use Rattle.model.specs.Frame.{Kept, kept-elsewhere, Watched, consumer-kept}
 use Rattle.model.specs.Threads.{calls-same, producers-after}
-use Rattle.model.specs.Known.{put-below-tail, has-kept}
+use Rattle.model.specs.Known.{has-kept}
 use Rattle.model.specs.Walking.{producer-clause}
 
-module _ (B : ℕ) (s : State) (i : Invariant B s) (t n v : ℕ) (e : s .producer t ≡ started n v) where
-  open State s using (tail, entry, owner, content, history)
-
-  -- earlier positions keep their owners
-  still-owner : (p : ℕ) → p < tail → override owner tail n p ≡ owner p
-  still-owner p l = override-other owner tail n p (omega arith)
-
-  -- the call had no position, so that owners stay apart
-  apart-take : (p q : ℕ) → p < suc tail → q < suc tail → override owner tail n p ≡ override owner tail n q → p ≡ q
-  apart-take p q lp lq d = go (override-cases owner tail n p _ d) (override-cases owner tail n q _ refl)
-    where
-      fresh : (r : ℕ) → r < tail → owner r ≢ n
-      fresh = producer-clause B s i t _ e .1
-
-      go : OverrideCases owner tail n p (override owner tail n q) → OverrideCases owner tail n q (override owner tail n q) → p ≡ q
-      go (inl c) (inl d) = c .0 ∙ sym (d .0)
-      go (inl c) (inr d) = absurd (fresh q (omega arith) (d .1 ∙ sym (c .1)))
-      go (inr c) (inl d) = absurd (fresh p (omega arith) (c .1 ∙ sym (d .1)))
-      go (inr c) (inr d) = i .owners .apart p q (omega arith) (omega arith) (c .1 ∙ sym (d .1))
-
-  -- it has not ended, so that it ended before no other call started
-  in-order-take : (p q : ℕ) → p ≤ q → q < suc tail → EndedBefore (override owner tail n q) (override owner tail n p) history → ⊥
-  in-order-take p =
-      override-all owner tail n (λ q a. p ≤ q → q < suc tail → EndedBefore a (override owner tail n p) history → ⊥)
-      (λ le l d. open-call (ended-before-ended n _ history d))
-      (λ q ne le l d. i .owners .in-order p q le (omega arith) (same-p q (omega arith) d))
-    where
-      open-call : Ended n history → ⊥
-      open-call = producer-clause B s i t _ e .0 .not-ended
-
-      same-p : (q : ℕ) → p < tail → EndedBefore (owner q) (override owner tail n p) history → EndedBefore (owner q) (owner p) history
-      same-p q l d = subst (λ (b : ℕ). EndedBefore (owner q) b history) (still-owner p l) d
-
-  owners-take : Owners (suc tail) (override owner tail n) history
-  owners-take =
-      record {
-        begun =
-            override-all owner tail n (λ p a. p < suc tail → Begun a history)
-            (λ l. started-begun n v history (producer-clause B s i t _ e .0 .is-started))
-            (λ p ne l. i .owners .begun p (omega arith));
-        apart = apart-take;
-        in-order = in-order-take;
-      }
-
-  kept-take : (m : ℕ) → m ≢ n → Kept s (takePosition s t n v) m
-  kept-take m ne =
-      record {
-        numbers = omega arith;
-        call = same-call m history;
-        position =
-            record {
-              stays-owner = λ p l d. still-owner p l ∙ d;
-              was-owner = λ p l d. ⊎-elim (λ c. absurd (ne (sym (c .1)))) (λ c. (omega arith, c .1)) (override-cases owner tail n p m d);
-            };
-        state = same-entry m owner entry content history;
-      }
-
-  watched-take : Watched s (takePosition s t n v)
-  watched-take =
-      record {
-        numbers = omega arith;
-        stays-put = λ p d. d;
-        stays-content = λ p d. refl;
-        none-before-dequeue = λ p d b.
-            (d, subst (λ (a : ℕ). EndedBeforeDequeue a history) (still-owner p (put-below-tail B s i p d)) b);
-        none-before = λ p f l d b.
-            (d, subst₂ (λ (a b : ℕ). EndedBefore a b history) (still-owner p (put-below-tail B s i p d)) (still-owner f l) b);
-      }
-
-  has-take : (x : Entry) (m : ℕ) → Has tail entry owner x m → Has (suc tail) entry (override owner tail n) x m
-  has-take x m =
-      has-kept tail (suc tail) entry entry owner (override owner tail n) x m (λ p l d is-x. (omega arith, still-owner p l ∙ d, is-x))
-
-  pub take-position : Invariant B (takePosition s t n v)
-  take-position =
-      let o = producer-clause B s i t _ e in
-      record {
-        places = omega (arith, i .places);
-        entries =
-            record {
-              blank-past = λ p l. i .entries .blank-past p (omega arith);
-              blank-ahead = i .entries .blank-ahead;
-              gone-below = i .entries .gone-below;
-            };
-        owners = owners-take;
-        contents =
-            record {
-              number-is = λ p d. i .contents .number-is p d ∙ sym (still-owner p (put-below-tail B s i p d));
-              value-is = i .contents .value-is;
-            };
-        past =
-            record {
-              explained = i .past .explained;
-              numbered = i .past .numbered;
-              one-value = i .past .one-value;
-              ended-has = λ m d. ⊎-elim inl (λ h. inr (has-take put m h)) (i .past .ended-has m d);
-              taken-has = λ m d. has-take gone m (i .past .taken-has m d);
-            };
-        calls = calls-same (s .producer) t (seeking n v tail) _ _ (sym (ap callOf e)) (i .calls);
-        producers =
-            producers-after B s i (takePosition s t n v) t _ (seeking n v tail) _ e refl kept-take
-            (record {
-              is-open = o .0;
-              taken = omega arith;
-              is-blank = i .entries .blank-past tail (omega arith);
-              owns = override-same owner tail n;
-            });
-        consuming = consumer-kept B s (takePosition s t n v) watched-take (s .consumer) (i .consuming);
-      }
-
 module _ (B : ℕ) (s : State) (i : Invariant B s) (t n v L k : ℕ) where
-  open State s using (tail, entry, owner, content, history)
+  open State s using (tail, entry, content, history)
 
   pub write-entry : s .producer t ≡ writing n v L k → Invariant B (writeEntry s t n v L k)
   write-entry e =
@@ -158,7 +48,7 @@ module _ (B : ℕ) (s : State) (i : Invariant B s) (t n v L k : ℕ) where
 
       kept : (m : ℕ) → m ≢ n → Kept s (writeEntry s t n v L k) m
       kept m ne =
-          kept-elsewhere s (writeEntry s t n v L k) m refl refl (omega arith) refl L (λ d. ne (sym d ∙ o .0 .owns)) (λ p q. (refl, same p q))
+          kept-elsewhere s (writeEntry s t n v L k) m (omega arith) refl L (λ d. ne (sym d ∙ o .0 .owns)) (λ p q. (refl, same p q))
 
       watched : Watched s (writeEntry s t n v L k)
       watched =
@@ -217,13 +107,12 @@ module _ (B : ℕ) (s : State) (i : Invariant B s) (t n v L k : ℕ) where
       still-gone : (p : ℕ) → entry p ≡ gone → override entry L put p ≡ gone
       still-gone p d = same p (λ q. gone-not-blank _ d (ap entry q ∙ o .0 .is-blank)) ∙ d
 
-      has : (m : ℕ) (x : Entry) → ((p : ℕ) → entry p ≡ x → override entry L put p ≡ x) → Has tail entry owner x m
-          → Has tail (override entry L put) owner x m
-      has m x still = has-kept tail tail entry (override entry L put) owner owner x m (λ p l d is-x. (l, d, still p is-x))
+      has : (m : ℕ) (x : Entry) → ((p : ℕ) → entry p ≡ x → override entry L put p ≡ x) → Has tail entry x m → Has tail (override entry L put) x m
+      has m x still = has-kept tail tail entry (override entry L put) x m (λ p l is-x. (l, still p is-x))
 
       kept : (m : ℕ) → m ≢ n → Kept s (setEntry s t n v L k) m
       kept m ne =
-          kept-elsewhere s (setEntry s t n v L k) m refl refl (omega arith) refl L (λ d. ne (sym d ∙ o .0 .owns)) (λ p q. (same p q, refl))
+          kept-elsewhere s (setEntry s t n v L k) m (omega arith) refl L (λ d. ne (sym d ∙ o .0 .owns)) (λ p q. (same p q, refl))
 
       -- an entry set after the move was set before, or its call has not ended
       was-put : (p : ℕ) → override entry L put p ≡ put → Ended (owner p) history → entry p ≡ put

@@ -8,7 +8,7 @@ use native.Mathlib.Decide.{decLe, decLt}
 use native.Mathlib.Nat.{lt-of-mul-lt-mul-left, mul-le-mul-left}
 use native.Mathlib.Omega.{arith}
 use Rattle.criterion.specs.Explained.{EndedBefore, EndedBeforeDequeue}
-use Rattle.model.specs.State.{blank, put, gone, front, reading, scanning, looking, rescanning, found, holding, State}
+use Rattle.model.specs.State.{blank, put, gone, front, reading, scanning, looking, rescanning, found, holding, State, owner}
 use Rattle.model.specs.Invariant.{HandledFrom, ConsumerOk, Invariant, Rescanned}
 use Rattle.model.specs.Moves.{withConsumer, retireHead, advanceHead}
 use Rattle.model.specs.Facts.{put-not-blank, put-not-gone, gone-not-blank}
@@ -17,7 +17,7 @@ use Rattle.model.specs.Known.{lt-unless, below-suc, put-below-tail, none
 use Rattle.model.specs.Dequeues.{consumer-clause}
 
 module _ (B : ℕ) (s : State) (i : Invariant B s) where
-  open State s using (tail, hp, lo, tp, hi, entry, owner, content, history)
+  open State s using (tail, hp, lo, tp, hi, entry, content, history)
 
   -- the head, and the head record
 

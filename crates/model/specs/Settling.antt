@@ -44,7 +44,6 @@ settled s n v h =
       hi = s .hi;
       starts = s .starts;
       entry = s .entry;
-      owner = s .owner;
       content = s .content;
       producer = s .producer;
       consumer = resting;
@@ -57,7 +56,7 @@ module _ (B : ℕ) (s : State) (i : Invariant B s) (formed : wellFormed (s .hist
 
   kept : (m : ℕ) → Kept s (settled s n v h) m
   kept m =
-      kept-call s (settled s n v h) m refl refl (omega arith) refl refl
+      kept-call s (settled s n v h) m (omega arith) refl refl
       (record {
         stays-started = λ w. transport (same .same-started m w);
         stays-open = transport⁻¹ (same .same-ended m);
@@ -71,8 +70,8 @@ module _ (B : ℕ) (s : State) (i : Invariant B s) (formed : wellFormed (s .hist
         entries = i .entries;
         owners =
             record {
+              all-placed = i .owners .all-placed;
               begun = λ p l. transport (same .same-begun _) (i .owners .begun p l);
-              apart = i .owners .apart;
               in-order = λ p q le l e. i .owners .in-order p q le l (transport⁻¹ (same .same-before _ _) e);
             };
         contents =

@@ -1,9 +1,9 @@
--- The position machine: the queue without pointers. A record is known by its place, an entry by its position; which call owns a
--- position is written down once, when the position is taken.
+-- The position machine: the queue without pointers. A record is known by its place, an entry by its position, and so is the call that owns it:
+-- a start gives the next number and takes the next position.
 use mathlib.Core.Bool.{cond}
 use mathlib.Core.List.{[]}
 use mathlib.Core.Option.{Option, none, some}
-use Prim.Native.Nat.{ℕ}
+use Prim.Native.Nat.{ℕ, suc}
 use lib.Dec.{eqb}
 use Rattle.history.specs.Event.{History}
 use Rattle.history.specs.Linearization.{Item}
@@ -14,11 +14,10 @@ pub data Entry : Type 0 where
   put : Entry
   gone : Entry
 
--- A producer with its call number n, value v, position L, and the place k of the record it holds: idle; phase 1; phase 2; phases
--- 3 to 5; phase 6; phase 7; phase 8; phase 9; phases 10 and 11.
+-- A producer with its call number n, value v, position L, and the place k of the record it holds: idle; phase 2; phases 3 to 5; phase 6;
+-- phase 7; phase 8; phase 9; phases 10 and 11.
 pub data Producer : Type 0 where
   idle : Producer
-  started : (n v : ℕ) → Producer
   seeking : (n v L : ℕ) → Producer
   ahead : (n v L k : ℕ) → Producer
   shifting : (n v L k : ℕ) → Producer
@@ -40,8 +39,8 @@ pub data Consumer : Type 0 where
   holding : (f g : ℕ) (x : Item) → Consumer
   retiring : Consumer
 
--- tail and head position, the places of the head, tail and last record, enqueue starts; by position: its entry, the call that
--- owns it, what was written there; the threads; the history.
+-- tail and head position, the places of the head, tail and last record, enqueue starts; by position: its entry, what was written there; the
+-- threads; the history.
 pub record State : Type 0 where
   pub tail : ℕ
   pub hp : ℕ
@@ -50,11 +49,14 @@ pub record State : Type 0 where
   pub hi : ℕ
   pub starts : ℕ
   pub entry : ℕ → Entry
-  pub owner : ℕ → ℕ
   pub content : ℕ → Item
   pub producer : ℕ → Producer
   pub consumer : Consumer
   pub history : History
+
+-- The call that owns a position.
+abbrev pub owner : ℕ → ℕ
+owner p = suc p
 
 -- f, but x at k
 abbrev pub override {ℓ} : {A : Type ℓ} → (ℕ → A) → ℕ → A → ℕ → A
@@ -63,7 +65,6 @@ override f k x j = cond (eqb k j) x (f j)
 -- The call that a producer has under way, and its number (0 for none).
 abbrev pub callOf : Producer → Option Item
 callOf idle = none
-callOf (started n v) = some (record { number = n; value = v })
 callOf (seeking n v L) = some (record { number = n; value = v })
 callOf (ahead n v L k) = some (record { number = n; value = v })
 callOf (shifting n v L k) = some (record { number = n; value = v })
@@ -83,7 +84,6 @@ initial =
       hi = 1;
       starts = 0;
       entry = λ p. blank;
-      owner = λ p. 0;
       content = λ p. record { number = 0; value = 0 };
       producer = λ t. idle;
       consumer = resting;

@@ -12,7 +12,7 @@ use lib.Dec.{eqb}
 use Rattle.history.specs.Event.{History, enqueueStarted, enqueueEnded}
 use Rattle.history.specs.Linearization.{Item}
 use Rattle.criterion.specs.Explained.{current}
-use Rattle.model.specs.State.{gone, Producer, idle, started, seeking, ahead, shifting, behind, writing, setting, done, Consumer, State, override, callOf}
+use Rattle.model.specs.State.{gone, Producer, idle, seeking, ahead, shifting, behind, writing, setting, done, Consumer, State, override, callOf}
 use Rattle.model.specs.Invariant.{Open, Calls, ProducerOk, ConsumerOk, Invariant, isBusy}
 use Rattle.model.specs.Moves.{withProducer, withConsumer}
 use Rattle.model.specs.Facts.{override-all}
@@ -51,14 +51,14 @@ call-at true z p o e = refl
 call-at false z p o e = e
 
 -- it begins one with a new number
-pub calls-begin : (f : ℕ → Producer) (t n v : ℕ) (b : Bool) (h : History)
+pub calls-begin : (f : ℕ → Producer) (t n v L : ℕ) (b : Bool) (h : History)
     → ((u : ℕ) (y : Item) → callOf (f u) ≡ some y → n ≢ y .number)
-    → Calls f b h → Calls (override f t (started n v)) b (enqueueStarted t n v ∷ h)
-calls-begin f t n v b h new c =
+    → Calls f b h → Calls (override f t (seeking n v L)) b (enqueueStarted t n v ∷ h)
+calls-begin f t n v L b h new c =
     record {
-      of-producers = λ u. call-at (eqb t u) (started n v) (f u) (current u h) (c .of-producers u);
+      of-producers = λ u. call-at (eqb t u) (seeking n v L) (f u) (current u h) (c .of-producers u);
       of-consumer = c .of-consumer;
-      apart = apart-at f t (started n v) (c .apart)
+      apart = apart-at f t (seeking n v L) (c .apart)
           (λ u x y ne ex ey e. new u y ey (ap (λ (i : Item). i .number) (Option·some-injective _ _ ex) ∙ e));
     }
 
@@ -79,7 +79,6 @@ module _ (B : ℕ) (s : State) where
 
   open-call : (x : Producer) (y : Item) → ProducerOk B s x → callOf x ≡ some y → Open (y .number) (y .value) (s .history)
   open-call idle y o e = absurd (Option·none-ne-some y e)
-  open-call (started n v) y o e = open-is n v y (o .0) e
   open-call (seeking n v L) y o e = open-is n v y (o .is-open) e
   open-call (ahead n v L k) y o e = open-is n v y (o .0 .is-open) e
   open-call (shifting n v L k) y o e = open-is n v y (o .0 .is-open) e
@@ -113,7 +112,6 @@ moved s hp lo tp hi producer consumer =
       hi = hi;
       starts = s .starts;
       entry = s .entry;
-      owner = s .owner;
       content = s .content;
       producer = producer;
       consumer = consumer;
@@ -123,7 +121,7 @@ moved s hp lo tp hi producer consumer =
 module _ (s : State) (hp lo tp hi : ℕ) (f : ℕ → Producer) (c : Consumer) where
   pub kept-moved : s .tp ≤ tp → s .hi ≤ hi → (n : ℕ) → Kept s (moved s hp lo tp hi f c) n
   kept-moved tp-up hi-up n =
-      kept-call s (moved s hp lo tp hi f c) n refl refl (tp-up, hi-up) refl refl (same-call n (s .history))
+      kept-call s (moved s hp lo tp hi f c) n (omega arith) refl refl (same-call n (s .history))
 
   pub watched-moved : s .tp ≤ tp → hp ≡ s .hp → lo ≡ s .lo → Watched s (moved s hp lo tp hi f c)
   watched-moved tp-up hp-same lo-same =

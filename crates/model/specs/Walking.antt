@@ -32,7 +32,7 @@ module _ (B : ℕ) (s : State) (i : Invariant B s) (t : ℕ) where
   producer-clause x e = subst (ProducerOk B s) e (i .producers t)
 
   choose : (n v L k : ℕ) (x : Producer) → s .producer t ≡ x → callOf x ≡ some (record { number = n; value = v })
-      → AtPosition (s .tail) n v L (s .entry) (s .owner) (s .history) → k ≤ s .tp → Invariant B (withProducer s t (chosen B n v L k))
+      → AtPosition (s .tail) n v L (s .entry) (s .history) → k ≤ s .tp → Invariant B (withProducer s t (chosen B n v L k))
   choose n v L k x is-x has o below =
       chosen-all (λ z. Invariant B (withProducer s t z)) B n v L k
       (λ l. producer-goes-on B s i t x (ahead n v L k) _ is-x has refl (o, below, l))

@@ -38,8 +38,8 @@ headPosition = content 9
 abbrev pub starts : Cell
 starts = content 10
 
--- A producer's phase, 0 while it is idle, call number, value, position L, held record, claimed record, and whether phase 7 was taken.
--- Word 7 is the number of accepted steps of its call.
+-- A producer's phase, 0 while it is idle, call number, value, position L, held record, claimed record, whether phase 7 was taken, and the number
+-- of accepted steps of its call.
 abbrev pub phase : ℕ → Cell
 phase t = producer t 0
 
@@ -60,6 +60,9 @@ claimed t = producer t 5
 
 abbrev pub backed : ℕ → Cell
 backed t = producer t 6
+
+abbrev pub enqueueSteps : ℕ → Cell
+enqueueSteps t = producer t 7
 
 -- The consumer's phase, cursor, found entry, and the item read from it. Word 7 is the number of accepted steps of its call.
 abbrev pub consumerPhase : Cell
@@ -95,7 +98,7 @@ abbrev pub threadPhase : (t : ℕ) → Cell
 threadPhase t = cond (eqb t 0) consumerPhase (phase t)
 
 abbrev pub stepCount : (t : ℕ) → Cell
-stepCount t = cond (eqb t 0) (consumer 7) (producer t 7)
+stepCount t = cond (eqb t 0) (consumer 7) (enqueueSteps t)
 
 -- Record: place (1 for the first in the queue), next, prev, use (0 free, 1 claimed, 2 linked, 3 retired).
 abbrev pub place : ℕ → Cell

@@ -8,7 +8,7 @@ use lib.ListN.{length, getD, drop, replicate}
 use lib.Seq.{sets}
 use Rattle.history.specs.Linearization.{Item}
 use Rattle.rules.specs.Sizes.{Sizes, between, sizesInRange, mostSteps, mostDrained, contentWords, firstRecord, storeWords}
-use Rattle.rules.specs.Cell.{Cell, Reader, Write, reader, writes, _:=_, content, lastClaimed, tail, tailRecord, headRecord, starts, consumerPhase, drainLimit, phase, call, value, position, stepCount, place, used}
+use Rattle.rules.specs.Cell.{Cell, Reader, Write, reader, writes, _:=_, content, lastClaimed, tail, tailRecord, headRecord, starts, consumerPhase, drainLimit, phase, call, value, position, enqueueSteps, stepCount, place, used}
 use Rattle.rules.specs.Range.{inRange}
 use Rattle.rules.specs.Free.{nextFree}
 use Rattle.rules.specs.Rule.{Effect, Reply, Response, refused, accepted, ok, started, going, ended, empty, item, drained, refuse, reply, upTo}
@@ -111,7 +111,7 @@ startingEnqueue t v z σ =
     ∷ call t := suc (σ starts)
     ∷ value t := v
     ∷ position t := σ tail
-    ∷ stepCount t := 1
+    ∷ enqueueSteps t := 1
     ∷ [])))))
 
 -- *Start dequeue* puts the consumer in phase 1. 5: that thread has a call under way.

@@ -100,7 +100,6 @@ module _ (z : Sizes) (σ : Reader) (γ : Ghost) (good : Good z σ γ) where
           record {
             shape = record { lo = γ .shape .lo; tp = γ .shape .tp; hi = γ .shape .hi; at = γ .shape .at; gap = withGap (γ .shape .gap) k };
             entry = γ .entry;
-            owner = γ .owner;
             content = γ .content;
             history = γ .history;
           }

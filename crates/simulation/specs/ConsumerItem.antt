@@ -115,7 +115,7 @@ module _ (z : Sizes) (σ : Reader) (γ : Ghost) (good : Good z σ γ) where
     seen = consumer-at z σ γ good 7 e
 
     -- the entry is handled, and nothing else of the entries changes
-    marked : AgreesWith (z .B) (update σ (state r i := 2)) (record { shape = γ .shape; entry = override (γ .entry) (σ foundPosition) gone; owner = γ .owner; content = γ .content; history = γ .history })
+    marked : AgreesWith (z .B) (update σ (state r i := 2)) (record { shape = γ .shape; entry = override (γ .entry) (σ foundPosition) gone; content = γ .content; history = γ .history })
     marked =
         slot-changes z σ (update σ (state r i := 2)) (γ .shape) (m .chain) r (σ foundPosition) s (γ .entry) (override (γ .entry) (σ foundPosition) gone) (γ .content) (γ .content)
         (λ p n. (override-other (γ .entry) (σ foundPosition) gone p n, refl))

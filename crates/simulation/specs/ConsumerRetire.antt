@@ -50,7 +50,6 @@ retired k γ =
     record {
       shape = record { lo = suc k; tp = γ .shape .tp; hi = γ .shape .hi; at = γ .shape .at; gap = γ .shape .gap };
       entry = γ .entry;
-      owner = γ .owner;
       content = γ .content;
       history = γ .history;
     }

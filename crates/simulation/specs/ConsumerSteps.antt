@@ -59,7 +59,7 @@ is-not-set x e q b p = eqb-false x 1 b (q ∙ ap codeOf p)
 
 -- what stands beside the store, with other entries and another history
 abbrev pub withEntries : Ghost → (ℕ → Entry) → History → Ghost
-withEntries γ entries h = record { shape = γ .shape; entry = entries; owner = γ .owner; content = γ .content; history = h }
+withEntries γ entries h = record { shape = γ .shape; entry = entries; content = γ .content; history = h }
 
 -- zero into the words that a drain used; word 12 too, where it may have been in use
 abbrev pub cleared : List Write

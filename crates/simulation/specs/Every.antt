@@ -20,10 +20,11 @@ use Rattle.memory.specs.Loose.{LooseChoice, next-free-loose}
 use Rattle.simulation.specs.View.{Ghost}
 use Rattle.simulation.specs.Good.{Good, Fine, by-cond}
 use Rattle.simulation.specs.Rows.{has-sort}
+use Rattle.simulation.specs.ProducerSteps.{not-in-one}
 use Rattle.simulation.specs.ProducerWalk.{load-tail-fine, look-next-fine, shift-tail-fine, go-back-fine}
 use Rattle.simulation.specs.ProducerClaim.{claim-record-fine, claim-ahead-fine}
 use Rattle.simulation.specs.ProducerLink.{link-claimed-fine, link-ahead-fine}
-use Rattle.simulation.specs.ProducerEntry.{take-position-fine, write-entry-fine, set-entry-fine}
+use Rattle.simulation.specs.ProducerEntry.{write-entry-fine, set-entry-fine}
 use Rattle.simulation.specs.ConsumerRetire.{retire-head-fine}
 use Rattle.simulation.specs.ConsumerFront.{front-fine, read-tail-fine}
 use Rattle.simulation.specs.ConsumerScan.{scan-fine, read-entry-fine}
@@ -83,7 +84,7 @@ module _ (z : Sizes) (σ : Reader) (γ : Ghost) (good : Good z σ γ) where
     where
       by-phase : (p : ℕ) → σ (phase t) ≡ p → Fine z σ γ (step t) (getD (producerRules c) p (λ z σ t. refuse 7) z σ t)
       by-phase zero e = idle-fine t (rw (ne-eqb t 0 (λ x. omega (arith, a .0))) e)
-      by-phase (suc zero) e = take-position-fine z σ γ good t a e
+      by-phase (suc zero) e = absurd (not-in-one z σ γ good t a e)
       by-phase (suc (suc zero)) e = load-tail-fine z σ γ good t a e
       by-phase (suc (suc (suc zero))) e = look-next-fine z σ γ good t a e
       by-phase (suc (suc (suc (suc zero)))) e = claim-record-fine z σ γ good t a e c choice

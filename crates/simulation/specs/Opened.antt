@@ -57,7 +57,6 @@ openGhost =
     record {
       shape = record { lo = 1; tp = 1; hi = 1; at = λ k. 0; gap = λ k. false };
       entry = λ p. blank;
-      owner = λ p. 0;
       content = λ p. record { number = 0; value = 0 };
       history = [];
     }

@@ -91,7 +91,6 @@ withHistory s h =
       hi = s .hi;
       starts = s .starts;
       entry = s .entry;
-      owner = s .owner;
       content = s .content;
       producer = s .producer;
       consumer = s .consumer;
@@ -100,7 +99,7 @@ withHistory s h =
 
 -- what stands beside the store, with another history
 abbrev pub later : Ghost → History → Ghost
-later γ h = record { shape = γ .shape; entry = γ .entry; owner = γ .owner; content = γ .content; history = h }
+later γ h = record { shape = γ .shape; entry = γ .entry; content = γ .content; history = h }
 
 module _ (z : Sizes) (σ : Reader) (γ : Ghost) (good : Good z σ γ) where
   -- Cells outside the threads that stay as they were.
@@ -122,7 +121,7 @@ module _ (z : Sizes) (σ : Reader) (γ : Ghost) (good : Good z σ γ) where
       → h ≡ replyEvents (step t) (γ .history) r ++ γ .history
       → Goes z σ γ (step t) r ws
   producer-own t a r to ws x h own in-row thread none seen model formed grown =
-      producer-goes z σ γ good t a r to ws (γ .shape .tp) (γ .entry) (γ .owner) (γ .content) h in-sort
+      producer-goes z σ γ good t a r to ws (γ .shape .tp) (γ .entry) (γ .content) h in-sort
       (own-there z t (ofProducer t) (of-producer z t a) ws own)
       (record { parts = λ y k. same (part y k) refl; entries = λ y n i k. same (entry y i k) refl })
       (same headRecord refl, same cursorRecord refl, same foundRecord refl, same headPosition refl)

@@ -1,4 +1,4 @@
--- Producer phases 1, 8 and 9, which take a position, write its entry and set it.
+-- Producer phases 8 and 9, which write the entry at the position and set it.
 use mathlib.Core.Path.{_≡_, refl, ap, ap₂, sym, _∙_, subst, fun-ext}
 use mathlib.Core.Bool.{Bool, true, false, _&&_, cond, and-false}
 use mathlib.Core.List.{List, [], _∷_, _++_}
@@ -15,20 +15,19 @@ use Rattle.history.specs.Linearization.{Item}
 use Rattle.rules.specs.Sizes.{Sizes}
 use Rattle.rules.specs.Update.{after, both, update, areaOf, OtherKind, ownerOf, Own, own-leaves}
 use Rattle.rules.specs.Cell.{Cell, Reader, Write, _:=_, clearProducer, tail, tailRecord, headRecord, headPosition, starts, cursorRecord, foundRecord, consumer, producer, part, entry, place, state, entryNumber, entryValue, phase, call, value, position, held, backed, ofProducer}
-use Rattle.rules.specs.Range.{number, startedSorts, placedSorts, producerInRange}
+use Rattle.rules.specs.Range.{number, placedSorts, producerInRange}
 use Rattle.rules.specs.Rule.{Reply, going, ended, goes, reply, index}
-use Rattle.rules.specs.Producer.{takePosition, writeEntry, setEntry}
+use Rattle.rules.specs.Producer.{writeEntry, setEntry}
 use Rattle.rules.specs.Request.{step}
 use Rattle.rules.specs.Play.{replyEvents}
 use Rattle.rules.specs.InRange.{InSort}
-use Rattle.model.specs.State.{Entry, blank, put, gone, Producer, started, writing, setting, idle, callOf, override}
+use Rattle.model.specs.State.{Entry, blank, put, gone, Producer, writing, setting, idle, callOf, override}
 use Rattle.model.specs.Invariant.{Invariant, Inside}
 use Rattle.model.specs.Facts.{override-same, override-other, gone-not-blank}
 use Rattle.model.specs.Moves.{withProducer, withEntry, setEntry as setEntered}
 use Rattle.model.specs.Walking.{producer-clause}
-use Rattle.model.specs.Positions.{take-position, write-entry, set-entry}
+use Rattle.model.specs.Positions.{write-entry, set-entry}
 use Rattle.model.specs.Enqueues.{finish-keeps}
-use Rattle.model.specs.Count.{tail-below}
 use Rattle.model.specs.Bounds.{writing-place, setting-place}
 use Rattle.memory.specs.Memory.{ThreadOk, rowOf, held-is}
 use Rattle.memory.specs.OtherThreads.{others-kept}
@@ -52,53 +51,6 @@ set-not-gone false x e = e
 module _ (z : Sizes) (σ : Reader) (γ : Ghost) (good : Good z σ γ) (t : ℕ) (a-producer : (1 ≤ t) × (t ≤ z .P)) where
   self : eqb t t ≡ true
   self = eq-eqb t t refl
-
-  -- 1. Take: L becomes tail, tail grows by one; to 2.
-  abbrev takeWrites : List Write
-  takeWrites = position t := σ tail ∷ tail := suc (σ tail) ∷ phase t := 2 ∷ []
-
-  pub take-position-fine : σ (phase t) ≡ 1 → Fine z σ γ (step t) (takePosition z σ t)
-  unfolding takePosition
-  take-position-fine e =
-      by-up-to (Fine z σ γ (step t)) (z .M) (suc (σ tail)) _ room
-      (producer-goes z σ γ good t a-producer going tt takeWrites (γ .shape .tp) (γ .entry) (override (γ .owner) (σ tail) (σ (call t))) (γ .content) (γ .history)
-      in-sort
-      ((a-producer .0, a-producer .1, omega arith), (omega arith, ((a-producer .0, a-producer .1, omega arith), tt)))
-      (record { parts = λ x j. refl; entries = λ x u i j. refl })
-      (refl, refl, refl, refl)
-      (producer-row-of z (rowOf σ′ t) 2 two (omega arith)
-      (record { call = old .call; value = tt; position = rw self (omega (arith, room)); held = omega (arith, old .held); claimed = old .claimed; backed = omega (arith, old .backed); steps = old .steps }))
-      (unclaimed z σ (rowOf σ′ t) (good .memory .threads t .holding) (old .claimed)
-      (λ l. absurd (omega (arith, two))) (λ x. omega (arith, two)) (λ x. omega (arith, two)) (λ x. absurd (omega (arith, two))))
-      (old .claimed)
-      (omega arith, good .memory .tail-last, good .memory .tail-is)
-      (good .agrees)
-      (as-seen (take-position (z .B) (view σ γ) (good .model) t _ _ seen)
-      (producers-after t σ σ′ (others-kept z t σ takeWrites in-sort) (λ u x. refl) _ (rw self refl)))
-      (good .formed)
-      refl
-      (omega arith)
-      (λ p. ((λ x. x), (λ x. x))))
-    where
-      σ′ : Reader
-      σ′ = after σ takeWrites
-
-      old : ProducerWords z (rowOf σ t) startedSorts
-      old = own-words z σ γ good t a-producer 1 e
-
-      seen : view σ γ .producer t ≡ started (σ (call t)) (σ (value t))
-      seen = seen-at z σ γ good t a-producer 1 e
-
-      room : suc (σ tail) ≤ z .M
-      room =
-          omega
-          (arith, tail-below (z .B) (view σ γ) (good .model) t _ _ seen, has-sort z number (σ starts) (good .range .words starts (omega arith)))
-
-      two : rowOf σ′ t 0 ≡ 2
-      two = rw self refl
-
-      in-sort : All (InSort z t) takeWrites
-      in-sort = (refl, (of-sort z number (suc (σ tail)) room, (refl, tt)))
 
   -- the record held in phases 8 and 9 is linked, and the position is inside it
   held-slot : (h : ℕ) → σ (held t) ≡ suc h
@@ -132,7 +84,7 @@ module _ (z : Sizes) (σ : Reader) (γ : Ghost) (good : Good z σ γ) (t : ℕ) 
 
       writes : (h : ℕ) → Slot z σ (γ .shape) h (σ (position t)) → Goes z σ γ (step t) going (writeWrites h (index z σ h (σ (position t))))
       writes h s =
-          producer-goes z σ γ good t a-producer going tt ws (γ .shape .tp) (γ .entry) (γ .owner) (override (γ .content) (σ (position t)) what) (γ .history)
+          producer-goes z σ γ good t a-producer going tt ws (γ .shape .tp) (γ .entry) (override (γ .content) (σ (position t)) what) (γ .history)
           in-sort
           ((s .fits, s .here .below, omega arith), ((s .fits, s .here .below, omega arith), ((a-producer .0, a-producer .1, omega arith), tt)))
           (record { parts = λ x j. refl; entries = λ x n b j. rw (other-record σ h (s .linked) x n, and-false (eqb (index z σ h (σ (position t))) b), and-false (eqb 2 j), and-false (eqb 1 j)) refl })
@@ -197,7 +149,7 @@ module _ (z : Sizes) (σ : Reader) (γ : Ghost) (good : Good z σ γ) (t : ℕ) 
         → Goes z σ γ (step t) r (state h i := 1 ∷ rest)
     unfolding i
     sets rest r to x H own in-row thread none seen model formed grown =
-        producer-goes z σ γ good t a-producer r to ws (γ .shape .tp) (override (γ .entry) (σ (position t)) put) (γ .owner) (γ .content) H
+        producer-goes z σ γ good t a-producer r to ws (γ .shape .tp) (override (γ .entry) (σ (position t)) put) (γ .content) H
         in-sort
         ((s .fits, s .here .below, omega arith), own-there z t (ofProducer t) (of-producer z t a-producer) rest own)
         (record {

@@ -139,7 +139,6 @@ module _ (z : Sizes) (σ : Reader) (γ : Ghost) (good : Good z σ γ) (t : ℕ) 
         record {
           shape = record { lo = γ .shape .lo; tp = γ .shape .tp; hi = suc (γ .shape .hi); at = withPlace (γ .shape .at) (suc (γ .shape .hi)) c; gap = γ .shape .gap };
           entry = γ .entry;
-          owner = γ .owner;
           content = γ .content;
           history = H;
         }

@@ -44,7 +44,6 @@ withProducers s f =
       hi = s .hi;
       starts = s .starts;
       entry = s .entry;
-      owner = s .owner;
       content = s .content;
       producer = f;
       consumer = s .consumer;
@@ -106,14 +105,18 @@ module _ (z : Sizes) (σ : Reader) (γ : Ghost) (good : Good z σ γ) (t : ℕ) 
   pub own-words : (p : ℕ) → σ (phase t) ≡ p → ProducerWords z (rowOf σ t) (getD producerSorts p [])
   own-words = producer-row-has z (rowOf σ t) (good .range .producing t (a-producer .0) (a-producer .1))
 
+  -- none is in phase 1
+  pub not-in-one : σ (phase t) ≡ 1 → ⊥
+  not-in-one e = own-words 1 e .call
+
   -- the producer of the position machine, by its phase
   pub seen-at : (p : ℕ) → σ (phase t) ≡ p
       → view σ γ .producer t ≡ producerAt p (σ (call t)) (σ (value t)) (σ (position t)) (placeOf (placesOf σ) (σ (held t)))
   seen-at p e = ap (λ (x : ℕ). producerAt x (σ (call t)) (σ (value t)) (σ (position t)) (placeOf (placesOf σ) (σ (held t)))) e
 
-  pub producer-goes : (r : Reply) → ToEnqueue r → (ws : List Write) (tp : ℕ) (entry : ℕ → Entry) (owner : ℕ → ℕ) (content : ℕ → Item) (h : History)
+  pub producer-goes : (r : Reply) → ToEnqueue r → (ws : List Write) (tp : ℕ) (entry : ℕ → Entry) (content : ℕ → Item) (h : History)
       → let g : ChainShape = record { lo = γ .shape .lo; tp = tp; hi = γ .shape .hi; at = γ .shape .at; gap = γ .shape .gap } in
-      let γ′ : Ghost = record { shape = g; entry = entry; owner = owner; content = content; history = h } in
+      let γ′ : Ghost = record { shape = g; entry = entry; content = content; history = h } in
       All (InSort z t) ws
       → All (WriteThere z) ws
       → Light σ (after σ ws)
@@ -129,10 +132,10 @@ module _ (z : Sizes) (σ : Reader) (γ : Ghost) (good : Good z σ γ) (t : ℕ) 
       → σ tail ≤ after σ ws tail
       → ((p : ℕ) → (entry p ≡ gone → γ .entry p ≡ gone) × (γ .entry p ≡ gone → entry p ≡ gone))
       → Goes z σ γ (step t) r ws
-  producer-goes r of ws tp entry owner content h in-sort there light fixed in-row own claims-none tail-at agrees model formed grown grows same-gone =
+  producer-goes r of ws tp entry content h in-sort there light fixed in-row own claims-none tail-at agrees model formed grown grows same-gone =
       record {
         there = there;
-        next = record { shape = record { lo = γ .shape .lo; tp = tp; hi = γ .shape .hi; at = γ .shape .at; gap = γ .shape .gap }; entry = entry; owner = owner; content = content; history = h };
+        next = record { shape = record { lo = γ .shape .lo; tp = tp; hi = γ .shape .hi; at = γ .shape .at; gap = γ .shape .gap }; entry = entry; content = content; history = h };
         good =
             record {
               sizes = good .sizes;

@@ -254,7 +254,7 @@ module _ (z : Sizes) (σ : Reader) (γ : Ghost) (good : Good z σ γ) (t : ℕ) 
     shifts : (n : ℕ) → σ (next h) ≡ suc n → Goes z σ γ (step t) going (shiftWrites n)
     shifts n r =
         producer-goes z σ γ good t a-producer going tt (shiftWrites n)
-        (suc (placeOf (placesOf σ) (σ (held t)))) (γ .entry) (γ .owner) (γ .content) (γ .history)
+        (suc (placeOf (placesOf σ) (σ (held t)))) (γ .entry) (γ .content) (γ .history)
         in-sort
         (omega arith, ((a-producer .0, a-producer .1, omega arith), tt))
         (record { parts = λ x j. refl; entries = λ x u i j. refl })

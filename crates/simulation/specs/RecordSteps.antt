@@ -95,7 +95,6 @@ withSeen s tail hp starts f c =
       hi = s .hi;
       starts = starts;
       entry = s .entry;
-      owner = s .owner;
       content = s .content;
       producer = f;
       consumer = c;

@@ -1,6 +1,6 @@
 -- The ranges of one thread's words by name, taken apart and put together by its phase.
 use mathlib.Core.Path.{_≡_, refl, subst, subst⁻¹}
-use mathlib.Core.Bool.{Bool, true}
+use mathlib.Core.Bool.{Bool, true, false≢true}
 use mathlib.Core.List.{List, [], _∷_}
 use Prim.Native.Nat.{ℕ, zero, suc, _≤_, _<_}
 use native.Mathlib.Decide.{decLt}
@@ -9,7 +9,7 @@ use lib.Dec.{leb}
 use lib.ListN.{length, getD}
 use borrow.Author.Tests.{le-leb, leb-true, eq-eqb, eqb-true}
 use Rattle.rules.specs.Sizes.{Sizes}
-use Rattle.rules.specs.Range.{Sort, unused, exactly, number, link, record-number, most, any, producerSorts, consumerSorts, lastProducerPhase, lastConsumerPhase, ofSort, ofSorts, every, threadInRange}
+use Rattle.rules.specs.Range.{Sort, unused, exactly, number, link, record-number, most, any, nothing, producerSorts, consumerSorts, lastProducerPhase, lastConsumerPhase, ofSort, ofSorts, every, threadInRange}
 use Rattle.rules.specs.InRange.{every-at, sorts-at, sorts-of}
 use Rattle.rules.specs.Update.{and-true, both}
 
@@ -22,6 +22,7 @@ OfSort z link x = x ≤ z .N
 OfSort z record-number x = (1 ≤ x) × (x ≤ z .N)
 OfSort z (most n) x = x ≤ n
 OfSort z any x = Unit
+OfSort z nothing x = ⊥
 
 pub of-sort : (z : Sizes) (s : Sort) (x : ℕ) → OfSort z s x → ofSort z s x ≡ true
 of-sort z unused x h = eq-eqb x 0 h
@@ -31,6 +32,7 @@ of-sort z link x h = le-leb x (z .N) h
 of-sort z record-number x h = and-true (le-leb 1 x (h .0)) (le-leb x (z .N) (h .1))
 of-sort z (most n) x h = le-leb x n h
 of-sort z any x h = refl
+of-sort z nothing x h = absurd h
 
 pub has-sort : (z : Sizes) (s : Sort) (x : ℕ) → ofSort z s x ≡ true → OfSort z s x
 has-sort z unused x e = eqb-true x 0 e
@@ -40,6 +42,7 @@ has-sort z link x e = leb-true x (z .N) e
 has-sort z record-number x e = let p = both (leb 1 x) (leb x (z .N)) e in (leb-true 1 x (p .0), leb-true x (z .N) (p .1))
 has-sort z (most n) x e = leb-true x n e
 has-sort z any x e = tt
+has-sort z nothing x e = absurd (false≢true e)
 
 -- words k, k + 1, .. of a row: the contents
 abbrev pub OfSorts : Sizes → (ℕ → ℕ) → ℕ → List Sort → Type 0

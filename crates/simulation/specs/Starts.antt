@@ -3,7 +3,7 @@ use mathlib.Core.Path.{_≡_, refl, ap, sym, _∙_}
 use mathlib.Core.Logic.{inl, inr, _≢_}
 use mathlib.Core.Bool.{true, _&&_, _||_, not, cond, false≢true}
 use mathlib.Core.List.{List, [], _∷_}
-use Prim.Native.Nat.{ℕ, suc, _≤_}
+use Prim.Native.Nat.{ℕ, suc, _≤_, _<_}
 use native.Mathlib.Omega.{arith}
 use lib.Dec.{eqb, ltb, leb}
 use borrow.Author.Tests.{eq-eqb, ne-eqb, eqb-true, eqb-false, ltb-false, leb-true, not-false}
@@ -11,7 +11,8 @@ use Rattle.history.specs.Lists.{All}
 use Rattle.history.specs.Event.{History, enqueueStarted, dequeueStarted}
 use Rattle.criterion.specs.Growth.{enqueue-may-start, dequeue-may-start}
 use Rattle.rules.specs.Sizes.{Sizes, between, mostDrained}
-use Rattle.rules.specs.Cell.{Reader, Write, _:=_, starts, consumer, consumerPhase, drainLimit, drainCount, phase, call, value}
+use Rattle.rules.specs.Cell.{Reader, Write, _:=_, tail, starts, consumer, producer, consumerPhase, drainLimit, drainCount, phase, call, value, position, enqueueSteps}
+use Rattle.rules.specs.Address.{There}
 use Rattle.rules.specs.Update.{after, both, neither}
 use Rattle.rules.specs.Range.{number, idleSorts, consumerInRange}
 use Rattle.rules.specs.Rule.{ok, started}
@@ -38,18 +39,30 @@ use Rattle.simulation.specs.ConsumerSteps.{consumer-words, consumer-at, 
 module _ (z : Sizes) (σ : Reader) (γ : Ghost) (good : Good z σ γ) where
   -- the writes of a start enqueue
   abbrev startWrites : (t v : ℕ) → List Write
-  startWrites t v = starts := suc (σ starts) ∷ phase t := 1 ∷ call t := suc (σ starts) ∷ value t := v ∷ []
+  startWrites t v =
+      starts := suc (σ starts)
+      ∷ tail := suc (σ tail)
+      ∷ phase t := 2
+      ∷ call t := suc (σ starts)
+      ∷ value t := v
+      ∷ position t := σ tail
+      ∷ enqueueSteps t := 1
+      ∷ []
+
+  -- every start has taken a position
+  all-placed : σ starts ≡ σ tail
+  all-placed = good .model .owners .all-placed
 
   starts-enqueue : (t v : ℕ) → (1 ≤ t) × (t ≤ z .P) → σ (phase t) ≡ 0 → suc (σ starts) ≤ z .M
       → Goes z σ γ (startEnqueue t v) (started (suc (σ starts))) (startWrites t v)
   starts-enqueue t v a e room =
       record-goes z σ γ good t a (startEnqueue t v) (started (suc (σ starts))) tt (startWrites t v) (later γ (enqueueStarted t (suc (σ starts)) v ∷ γ .history)) in-sort
-      (omega arith, ((a .0, a .1, omega arith), ((a .0, a .1, omega arith), ((a .0, a .1, omega arith), tt))))
-      (producer-row-of z (rowOf σ′ t) 1 one (omega arith)
-      (record { call = rw self room; value = tt; position = old .position; held = old .held; claimed = old .claimed; backed = old .backed; steps = omega (arith, old .steps) }))
+      (omega arith, (omega arith, (own 0 (omega arith), (own 1 (omega arith), (own 2 (omega arith), (own 3 (omega arith), (own 7 (omega arith), tt)))))))
+      (producer-row-of z (rowOf σ′ t) 2 two (omega arith)
+      (record { call = rw self room; value = tt; position = rw self (omega (arith, all-placed)); held = omega (arith, old .held); claimed = old .claimed; backed = omega (arith, old .backed); steps = rw self (omega arith) }))
       (producer-keeps z σ σ′ (γ .shape) m (record { parts = λ x j. refl; entries = λ x u i j. refl }) t (γ .shape .tp) a (others-kept z t σ (startWrites t v) in-sort)
       (unclaimed z σ (rowOf σ′ t) (m .threads t .holding) (old .claimed)
-      (λ l. absurd (omega (arith, one))) (λ x. omega (arith, one)) (λ x. omega (arith, one)) (λ x. absurd (omega (arith, one))))
+      (λ l. absurd (omega (arith, two))) (λ x. omega (arith, two)) (λ x. omega (arith, two)) (λ x. absurd (omega (arith, two))))
       (old .claimed)
       (omega arith)
       (m .tail-last)
@@ -71,6 +84,9 @@ module _ (z : Sizes) (σ : Reader) (γ : Ghost) (good : Good z σ γ) where
       m : Memory z σ (γ .shape)
       m = good .memory
 
+      own : (k : ℕ) → k < 8 → There z (producer t k)
+      own k l = (a .0, a .1, l)
+
       self : eqb t t ≡ true
       self = eq-eqb t t refl
 
@@ -80,11 +96,12 @@ module _ (z : Sizes) (σ : Reader) (γ : Ghost) (good : Good z σ γ) where
       old : ProducerWords z (rowOf σ t) idleSorts
       old = own-words z σ γ good t a 0 e
 
-      one : rowOf σ′ t 0 ≡ 1
-      one = rw self refl
+      two : rowOf σ′ t 0 ≡ 2
+      two = rw self refl
 
       in-sort : All (InSort z t) (startWrites t v)
-      in-sort = (of-sort z number (suc (σ starts)) room, (refl, (refl, (refl, tt))))
+      in-sort =
+          (of-sort z number (suc (σ starts)) room, (of-sort z number (suc (σ tail)) (omega (arith, all-placed)), (refl, (refl, (refl, (refl, (refl, tt)))))))
 
   -- *Start enqueue*.
   pub start-enqueue-fine : (t v : ℕ) → Fine z σ γ (startEnqueue t v) (startingEnqueue t v z σ)
@@ -103,7 +120,9 @@ module _ (z : Sizes) (σ : Reader) (γ : Ghost) (good : Good z σ γ) where
       let n : σ starts ≢ z .M = eqb-false (σ starts) (z .M) d in
       let most : σ starts ≤ z .M = has-sort z number (σ starts) (good .range .words starts (omega arith)) in
       let p : t ≢ 0 = eqb-false t 0 (there .0) in
-      starts-enqueue t v (omega arith, ltb-false (z .P) t (there .1)) (eqb-true (σ (phase t)) 0 (not-false (eqb (σ (phase t)) 0) c)) (omega arith))))
+      by-cond (Fine z σ γ (startEnqueue t v)) (eqb (σ tail) (z .M)) _ _
+      (λ f. absurd (n (omega (arith, all-placed, eqb-true (σ tail) (z .M) f))))
+      (λ f. starts-enqueue t v (omega arith, ltb-false (z .P) t (there .1)) (eqb-true (σ (phase t)) 0 (not-false (eqb (σ (phase t)) 0) c)) (omega arith)))))
 
   -- An idle consumer has no drain, and its words are zero; in phase 1 they are in range too.
   none : σ consumerPhase ≡ 0 → σ drainLimit ≡ 0

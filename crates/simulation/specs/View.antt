@@ -1,5 +1,5 @@
--- The position machine that a store stands for. What the store does not hold is kept beside it: where the chain stands, the
--- entries by position, which call owns a position, and the history.
+-- The position machine that a store stands for. What the store does not hold is kept beside it: where the chain stands, the entries by
+-- position, and the history.
 use mathlib.Core.Path.{_≡_}
 use mathlib.Core.Bool.{Bool, true}
 use mathlib.Core.List.{[], _∷_}
@@ -8,14 +8,13 @@ use lib.ListN.{getD}
 use Rattle.history.specs.Event.{History}
 use Rattle.history.specs.Linearization.{Item}
 use Rattle.rules.specs.Cell.{Reader, consumer, entry, tail, headPosition, starts, place}
-use Rattle.model.specs.State.{Entry, blank, put, gone, Producer, idle, started, seeking, ahead, shifting, behind, writing, setting, done, Consumer, resting, front, reading, scanning, looking, rescanning, found, holding, retiring, State}
+use Rattle.model.specs.State.{Entry, blank, put, gone, Producer, idle, seeking, ahead, shifting, behind, writing, setting, done, Consumer, resting, front, reading, scanning, looking, rescanning, found, holding, retiring, State}
 use Rattle.memory.specs.Listed.{Listed}
 use Rattle.memory.specs.Memory.{ChainShape, rowOf}
 
 pub record Ghost : Type 0 where
   pub shape : ChainShape
   pub entry : ℕ → Entry
-  pub owner : ℕ → ℕ
   pub content : ℕ → Item
   pub history : History
 
@@ -28,12 +27,12 @@ abbrev pub placeOf : (place : ℕ → ℕ) → ℕ → ℕ
 placeOf place zero = 0
 placeOf place (suc r) = place r
 
--- A producer by its phase.
+-- A producer by its phase. (None has phase 1.)
 abbrev pub producerAt : (phase n v L k : ℕ) → Producer
 producerAt phase n v L k =
     getD
     (idle
-    ∷ started n v
+    ∷ idle
     ∷ seeking n v L
     ∷ ahead n v L k
     ∷ ahead n v L k
@@ -89,7 +88,6 @@ view σ γ =
       hi = γ .shape .hi;
       starts = σ starts;
       entry = γ .entry;
-      owner = γ .owner;
       content = γ .content;
       producer = producersOf σ;
       consumer = consumerOf σ;
