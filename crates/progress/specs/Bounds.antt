@@ -1,4 +1,4 @@
--- The most steps that a call has left at its start, and that they fit a thread's word.
+-- The most steps that a call makes, and that they fit a thread's word.
 use mathlib.Core.Path.{_≡_, refl, ap}
 use mathlib.Core.Logic.{_≢_}
 use mathlib.Core.Bool.{Bool, true, false, cond}
@@ -16,14 +16,15 @@ use Rattle.rules.specs.Cell.{Reader, consumer, producer, headRecord, headPositi
 use Rattle.simulation.specs.View.{Ghost, placesOf, placeOf}
 use Rattle.simulation.specs.Good.{Good}
 use Rattle.simulation.specs.Limits.{limits}
+use Rattle.simulation.specs.ProducerSteps.{not-in-one}
 use Rattle.simulation.specs.ConsumerSteps.{head-placed}
 use Rattle.progress.specs.Arithmetic.{count-most, scaled, product, triangle, triangle-is, triangle-less}
-use Rattle.progress.specs.Measure.{phaseOf, mostEnqueueLeft, firstHandled, enqueueAt, enqueueLeft, itemSteps, dequeueAt, consumerLeft, stepsLeft}
+use Rattle.progress.specs.Measure.{phaseOf, mostEnqueue, firstHandled, enqueueAt, enqueueLeft, itemSteps, dequeueAt, consumerLeft, stepsLeft}
 
 -- By the thread: a dequeue's, or a drain's by its limit, and an enqueue's.
 abbrev pub mostLeft : Sizes → (limit : ℕ) (t : ℕ) → ℕ
 mostLeft z l zero = z .N * (5 * z .B + 3) + 3 * z .B + 1 + triangle (z .N * suc (z .B)) + itemSteps z * (l - 1)
-mostLeft z l (suc p) = mostEnqueueLeft z
+mostLeft z l (suc p) = mostEnqueue z
 
 -- They fit a thread's word.
 pub most-fits : (z : Sizes) → sizesInRange z ≡ true → (limit : ℕ) → limit ≤ mostDrained → (t : ℕ) → mostLeft z limit t ≤ mostSteps
@@ -54,10 +55,6 @@ module _ (z : Sizes) (σ : Reader) (γ : Ghost) (good : Good z σ γ) where
       most : firstHandled z σ ≤ z .N
       most = count-most (z .N) _
 
-  pub enqueue-starts : (p : ℕ) → σ (phase (suc p)) ≡ 1 → enqueueLeft z σ (suc p) ≤ mostEnqueueLeft z
-  unfolding enqueueLeft
-  enqueue-starts p e = rw e (omega arith)
-
   -- While a call is under way there is a step left.
   some-rescan : 1 ≤ triangle (z .N * suc (z .B))
   some-rescan =
@@ -80,20 +77,20 @@ module _ (z : Sizes) (σ : Reader) (γ : Ghost) (good : Good z σ γ) where
   either true a b = a
   either false a b = b
 
-  at-enqueue : (p L k tp h b : ℕ) → p ≢ 0 → p ≤ lastProducerPhase → 1 ≤ enqueueAt z σ p L k tp h b
-  at-enqueue zero L k tp h b busy l = absurd (busy refl)
-  at-enqueue (suc zero) L k tp h b busy l = omega arith
-  at-enqueue (suc (suc zero)) L k tp h b busy l = omega arith
-  at-enqueue (suc (suc (suc zero))) L k tp h b busy l = omega arith
-  at-enqueue (suc (suc (suc (suc zero)))) L k tp h b busy l = omega arith
-  at-enqueue (suc (suc (suc (suc (suc zero))))) L k tp h b busy l = omega arith
-  at-enqueue (suc (suc (suc (suc (suc (suc zero)))))) L k tp h b busy l = omega arith
-  at-enqueue (suc (suc (suc (suc (suc (suc (suc zero))))))) L k tp h b busy l = omega arith
-  at-enqueue (suc (suc (suc (suc (suc (suc (suc (suc zero)))))))) L k tp h b busy l = either (eqb b 0) (omega arith) (omega arith)
-  at-enqueue (suc (suc (suc (suc (suc (suc (suc (suc (suc zero))))))))) L k tp h b busy l = either (eqb b 0) (omega arith) (omega arith)
-  at-enqueue (suc (suc (suc (suc (suc (suc (suc (suc (suc (suc zero)))))))))) L k tp h b busy l = omega arith
-  at-enqueue (suc (suc (suc (suc (suc (suc (suc (suc (suc (suc (suc zero))))))))))) L k tp h b busy l = omega arith
-  at-enqueue (suc (suc (suc (suc (suc (suc (suc (suc (suc (suc (suc (suc p)))))))))))) L k tp h b busy l = absurd (omega arith)
+  at-enqueue : (p L k tp h b : ℕ) → p ≢ 0 → p ≢ 1 → p ≤ lastProducerPhase → 1 ≤ enqueueAt z σ p L k tp h b
+  at-enqueue zero L k tp h b busy n l = absurd (busy refl)
+  at-enqueue (suc zero) L k tp h b busy n l = absurd (n refl)
+  at-enqueue (suc (suc zero)) L k tp h b busy n l = omega arith
+  at-enqueue (suc (suc (suc zero))) L k tp h b busy n l = omega arith
+  at-enqueue (suc (suc (suc (suc zero)))) L k tp h b busy n l = omega arith
+  at-enqueue (suc (suc (suc (suc (suc zero))))) L k tp h b busy n l = omega arith
+  at-enqueue (suc (suc (suc (suc (suc (suc zero)))))) L k tp h b busy n l = omega arith
+  at-enqueue (suc (suc (suc (suc (suc (suc (suc zero))))))) L k tp h b busy n l = omega arith
+  at-enqueue (suc (suc (suc (suc (suc (suc (suc (suc zero)))))))) L k tp h b busy n l = either (eqb b 0) (omega arith) (omega arith)
+  at-enqueue (suc (suc (suc (suc (suc (suc (suc (suc (suc zero))))))))) L k tp h b busy n l = either (eqb b 0) (omega arith) (omega arith)
+  at-enqueue (suc (suc (suc (suc (suc (suc (suc (suc (suc (suc zero)))))))))) L k tp h b busy n l = omega arith
+  at-enqueue (suc (suc (suc (suc (suc (suc (suc (suc (suc (suc (suc zero))))))))))) L k tp h b busy n l = omega arith
+  at-enqueue (suc (suc (suc (suc (suc (suc (suc (suc (suc (suc (suc (suc p)))))))))))) L k tp h b busy n l = absurd (omega arith)
 
   pub some-left : (t : ℕ) → t ≤ z .P → σ (phaseOf t) ≢ 0 → 1 ≤ stepsLeft z σ t
   unfolding consumerLeft enqueueLeft
@@ -106,4 +103,5 @@ module _ (z : Sizes) (σ : Reader) (γ : Ghost) (good : Good z σ γ) where
       )
   some-left (suc p) l busy =
       let r = both (leb (σ (phase (suc p))) lastProducerPhase) (ofSorts z (λ k. σ (producer (suc p) k)) 1 (getD producerSorts (σ (phase (suc p))) [])) (good .range .producing (suc p) (omega arith) l) in
-      at-enqueue (σ (phase (suc p))) (σ (position (suc p))) (placeOf (placesOf σ) (σ (held (suc p)))) (placeOf (placesOf σ) (σ tailRecord)) (σ (held (suc p))) (σ (backed (suc p))) busy (leb-true (σ (phase (suc p))) lastProducerPhase (r .0))
+      at-enqueue (σ (phase (suc p))) (σ (position (suc p))) (placeOf (placesOf σ) (σ (held (suc p)))) (placeOf (placesOf σ) (σ tailRecord)) (σ (held (suc p))) (σ (backed (suc p))) busy
+      (not-in-one z σ γ good (suc p) (omega arith, l)) (leb-true (σ (phase (suc p))) lastProducerPhase (r .0))

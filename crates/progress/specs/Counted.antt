@@ -25,10 +25,10 @@ use Rattle.simulation.specs.View.{Ghost}
 use Rattle.simulation.specs.Good.{Good, told, Goes, Moved}
 use Rattle.simulation.specs.Rows.{OfSort, consumer-row-of, producer-row-of}
 use Rattle.simulation.specs.ConsumerSteps.{consumer-words}
-use Rattle.simulation.specs.ProducerSteps.{own-words}
+use Rattle.simulation.specs.ProducerSteps.{own-words, not-in-one}
 use Rattle.progress.specs.Measure.{phaseOf}
 
--- The count's sort in every phase but 0.
+-- The count's sort in every phase of a call under way.
 in-rows : (z : Sizes) (n : ℕ) → n ≤ mostSteps → (rows : List (List Sort)) → All (λ ss. getD ss 6 any ≡ steps) rows → (p : ℕ) → OfSort z (getD (getD rows p []) 6 any) n
 in-rows z n h [] a p = tt
 in-rows z n h (ss ∷ rows) a zero = rw (a .0) h
@@ -38,9 +38,10 @@ of-consumer : (z : Sizes) (n p : ℕ) → p ≢ 0 → n ≤ mostSteps → OfSort
 of-consumer z n zero b h = absurd (b refl)
 of-consumer z n (suc p) b h = in-rows z n h (drop 1 consumerSorts) (refl, (refl, (refl, (refl, (refl, (refl, (refl, (refl, tt)))))))) p
 
-of-producer : (z : Sizes) (n p : ℕ) → p ≢ 0 → n ≤ mostSteps → OfSort z (getD (getD producerSorts p []) 6 any) n
-of-producer z n zero b h = absurd (b refl)
-of-producer z n (suc p) b h = in-rows z n h (drop 1 producerSorts) (refl, (refl, (refl, (refl, (refl, (refl, (refl, (refl, (refl, (refl, (refl, tt))))))))))) p
+of-producer : (z : Sizes) (n p : ℕ) → p ≢ 0 → p ≢ 1 → n ≤ mostSteps → OfSort z (getD (getD producerSorts p []) 6 any) n
+of-producer z n zero b o h = absurd (b refl)
+of-producer z n (suc zero) b o h = absurd (o refl)
+of-producer z n (suc (suc p)) b o h = in-rows z n h (drop 2 producerSorts) (refl, (refl, (refl, (refl, (refl, (refl, (refl, (refl, (refl, (refl, tt)))))))))) p
 
 -- a store with the count of thread t written
 abbrev pub withCount : Reader → (t n : ℕ) → Reader
@@ -91,7 +92,7 @@ module _ (z : Sizes) (τ : Reader) (δ : Ghost) (good : Good z τ δ) (n : ℕ) 
           held = w .held;
           claimed = w .claimed;
           backed = w .backed;
-          steps = rw (eq-eqb (suc p) (suc p) refl) (of-producer z n (τ (phase (suc p))) busy fits);
+          steps = rw (eq-eqb (suc p) (suc p) refl) (of-producer z n (τ (phase (suc p))) busy (not-in-one z τ δ good (suc p) there) fits);
         })
 
     pub producer-counted : τ (phase (suc p)) ≢ 0 → Good z (withCount τ (suc p) n) δ

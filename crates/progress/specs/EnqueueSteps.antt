@@ -14,9 +14,10 @@ use Rattle.rules.specs.Cell.{Reader, Write, _:=_, clearProducer, tail, tailReco
 use Rattle.rules.specs.Update.{after, both, and-true}
 use Rattle.rules.specs.Range.{link, record-number}
 use Rattle.rules.specs.Rule.{refuse, reply, ended, goes, index}
-use Rattle.rules.specs.Producer.{choose, takePosition, loadTail, lookNext, claim, claimRecord, linked, linkClaimed, shiftTail, goBack, writeEntry, setEntry, claimAhead, linkAhead, producerRules, producerStep}
+use Rattle.rules.specs.Producer.{choose, loadTail, lookNext, claim, claimRecord, linked, linkClaimed, shiftTail, goBack, writeEntry, setEntry, claimAhead, linkAhead, producerRules, producerStep}
+use Rattle.rules.specs.Request.{startWrites}
 use Rattle.model.specs.Walking.{producer-clause}
-use Rattle.model.specs.Count.{take-room}
+use Rattle.model.specs.Count.{start-room}
 use Rattle.memory.specs.Memory.{Holdable, Memory, held-is, claimed-is, rowOf, tail-listed, tail-joined}
 use Rattle.memory.specs.GoingBack.{goes-back}
 use Rattle.memory.specs.Loose.{Loose, LooseChoice}
@@ -26,10 +27,10 @@ use Rattle.simulation.specs.Good.{Good, by-cond}
 use Rattle.simulation.specs.Limits.{limits}
 use Rattle.simulation.specs.Rows.{has-sort}
 use Rattle.simulation.specs.Awaiting.{behind-awaited}
-use Rattle.simulation.specs.ProducerSteps.{own-words, seen-at}
+use Rattle.simulation.specs.ProducerSteps.{own-words, not-in-one, seen-at}
 use Rattle.simulation.specs.RecordSteps.{place-same}
 use Rattle.progress.specs.Arithmetic.{count-less, count-below, count-below-two, count-some, ahead-less, ahead-next, ahead-within, ahead-some}
-use Rattle.progress.specs.Measure.{isBetween, recordsBack, roundSteps, loadSteps, enqueueAt, enqueueLeft}
+use Rattle.progress.specs.Measure.{mostEnqueue, isBetween, recordsBack, roundSteps, loadSteps, enqueueAt, enqueueLeft}
 use Rattle.progress.specs.Lowers.{Lowers, refused-lowers, goes-lowers, ended-lowers}
 use Rattle.progress.specs.Leaves.{each-need, each-up-to, each-inside}
 
@@ -104,26 +105,23 @@ module _ (z : Sizes) (σ : Reader) (γ : Ghost) (good : Good z σ γ) (p : ℕ) 
   from-to a b L′ k′ tp′ ws e f g h i some less =
       goes-lowers z σ (suc p) ws (λ x. some (sym f ∙ x)) (rw (enqueue-is z σ (suc p) a L k tp e refl refl refl, enqueue-is z (after σ ws) (suc p) b L′ k′ tp′ f g h i) less) tt
 
-  -- 1.
-  take-lowers : σ (phase (suc p)) ≡ 1 → Lowers z σ (suc p) (takePosition z σ (suc p))
-  unfolding takePosition
-  take-lowers e =
-      each-up-to (Lowers z σ (suc p)) (refused-lowers z σ (suc p)) (z .M) (suc (σ tail)) _
-      (λ l.
-      from-to 1 2 (σ tail) k tp (position (suc p) := σ tail ∷ tail := suc (σ tail) ∷ phase (suc p) := 2 ∷ []) e (rw self refl) (rw self refl) refl refl (λ x. omega arith)
-      (omega (
+  -- What a start leaves: the take is made.
+  pub start-leaves : (v : ℕ) → σ (phase (suc p)) ≡ 0 → suc (enqueueLeft z (after σ (startWrites σ (suc p) v)) (suc p)) ≤ mostEnqueue z
+  start-leaves v e =
+      omega (
         arith,
+        enqueue-is z (after σ (startWrites σ (suc p) v)) (suc p) 2 (σ tail) k tp (rw self refl) (rw self refl) refl refl,
         room,
         ahead-within (z .B) (σ tail) tp (z .P) some-entries (omega (arith, room, ap (λ (x : ℕ). z .B * x) tail-placed)),
         ahead-some (z .B) (z .P) some-entries (omega (arith, there)),
         at-most-one (ltb 0 held-word && leb (z .B * k) (σ tail)),
-      )))
+      )
     where
       room : σ tail < z .B * γ .shape .tp + z .P
       room =
-          take-room (z .B) (view σ γ) (good .model) (good .formed) (z .P)
+          start-room (z .B) (view σ γ) (good .model) (good .formed) (z .P)
           (λ u n. ap (λ (x : ℕ). producerAt x (rowOf σ u 1) (rowOf σ u 2) (rowOf σ u 3) (placeOf (placesOf σ) (rowOf σ u 4))) (m .outside u 0 n))
-          (suc p) _ _ (seen-at z σ γ good (suc p) there 1 e)
+          (suc p) there (seen-at z σ γ good (suc p) there 0 e)
 
   -- "choose" with record r, whose place is j, held: by where it leads
   chosen : (a r j : ℕ) (ws : List Write) → σ (phase (suc p)) ≡ a → σ (place r) ≡ j → after σ ws (phase (suc p)) ≡ choose z σ (suc p) r
@@ -383,7 +381,7 @@ module _ (z : Sizes) (σ : Reader) (γ : Ghost) (good : Good z σ γ) (p : ℕ) 
     where
       by-phase : (x : ℕ) → σ (phase (suc p)) ≡ x → Lowers z σ (suc p) (getD (producerRules c) x (λ z σ t. refuse 7) z σ (suc p))
       by-phase zero e = refused-lowers z σ (suc p) 7
-      by-phase (suc zero) e = take-lowers e
+      by-phase (suc zero) e = absurd (not-in-one z σ γ good (suc p) there e)
       by-phase (suc (suc zero)) e = load-lowers e
       by-phase (suc (suc (suc zero))) e = look-lowers e
       by-phase (suc (suc (suc (suc zero)))) e = claim-record-lowers e c choice

@@ -21,9 +21,9 @@ phaseOf (suc p) = phase (suc p)
 abbrev pub lastSteps : Sizes → ℕ
 lastSteps z = z .N + 1 + (4 - z .N)
 
--- At its start: at most P positions are past the tail record's, and a round passes a record of B.
-abbrev pub mostEnqueueLeft : Sizes → ℕ
-mostEnqueueLeft z = 1 + 5 * ((z .P + z .B - 1) / z .B) + lastSteps z
+-- All that it makes: the take at its start, then at most P positions are past the tail record's, and a round passes a record of B.
+abbrev pub mostEnqueue : Sizes → ℕ
+mostEnqueue z = 1 + 5 * ((z .P + z .B - 1) / z .B) + lastSteps z
 
 -- A drain's items after its next one: phases 1, 6, 7 and 8 for each, and the handled entries and record ends that are passed before it.
 abbrev pub itemSteps : Sizes → ℕ
@@ -60,7 +60,7 @@ module _ (z : Sizes) (σ : Reader) where
   enqueueAt p L k tp h b =
       getD
       (0
-      ∷ mostEnqueueLeft z
+      ∷ 0
       ∷ loadSteps L h k tp
       ∷ (4 + roundSteps L (suc k))
       ∷ (3 + roundSteps L (suc k))

@@ -10,12 +10,12 @@ use native.Mathlib.Omega.{arith}
 use lib.Dec.{eqb, leb, ltb}
 use borrow.Author.Tests.{eq-eqb, ne-eqb, eqb-true, eqb-false, ltb-false, not-false}
 use Rattle.rules.specs.Sizes.{Sizes, between, mostSteps, mostDrained}
-use Rattle.rules.specs.Cell.{Cell, Reader, Write, _:=_, consumer, producer, consumerPhase, drainLimit, drainCount, phase, call, value, starts, stepCount}
+use Rattle.rules.specs.Cell.{Cell, Reader, Write, _:=_, consumer, producer, consumerPhase, drainLimit, drainCount, phase, enqueueSteps, tail, starts, stepCount}
 use Rattle.rules.specs.Update.{after, countOf, count-is, neither}
 use Rattle.rules.specs.Rule.{Effect, Reply, refuse, reply, accepted, ok, started, going, ended, empty, item, drained, upTo}
 use Rattle.rules.specs.Producer.{producerStep}
 use Rattle.rules.specs.Consumer.{consumerStep}
-use Rattle.rules.specs.Request.{Request, startEnqueue, startDequeue, startDrain, step, startingEnqueue, startingDequeue, startingDrain, phaseStep, counted, stepping}
+use Rattle.rules.specs.Request.{Request, startEnqueue, startDequeue, startDrain, step, startingEnqueue, startingDequeue, startingDrain, startWrites, phaseStep, counted, stepping}
 use Rattle.rules.specs.Play.{threadOf, oneMore, stepsWith}
 use Rattle.memory.specs.Loose.{LooseChoice}
 use Rattle.simulation.specs.View.{Ghost}
@@ -23,13 +23,12 @@ use Rattle.simulation.specs.Good.{Good, Refusable, Goes, Fine, Moved, by-cond, 
 use Rattle.simulation.specs.Every.{effectTaking, phase-fine}
 use Rattle.simulation.specs.Starts.{start-enqueue-fine, start-dequeue-fine, start-drain-fine}
 use Rattle.simulation.specs.DrainWords.{drain-in}
-use Rattle.simulation.specs.ProducerSteps.{own-words}
 use Rattle.simulation.specs.ConsumerSteps.{consumer-words, none-counted}
 use Rattle.progress.specs.Measure.{phaseOf, enqueueLeft, consumerLeft, stepsLeft}
-use Rattle.progress.specs.Bounds.{mostLeft, most-fits, some-left, consumer-starts, enqueue-starts}
+use Rattle.progress.specs.Bounds.{mostLeft, most-fits, some-left, consumer-starts}
 use Rattle.progress.specs.Others.{consumer-not-raised, enqueue-not-raised}
 use Rattle.progress.specs.Lowers.{OfThread, LimitKept, ItemsFit, Lowers, refused-lowers, lowers-of-thread, lowers-fit}
-use Rattle.progress.specs.EnqueueSteps.{enqueue-lowers}
+use Rattle.progress.specs.EnqueueSteps.{start-leaves, enqueue-lowers}
 use Rattle.progress.specs.DequeueSteps.{dequeue-lowers}
 use Rattle.progress.specs.Counted.{withCount, count-written, goes-counted}
 
@@ -156,19 +155,15 @@ module _ (z : Sizes) (σ : Reader) (γ : Ghost) (good : Good z σ γ) (paced : P
           (other-count z σ σ′ γ (g .next) good (g .good) (threadOf q) (g .moved) u n
           ∙ before (λ e. busy (other-phase z σ σ′ γ (g .next) good (g .good) (threadOf q) (g .moved) u n ∙ e)))
 
-  -- *Start enqueue*: no step is made, and all are left.
-  abbrev startWrites : (t v : ℕ) → List Write
-  startWrites t v = starts := suc (σ starts) ∷ phase t := 1 ∷ call t := suc (σ starts) ∷ value t := v ∷ []
-
-  begins : (t v : ℕ) → t ≢ 0 → t ≤ z .P → σ (phase t) ≡ 0 → Goes z σ γ (startEnqueue t v) (started (suc (σ starts))) (startWrites t v)
-      → Paces z σ γ (startEnqueue t v) (started (suc (σ starts))) (startWrites t v)
+  -- *Start enqueue*: the take is made, and the others are left.
+  begins : (t v : ℕ) → t ≢ 0 → t ≤ z .P → σ (phase t) ≡ 0 → Goes z σ γ (startEnqueue t v) (started (suc (σ starts))) (startWrites σ t v)
+      → Paces z σ γ (startEnqueue t v) (started (suc (σ starts))) (startWrites σ t v)
   begins zero v n l e g = absurd (n refl)
   begins (suc p) v n l e g =
-      let none : σ (producer (suc p) 7) ≡ 0 = own-words z σ γ good (suc p) (omega arith, l) 0 e .steps in
-      let one : after σ (startWrites (suc p) v) (phase (suc p)) ≡ 1 = rw (eq-eqb (suc p) (suc p) refl) refl in
-      keeps-of (startEnqueue (suc p) v) (started (suc (σ starts))) (startWrites (suc p) v) g
-      (λ h busy. omega (arith, enqueue-starts z (after σ (startWrites (suc p) v)) (g .next) (g .good) p one))
-      (λ k h busy before. none)
+      let one : after σ (startWrites σ (suc p) v) (enqueueSteps (suc p)) ≡ 1 = rw (eq-eqb (suc p) (suc p) refl) refl in
+      keeps-of (startEnqueue (suc p) v) (started (suc (σ starts))) (startWrites σ (suc p) v) g
+      (λ h busy. omega (arith, one, start-leaves z σ γ good p (omega arith, l) v e))
+      (λ k h busy before. one)
       (λ i. absurd (subst OtherThanGoing i tt))
       (λ is other. absurd is)
 
@@ -182,7 +177,9 @@ module _ (z : Sizes) (σ : Reader) (γ : Ghost) (good : Good z σ γ) (paced : P
       (λ c.
       by-cond P (eqb (σ starts) (z .M)) _ _ (λ d f. f)
       (λ d.
-      begins t v (eqb-false t 0 (there .0)) (ltb-false (z .P) t (there .1)) (eqb-true (σ (phase t)) 0 (not-false (eqb (σ (phase t)) 0) c)))))
+      by-cond P (eqb (σ tail) (z .M)) _ _ (λ x f. f)
+      (λ x.
+      begins t v (eqb-false t 0 (there .0)) (ltb-false (z .P) t (there .1)) (eqb-true (σ (phase t)) 0 (not-false (eqb (σ (phase t)) 0) c))))))
       (start-enqueue-fine z σ γ good t v)
     where
       P : Effect → Type 0

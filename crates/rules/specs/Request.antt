@@ -97,22 +97,26 @@ abbrev pub lending : (buffer : List ℕ) (from : ℕ) → Request → Invocation
 lending b n q = record { request = q; buffer = b; from = n }
 
 -- *Start enqueue* gives call number starts + 1 and takes a position: L becomes tail, tail grows by one. The take is the call's first step;
--- phase 2 (document 02, U8). 4: no such producer. 5: that thread has a call under way. 6: starts equal M. 9: tail equals M.
-unfoldable pub startingEnqueue : (t v : ℕ) → Sizes → Reader → Effect
-startingEnqueue t v z σ =
-    cond (eqb t 0 || ltb (z .P) t) (refuse 4)
-    (cond (not (eqb (σ (phase t)) 0)) (refuse 5)
-    (cond (eqb (σ starts) (z .M)) (refuse 6)
-    (cond (eqb (σ tail) (z .M)) (refuse 9)
-    (reply (started (suc (σ starts)))
-    (starts := suc (σ starts)
+-- phase 2 (document 02, U8).
+abbrev pub startWrites : Reader → (t v : ℕ) → List Write
+startWrites σ t v =
+    starts := suc (σ starts)
     ∷ tail := suc (σ tail)
     ∷ phase t := 2
     ∷ call t := suc (σ starts)
     ∷ value t := v
     ∷ position t := σ tail
     ∷ enqueueSteps t := 1
-    ∷ [])))))
+    ∷ []
+
+-- 4: no such producer. 5: that thread has a call under way. 6: starts equal M. 9: tail equals M.
+unfoldable pub startingEnqueue : (t v : ℕ) → Sizes → Reader → Effect
+startingEnqueue t v z σ =
+    cond (eqb t 0 || ltb (z .P) t) (refuse 4)
+    (cond (not (eqb (σ (phase t)) 0)) (refuse 5)
+    (cond (eqb (σ starts) (z .M)) (refuse 6)
+    (cond (eqb (σ tail) (z .M)) (refuse 9)
+    (reply (started (suc (σ starts))) (startWrites σ t v)))))
 
 -- *Start dequeue* puts the consumer in phase 1. 5: that thread has a call under way.
 unfoldable pub startingDequeue : Sizes → Reader → Effect

@@ -11,12 +11,12 @@ use Rattle.history.specs.Lists.{All}
 use Rattle.history.specs.Event.{History, enqueueStarted, dequeueStarted}
 use Rattle.criterion.specs.Growth.{enqueue-may-start, dequeue-may-start}
 use Rattle.rules.specs.Sizes.{Sizes, between, mostDrained}
-use Rattle.rules.specs.Cell.{Reader, Write, _:=_, tail, starts, consumer, producer, consumerPhase, drainLimit, drainCount, phase, call, value, position, enqueueSteps}
+use Rattle.rules.specs.Cell.{Reader, Write, _:=_, tail, starts, consumer, producer, consumerPhase, drainLimit, drainCount, phase}
 use Rattle.rules.specs.Address.{There}
 use Rattle.rules.specs.Update.{after, both, neither}
 use Rattle.rules.specs.Range.{number, idleSorts, consumerInRange}
 use Rattle.rules.specs.Rule.{ok, started}
-use Rattle.rules.specs.Request.{startEnqueue, startDequeue, startDrain, startingEnqueue, startingDequeue, startingDrain}
+use Rattle.rules.specs.Request.{startEnqueue, startDequeue, startDrain, startingEnqueue, startingDequeue, startingDrain, startWrites}
 use Rattle.rules.specs.InRange.{InSort}
 use Rattle.model.specs.State
 use Rattle.model.specs.State.{callOf}
@@ -37,30 +37,18 @@ use Rattle.simulation.specs.RecordSteps.{record-goes}
 use Rattle.simulation.specs.ConsumerSteps.{consumer-words, consumer-at, no-scan, consumer-light, none-counted}
 
 module _ (z : Sizes) (σ : Reader) (γ : Ghost) (good : Good z σ γ) where
-  -- the writes of a start enqueue
-  abbrev startWrites : (t v : ℕ) → List Write
-  startWrites t v =
-      starts := suc (σ starts)
-      ∷ tail := suc (σ tail)
-      ∷ phase t := 2
-      ∷ call t := suc (σ starts)
-      ∷ value t := v
-      ∷ position t := σ tail
-      ∷ enqueueSteps t := 1
-      ∷ []
-
   -- every start has taken a position
   all-placed : σ starts ≡ σ tail
   all-placed = good .model .owners .all-placed
 
   starts-enqueue : (t v : ℕ) → (1 ≤ t) × (t ≤ z .P) → σ (phase t) ≡ 0 → suc (σ starts) ≤ z .M
-      → Goes z σ γ (startEnqueue t v) (started (suc (σ starts))) (startWrites t v)
+      → Goes z σ γ (startEnqueue t v) (started (suc (σ starts))) (startWrites σ t v)
   starts-enqueue t v a e room =
-      record-goes z σ γ good t a (startEnqueue t v) (started (suc (σ starts))) tt (startWrites t v) (later γ (enqueueStarted t (suc (σ starts)) v ∷ γ .history)) in-sort
+      record-goes z σ γ good t a (startEnqueue t v) (started (suc (σ starts))) tt (startWrites σ t v) (later γ (enqueueStarted t (suc (σ starts)) v ∷ γ .history)) in-sort
       (omega arith, (omega arith, (own 0 (omega arith), (own 1 (omega arith), (own 2 (omega arith), (own 3 (omega arith), (own 7 (omega arith), tt)))))))
       (producer-row-of z (rowOf σ′ t) 2 two (omega arith)
       (record { call = rw self room; value = tt; position = rw self (omega (arith, all-placed)); held = omega (arith, old .held); claimed = old .claimed; backed = omega (arith, old .backed); steps = rw self (omega arith) }))
-      (producer-keeps z σ σ′ (γ .shape) m (record { parts = λ x j. refl; entries = λ x u i j. refl }) t (γ .shape .tp) a (others-kept z t σ (startWrites t v) in-sort)
+      (producer-keeps z σ σ′ (γ .shape) m (record { parts = λ x j. refl; entries = λ x u i j. refl }) t (γ .shape .tp) a (others-kept z t σ (startWrites σ t v) in-sort)
       (unclaimed z σ (rowOf σ′ t) (m .threads t .holding) (old .claimed)
       (λ l. absurd (omega (arith, two))) (λ x. omega (arith, two)) (λ x. omega (arith, two)) (λ x. absurd (omega (arith, two))))
       (old .claimed)
@@ -72,13 +60,13 @@ module _ (z : Sizes) (σ : Reader) (γ : Ghost) (good : Good z σ γ) where
       refl)
       (good .agrees)
       (as-seen (begin-enqueue (z .B) (view σ γ) (good .model) t v)
-      (producers-after t σ σ′ (others-kept z t σ (startWrites t v) in-sort) (λ u x. refl) _ (rw self refl)))
+      (producers-after t σ σ′ (others-kept z t σ (startWrites σ t v) in-sort) (λ u x. refl) _ (rw self refl)))
       refl
       (λ p x. x)
       (enqueue-may-start (γ .history) (good .formed) t (suc (σ starts)) v (good .model .calls .of-producers t ∙ ap callOf (seen-at z σ γ good t a 0 e))
       (λ b. omega (arith, good .model .past .numbered (suc (σ starts)) b .1)))
       refl
-      (places-stay z t σ γ _ (startWrites t v) in-sort (λ x. refl) (omega arith) (omega arith) (omega arith)
+      (places-stay z t σ γ _ (startWrites σ t v) in-sort (λ x. refl) (omega arith) (omega arith) (omega arith)
       (λ l. record { same-head = refl; same-first = refl; same-gaps = λ k. refl; same-records = λ k h. refl; was-gone = λ p e. e }))
     where
       m : Memory z σ (γ .shape)
@@ -91,7 +79,7 @@ module _ (z : Sizes) (σ : Reader) (γ : Ghost) (good : Good z σ γ) where
       self = eq-eqb t t refl
 
       σ′ : Reader
-      σ′ = after σ (startWrites t v)
+      σ′ = after σ (startWrites σ t v)
 
       old : ProducerWords z (rowOf σ t) idleSorts
       old = own-words z σ γ good t a 0 e
@@ -99,7 +87,7 @@ module _ (z : Sizes) (σ : Reader) (γ : Ghost) (good : Good z σ γ) where
       two : rowOf σ′ t 0 ≡ 2
       two = rw self refl
 
-      in-sort : All (InSort z t) (startWrites t v)
+      in-sort : All (InSort z t) (startWrites σ t v)
       in-sort =
           (of-sort z number (suc (σ starts)) room, (of-sort z number (suc (σ tail)) (omega (arith, all-placed)), (refl, (refl, (refl, (refl, (refl, tt)))))))
 
