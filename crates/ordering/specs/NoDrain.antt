@@ -9,7 +9,7 @@ use lib.Dec.{eqb, ltb}
 use borrow.Author.Tests.{le-ltb}
 use Rattle.history.specs.Event.{History}
 use Rattle.rules.specs.Sizes.{Sizes}
-use Rattle.rules.specs.Cell.{Reader, reader, Write, _:=_, starts, consumerPhase, phase, drainLimit, drainCount}
+use Rattle.rules.specs.Cell.{Reader, reader, Write, _:=_, tail, starts, consumerPhase, phase, drainLimit, drainCount}
 use Rattle.rules.specs.Update.{after}
 use Rattle.rules.specs.Free.{nextFree}
 use Rattle.rules.specs.Rule.{Effect, Reply, refuse, reply, Response, refused, accepted, ok, started, going, ended, empty, item, drained}
@@ -86,7 +86,9 @@ module _ {z : Sizes} {p : Played} (k : Maintained z p) (none : Undrained z p) wh
       by-cond P (not (eqb (σ (phase t)) 0)) _ _ (λ c e. absurd (reply-not-refuse e))
       (λ c.
       by-cond P (eqb (σ starts) (z .M)) _ _ (λ d e. absurd (reply-not-refuse e))
-      (λ d e. (suc (σ starts), same-reply e))))
+      (λ d.
+      by-cond P (eqb (σ tail) (z .M)) _ _ (λ x e. absurd (reply-not-refuse e))
+      (λ x e. (suc (σ starts), same-reply e)))))
     where
       P : Effect → Type 0
       P a = a ≡ reply r ws → (n : ℕ) × (started n ≡ r)

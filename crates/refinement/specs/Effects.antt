@@ -17,7 +17,7 @@ use Rattle.rules.specs.Cell.{Cell, Reader, reader, Write, tailRecord, headRecor
 use Rattle.rules.specs.Range.{inRange}
 use Rattle.rules.specs.Free.{nextFree}
 use Rattle.rules.specs.Rule.{Reply, ok, started, going, ended, empty, item, drained, Effect, refuse, reply, need, upTo, within, index, atEnd}
-use Rattle.rules.specs.Producer.{linked, takePosition, loadTail, lookNext, claimRecord, linkClaimed, shiftTail, goBack, writeEntry, setEntry, claimAhead, linkAhead, producerRules, producerStep}
+use Rattle.rules.specs.Producer.{linked, loadTail, lookNext, claimRecord, linkClaimed, shiftTail, goBack, writeEntry, setEntry, claimAhead, linkAhead, producerRules, producerStep}
 use Rattle.rules.specs.Consumer.{byState, endsEmpty, repliesItem, goesOn, front, readTail, isRead, scan, readEntry, rescan, readItem, drainedAt, marks, keepItem, markHandled, retireHead, consumerRules, consumerStep}
 use Rattle.rules.specs.Request.{Request, startEnqueue, startDequeue, startDrain, step, startingEnqueue, startingDequeue, startingDrain, phaseStep, countKept, counted, stepping, effect, sizesOf, admitted}
 use Rattle.rules.specs.Update.{countOf, count-is, both, neither}
@@ -225,10 +225,6 @@ module _ (z : Sizes) (σ : Reader) (range : InRange z σ) (t : ℕ) where
     unfolding links isLink
     claimed-most = producer-link range t there 4 refl
 
-    take-sound : S (takePosition z σ t)
-    unfolding takePosition
-    take-sound = up-to (z .M) (suc (σ tail)) _ (omega arith)
-
     load-sound : S (loadTail z σ t)
     unfolding loadTail
     load-sound = needs (σ tailRecord) _ tail-most λ r h. omega arith
@@ -296,7 +292,7 @@ module _ (z : Sizes) (σ : Reader) (range : InRange z σ) (t : ℕ) where
       where
         by-phase : (p : ℕ) → S (getD (producerRules c) p (λ z σ t. refuse 7) z σ t)
         by-phase zero = omega arith
-        by-phase (suc zero) = take-sound
+        by-phase (suc zero) = omega arith
         by-phase (suc (suc zero)) = load-sound
         by-phase (suc (suc (suc zero))) = look-sound
         by-phase (suc (suc (suc (suc zero)))) = claim-sound c h
@@ -317,6 +313,7 @@ module _ (z : Sizes) (σ : Reader) (range : InRange z σ) where
       λ e. let n = neither (eqb t 0) (ltb (z .P) t) e in
       by-cond z (startEnqueue t v) (not (eqb (σ (phase t)) 0)) _ _ (λ _. omega arith)
       λ _. by-cond z (startEnqueue t v) (eqb (σ starts) (z .M)) _ _ (λ _. omega arith)
+      λ _. by-cond z (startEnqueue t v) (eqb (σ tail) (z .M)) _ _ (λ _. omega arith)
       λ _. omega (arith, eqb-false t 0 (n .0), ltb-false (z .P) t (n .1))
 
   start-dequeue-sound : Sound z startDequeue (startingDequeue z σ)

@@ -9,11 +9,11 @@ use lib.ListN.{length, getD}
 use borrow.Author.Tests.{leb-true, eqb-true}
 use Rattle.rules.specs.Sizes.{Sizes, lastClaimedWord}
 use Rattle.rules.specs.Cell.{Reader, content, lastClaimed, consumer, producer, part}
-use Rattle.rules.specs.Range.{Sort, unused, exactly, number, link, record-number, most, any, ofSort, ofSorts, threadInRange, lastClaimedSort, consumerSorts, producerSorts, lastConsumerPhase, lastProducerPhase}
+use Rattle.rules.specs.Range.{Sort, unused, exactly, number, link, record-number, most, any, nothing, ofSort, ofSorts, threadInRange, lastClaimedSort, consumerSorts, producerSorts, lastConsumerPhase, lastProducerPhase}
 use Rattle.rules.specs.Update.{both, true-false}
 use Rattle.rules.specs.InRange.{InRange, sortOf}
 
--- a sort that allows record numbers alone
+-- a sort that allows record numbers alone, or nothing
 unfoldable pub isLink : Sort → Bool
 isLink unused = true
 isLink (exactly n) = false
@@ -22,6 +22,7 @@ isLink link = true
 isLink record-number = true
 isLink (most n) = false
 isLink any = false
+isLink nothing = true
 
 link-most : (z : Sizes) (s : Sort) (x : ℕ) → isLink s ≡ true → ofSort z s x ≡ true → x ≤ z .N
 unfolding isLink
@@ -32,6 +33,7 @@ link-most z link x l e = leb-true x (z .N) e
 link-most z record-number x l e = leb-true x (z .N) (both (leb 1 x) (leb x (z .N)) e .1)
 link-most z (most n) x l e = absurd (true-false l refl)
 link-most z any x l e = absurd (true-false l refl)
+link-most z nothing x l e = absurd (true-false e refl)
 
 -- word k of a row, where its sort is such a one
 link-at : (z : Sizes) (row : ℕ → ℕ) (i j k : ℕ) (ss : List Sort) → i + j ≡ k → isLink (getD ss j any) ≡ true → ofSorts z row i ss ≡ true → row k ≤ z .N

@@ -7,16 +7,16 @@ use Prim.Native.Nat.{ℕ, zero, suc}
 use lib.Dec.{eqb, ltb}
 use lib.ListN.{getD}
 use Rattle.rules.specs.Sizes.{Sizes, between, mostSteps, mostDrained}
-use Rattle.rules.specs.Cell.{Reader, Write, _:=_, consumer, producer, starts, consumerPhase, drainLimit, phase, call, value, stepCount}
+use Rattle.rules.specs.Cell.{Reader, Write, _:=_, consumer, producer, tail, starts, consumerPhase, drainLimit, phase, stepCount}
 use Rattle.rules.specs.Update.{update, after, after-more, countOf, count-is}
 use Rattle.rules.specs.Rule.{Effect, Reply, refuse, reply, ok, started, going, ended, empty, item, drained}
 use Rattle.rules.specs.Producer.{producerRules, producerStep}
 use Rattle.rules.specs.Consumer.{consumerRules, consumerStep}
-use Rattle.rules.specs.Request.{Request, countKept, startEnqueue, startDequeue, startDrain, step, startingEnqueue, startingDequeue, startingDrain, phaseStep, counted, stepping, stepsSoFar}
+use Rattle.rules.specs.Request.{Request, countKept, startEnqueue, startDequeue, startDrain, step, startingEnqueue, startingDequeue, startingDrain, startWrites, phaseStep, counted, stepping, stepsSoFar}
 use Rattle.simulation.specs.Every.{effectTaking}
 use Rattle.renaming.specs.AlikeEffects.{Stores, Like, by-refusal, by-cond, by-up-to, by-plain}
 use Rattle.renaming.specs.AlikeRecords.{Twins}
-use Rattle.renaming.specs.AlikeProducer.{take-position-alike, load-tail-alike, look-next-alike, link-claimed-alike, link-ahead-alike, shift-tail-alike, go-back-alike, write-entry-alike, set-entry-alike}
+use Rattle.renaming.specs.AlikeProducer.{load-tail-alike, look-next-alike, link-claimed-alike, link-ahead-alike, shift-tail-alike, go-back-alike, write-entry-alike, set-entry-alike}
 use Rattle.renaming.specs.AlikeClaims.{BothChoose, claim-record-alike, claim-ahead-alike}
 use Rattle.renaming.specs.AlikeConsumer.{front-alike, read-tail-alike, scan-alike, read-entry-alike, rescan-alike, read-item-alike, mark-handled-alike, retire-head-alike}
 
@@ -94,7 +94,7 @@ module _ {z : Sizes} {σ τ : Reader} (pair : Twins z σ τ) where
       by-phase : (p : ℕ) → σ (phase t) ≡ p
           → Like z σ τ (getD (producerRules c) p (λ z σ t. refuse 7) z σ t) (getD (producerRules d) p (λ z σ t. refuse 7) z τ t)
       by-phase zero e = idle-alike
-      by-phase (suc zero) e = take-position-alike pair t
+      by-phase (suc zero) e = idle-alike
       by-phase (suc (suc zero)) e = load-tail-alike pair t
       by-phase (suc (suc (suc zero))) e = look-next-alike pair t
       by-phase (suc (suc (suc (suc zero)))) e = claim-record-alike pair t c d both
@@ -131,6 +131,7 @@ module _ {z : Sizes} {σ τ : Reader} (pair : Twins z σ τ) where
   unfolding startingEnqueue
   start-enqueue-alike t v =
       let count : τ starts ≡ σ starts = pair .stores .alike .words starts tt in
+      let next : τ tail ≡ σ tail = pair .stores .alike .words tail tt in
       by-cond (eqb t 0 || ltb (z .P) t) (eqb t 0 || ltb (z .P) t) refl
       (λ b. by-refusal 4)
       (λ b.
@@ -140,8 +141,9 @@ module _ {z : Sizes} {σ τ : Reader} (pair : Twins z σ τ) where
       by-cond (eqb (σ starts) (z .M)) (eqb (τ starts) (z .M)) (rw count refl)
       (λ d. by-refusal 6)
       (λ d.
-      rw count
-      (by-plain (pair .stores) (started (suc (σ starts))) (starts := suc (σ starts) ∷ phase t := 1 ∷ call t := suc (σ starts) ∷ value t := v ∷ []) _ refl refl))))
+      by-cond (eqb (σ tail) (z .M)) (eqb (τ tail) (z .M)) (rw next refl)
+      (λ e. by-refusal 9)
+      (λ e. rw (count, next) (by-plain (pair .stores) (started (suc (σ starts))) (startWrites σ t v) _ refl refl)))))
 
   start-dequeue-alike : Like z σ τ (startingDequeue z σ) (startingDequeue z τ)
   unfolding startingDequeue

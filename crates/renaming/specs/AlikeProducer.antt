@@ -9,10 +9,10 @@ use native.Mathlib.Omega.{arith}
 use lib.Dec.{eqb}
 use borrow.Author.Tests.{eqb-true}
 use Rattle.rules.specs.Sizes.{Sizes, mostPlace}
-use Rattle.rules.specs.Cell.{Reader, Write, _:=_, clearProducer, tail, tailRecord, phase, call, value, position, held, claimed, backed, place, next, prev, used, state, entryNumber, entryValue}
+use Rattle.rules.specs.Cell.{Reader, Write, _:=_, clearProducer, tailRecord, phase, call, value, position, held, claimed, backed, place, next, prev, used, state, entryNumber, entryValue}
 use Rattle.rules.specs.Update.{after}
 use Rattle.rules.specs.Rule.{Reply, going, ended, reply}
-use Rattle.rules.specs.Producer.{choose, takePosition, loadTail, lookNext, linked, linkClaimed, shiftTail, goBack, writeEntry, setEntry, linkAhead}
+use Rattle.rules.specs.Producer.{choose, loadTail, lookNext, linked, linkClaimed, shiftTail, goBack, writeEntry, setEntry, linkAhead}
 use Rattle.memory.specs.Memory.{Holdable, Memory}
 use Rattle.renaming.specs.Renaming.{writesTo}
 use Rattle.renaming.specs.Plain.{allPlain, not-written, plain-writes}
@@ -31,18 +31,8 @@ module _ {z : Sizes} {σ τ : Reader} (pair : Twins z σ τ) (t : ℕ) where
   m : Memory z σ (pair .γ .shape)
   m = pair .good .memory
 
-  tail-same : τ tail ≡ σ tail
-  tail-same = a .words tail tt
-
   position-same : τ (position t) ≡ σ (position t)
   position-same = a .words (position t) tt
-
-  -- 1. Take.
-  pub take-position-alike : Like z σ τ (takePosition z σ t) (takePosition z τ t)
-  unfolding takePosition
-  take-position-alike =
-      by-up-to (z .M) (suc (σ tail)) (suc (τ tail)) (ap suc tail-same)
-      (by-plain (pair .stores) going (position t := σ tail ∷ tail := suc (σ tail) ∷ phase t := 2 ∷ []) _ (rw tail-same refl) refl)
 
   -- A record comes to be held from which the way back is the same, and the phase is chosen by its place.
   module _ (r : ℕ) (may-hold : Holdable σ r) (way : WayAlike f σ τ r) where
