@@ -3,7 +3,7 @@
 -- The proof keeps a history in which an item is given at its mark and the next dequeue is opened there. What the caller is told may
 -- differ: the item's end comes later, after some enqueue events, and it opens no dequeue.
 use mathlib.Core.Path.{_≡_}
-use mathlib.Core.List.{[], _∷_}
+use mathlib.Core.List.{_∷_}
 use Prim.Native.Nat.{ℕ}
 use Rattle.history.specs.Event.{Event, History, enqueueStarted, enqueueEnded, dequeueStarted, gaveItem, gaveEmpty}
 use Rattle.criterion.specs.Explained.{Started, Begun, Ended, Taken, EndedBefore, current}

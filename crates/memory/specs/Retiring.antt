@@ -43,10 +43,6 @@ module _ (z : Sizes) (σ σ′ : Reader) (g : ChainShape) (m : Memory z σ g) (h
   abbrev pub without : ChainShape
   without = record { lo = lo′; tp = g .tp; hi = g .hi; at = g .at; gap = gap′ }
 
-  -- a record that is not linked is another one
-  not-h : (x : ℕ) → (σ (used x) ≡ 2 → ⊥) → x ≡ h → ⊥
-  not-h x n e = n (rw e (s .was))
-
   still : (x : ℕ) → Dec (x ≡ h) → Holdable σ x → Holdable σ′ x
   still x (yes e) u = inr (rw e (s .gone))
   still x (no n) (inl u) = inl (s .uses x n ∙ u)

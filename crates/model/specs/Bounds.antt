@@ -6,7 +6,7 @@ use Prim.Native.Nat.{ℕ, suc, _*_, _≤_, _<_}
 use native.Mathlib.Nat.{lt-of-mul-lt-mul-left}
 use native.Mathlib.Omega.{arith}
 use Rattle.history.specs.Linearization.{Item}
-use Rattle.model.specs.State.{gone, behind, writing, setting, scanning, looking, rescanning, found, holding, State}
+use Rattle.model.specs.State.{gone, writing, setting, scanning, looking, rescanning, found, holding, State}
 use Rattle.model.specs.Invariant.{AtPosition, Inside, Reached, Found, Invariant}
 use Rattle.model.specs.Facts.{gone-not-blank}
 use Rattle.model.specs.Known.{lt-unless, blank-past-head}
@@ -28,11 +28,6 @@ module _ (B : ℕ) (s : State) (i : Invariant B s) where
       omega arith
 
   module _ (t n v L k : ℕ) where
-    pub behind-past-first : s .producer t ≡ behind n v L k → lo < k
-    behind-past-first e =
-        let o = producer-clause B s i t _ e in
-        lt-of-mul-lt-mul-left B (omega (arith, i .places, placed-past-head n v L (o .0)))
-
     pub writing-place : s .producer t ≡ writing n v L k → (lo ≤ k) × (k ≤ tp) × Inside B L k
     writing-place e = let o = producer-clause B s i t _ e in (placed-place n v L k (o .0) (o .2 .0), o .1, o .2)
 

@@ -8,7 +8,7 @@ use native.Mathlib.Decide.{decLt}
 use native.Mathlib.Omega.{arith}
 use Rattle.history.specs.Event.{History, enqueueStarted, enqueueEnded}
 use Rattle.criterion.specs.Explained.{Started, Begun, Ended, Taken, EndedBefore}
-use Rattle.model.specs.State.{Entry, blank, put, gone, idle, seeking, done, State, owner, override, initial}
+use Rattle.model.specs.State.{Entry, blank, put, gone, idle, seeking, done, State, owner, initial}
 use Rattle.model.specs.Invariant.{Has, ProducerOk, Invariant}
 use Rattle.model.specs.Moves.{beginEnqueue, finish}
 use Rattle.model.specs.Facts.{started-begun, ended-before-ended, put-not-blank, override-all}

@@ -1,7 +1,7 @@
 -- Laws of the history's facts, of entries and of functions changed at one place. From the definitions of crate criterion and of
 -- State alone.
 use mathlib.Core.Path.{_≡_, refl, sym, subst}
-use mathlib.Core.Logic.{_⊎_, inl, inr, _≢_}
+use mathlib.Core.Logic.{inl, inr, _≢_}
 use mathlib.Core.Bool.{Bool, true, false, cond}
 use mathlib.Core.List.{_∷_}
 use Prim.Native.Nat.{ℕ}
@@ -60,10 +60,3 @@ module _ {A : Type 0} (f : ℕ → A) (k : ℕ) (x : A) where
       go : (b : Bool) → eqb k j ≡ b → P j (cond b x (f j))
       go true e = subst (λ (i : ℕ). P i x) (eqb-true k j e) here
       go false e = there j (λ d. eqb-false k j e (sym d))
-
-  -- a value of the changed function is x, at k, or a value of f elsewhere
-  abbrev pub OverrideCases : ℕ → A → Type 0
-  OverrideCases j y = ((j ≡ k) × (x ≡ y)) ⊎ ((j ≢ k) × (f j ≡ y))
-
-  pub override-cases : (j : ℕ) (y : A) → override f k x j ≡ y → OverrideCases j y
-  override-cases j y = override-all (λ i a. a ≡ y → OverrideCases i y) (λ e. inl (refl, e)) (λ i ne e. inr (ne, e)) j

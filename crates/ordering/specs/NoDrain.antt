@@ -12,8 +12,8 @@ use Rattle.rules.specs.Sizes.{Sizes}
 use Rattle.rules.specs.Cell.{Reader, reader, Write, _:=_, tail, starts, consumerPhase, phase, drainLimit, drainCount}
 use Rattle.rules.specs.Update.{after}
 use Rattle.rules.specs.Free.{nextFree}
-use Rattle.rules.specs.Rule.{Effect, Reply, refuse, reply, Response, refused, accepted, ok, started, going, ended, empty, item, drained}
-use Rattle.rules.specs.Request.{Request, startEnqueue, startDequeue, startDrain, step, Invocation, Result, startingEnqueue, startingDequeue, effect, stepsSoFar, result}
+use Rattle.rules.specs.Rule.{Effect, Reply, refuse, reply, ok, started, going, ended, empty, item, drained}
+use Rattle.rules.specs.Request.{Request, startEnqueue, startDequeue, startDrain, step, Invocation, Result, startingEnqueue, startingDequeue, effect, result}
 use Rattle.rules.specs.Play.{Played, recorded, historyWith, replyEvents, events, playOne}
 use Rattle.rules.specs.Readback.{reader-writes}
 use Rattle.rules.specs.Refusal.{by-applied}
@@ -21,7 +21,7 @@ use Rattle.simulation.specs.Good.{by-cond}
 use Rattle.simulation.specs.DrainWords.{drain-in}
 use Rattle.simulation.specs.Every.{effect-is, next-choice}
 use Rattle.progress.specs.Lowers.{ItemsFit}
-use Rattle.progress.specs.Paced.{OtherThanGoing, Keeps, accepted-busy}
+use Rattle.progress.specs.Paced.{Keeps, accepted-busy}
 use Rattle.ordering.specs.Theorem.{Maintained, cells-are, result-is, keeps}
 use Rattle.ordering.specs.Counting.{effect-keeps}
 
@@ -53,9 +53,6 @@ module _ {z : Sizes} {p : Played} (k : Maintained z p) (none : Undrained z p) wh
   record Plain (r : Reply) (ws : List Write) : Type 0 where
     still : after σ ws drainLimit ≡ 0
     adds : (q : Request) (τ : Reader) (h : History) → τ drainCount ≡ 0 → recorded q σ τ r h ≡ replyEvents q h r ++ h
-
-  none-marked : σ drainCount ≡ 0
-  none-marked = omega (arith, drain-in z σ (k .good .range .draining) .counted)
 
   -- a reply that hands nothing over, of a drain without a limit
   events-of : (r : Reply) → ItemsFit σ r → (q : Request) (τ : Reader) (h : History) → τ drainCount ≡ 0 → recorded q σ τ r h ≡ replyEvents q h r ++ h

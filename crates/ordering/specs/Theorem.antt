@@ -25,7 +25,7 @@ use Rattle.rules.specs.Cell.{Reader, reader, Write, writes}
 use Rattle.rules.specs.Update.{after}
 use Rattle.rules.specs.InRange.{InRange}
 use Rattle.rules.specs.Free.{nextFree}
-use Rattle.rules.specs.Rule.{Effect, Reply, refuse, reply, refused, accepted, ok}
+use Rattle.rules.specs.Rule.{Effect, Reply, reply, refused, accepted, ok}
 use Rattle.rules.specs.Request.{Request, Invocation, Result, handedOver, applied, effect, stepsSoFar, result, open-store}
 use Rattle.rules.specs.Play.{Played, recorded, historyWith, cellsOf, playOne, play, itemsLeft}
 use Rattle.rules.specs.Readback.{reader-writes, length-writes}

@@ -35,9 +35,6 @@ eqb-alike a b c d f g = go (ℕ-discrete a b)
     go (yes e) = eq-eqb a b e ∙ sym (eq-eqb c d (f e))
     go (no n) = ne-eqb a b n ∙ sym (ne-eqb c d (λ e. n (g e)))
 
-pub eqb-to : {N : ℕ} (ρ : Renaming N) (a b : ℕ) → eqb (ρ .to a) (ρ .to b) ≡ eqb a b
-eqb-to ρ a b = eqb-alike (ρ .to a) (ρ .to b) a b (to-apart ρ) (ap (ρ .to))
-
 -- A record number that is stored plus one, zero for none.
 abbrev pub renamed : (ℕ → ℕ) → ℕ → ℕ
 renamed f zero = 0

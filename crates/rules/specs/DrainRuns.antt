@@ -9,7 +9,7 @@ use Rattle.history.specs.Linearization.{Item}
 use Rattle.rules.specs.Sizes.{Sizes, storeWords}
 use Rattle.rules.specs.Cell.{Write, reader, writes, _:=_, consumerPhase, foundRecord, itemNumber, itemValue, scanned, stepCount, drainLimit, drainCount, pairNumber, pairValue, state}
 use Rattle.rules.specs.Free.{free, nextFree}
-use Rattle.rules.specs.Rule.{Response, refused, accepted, ok, started, going, ended, item, drained}
+use Rattle.rules.specs.Rule.{Response, refused, accepted, ok, going, ended, item, drained}
 use Rattle.rules.specs.Producer.{loadTail, lookNext, claimRecord, linkClaimed, shiftTail, goBack, writeEntry, setEntry, claimAhead, linkAhead, producerStep}
 use Rattle.rules.specs.Consumer.{front, readTail, scan, readEntry, rescan, readItem, markHandled, retireHead, consumerStep}
 use Rattle.rules.specs.Request.{startEnqueue, startDequeue, startDrain, step, Invocation, lending, Result, applied, opened, startingEnqueue, startingDequeue, startingDrain, phaseStep, counted, stepping, effect, result}

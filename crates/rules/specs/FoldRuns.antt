@@ -7,7 +7,7 @@ use Prim.Native.Nat.{ℕ}
 use lib.ListN.{replicate}
 use Rattle.rules.specs.Sizes.{Sizes, storeWords}
 use Rattle.rules.specs.Cell.{Cell, Write, reader, writes, _:=_, spare, allHandled, tail, tailRecord, headRecord, consumerPhase, cursorRecord, cursorPosition, foundRecord, foundPosition, phase, held, claimed, place, next, prev, used, state}
-use Rattle.rules.specs.Rule.{Response, refused, accepted, ok, started, going, ended, empty, item}
+use Rattle.rules.specs.Rule.{Response, refused, accepted, ok, going, ended, empty, item}
 use Rattle.rules.specs.Request.{startEnqueue, startDequeue, step, opened}
 use Rattle.rules.specs.Play.{Played}
 use Rattle.rules.specs.Update.{both}

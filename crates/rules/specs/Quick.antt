@@ -10,7 +10,7 @@ use lib.ListN.{length, getD, drop}
 use lib.Seq.{getD-drop, drop-nil}
 use Rattle.rules.specs.Sizes.{Sizes, sizesInRange, mostDrained, firstDrain, storeWords}
 use Rattle.rules.specs.Cell.{Reader, reader, pair, consumerPhase, drainLimit, drainCount}
-use Rattle.rules.specs.Range.{ofSorts, every, pairSorts, noPairSorts, pairInRange, threadsInRange, recordsInRange, drainInRange, inRange}
+use Rattle.rules.specs.Range.{ofSorts, every, pairSorts, noPairSorts, pairInRange, threadsInRange, recordsInRange, inRange}
 use Rattle.rules.specs.Rule.{Effect, refuse}
 use Rattle.rules.specs.Request.{Invocation, Result, applied, effect, sizesOf, admitted, stepsSoFar, result}
 use Rattle.rules.specs.Play.{Played, historyWith, cellsOf, playOne, play, stepsWith, stepsMade}

@@ -1,7 +1,7 @@
 -- Laws of turns: a call of the engine, recorded and printed, is a turn.
 use mathlib.Core.Path.{_≡_, refl, ap, sym, _∙_, subst}
 use mathlib.Core.List.{List, [], _++_}
-use Prim.Native.Nat.{ℕ, _+_, _≤_}
+use Prim.Native.Nat.{ℕ, _≤_}
 use native.Mathlib.Omega.{arith}
 use Rattle.history.specs.Event.{History}
 use Rattle.rules.specs.Sizes.{Sizes}

@@ -6,14 +6,14 @@ use mathlib.Core.List.{List, [], _∷_, _++_}
 use Prim.Native.Nat.{ℕ, zero, suc, _≤_, _<_}
 use native.Mathlib.Decide.{decLt, ℕ-discrete}
 use native.Mathlib.Omega.{arith}
-use lib.Dec.{leb, ltb, eqb}
+use lib.Dec.{leb, eqb}
 use lib.ListN.{length, length-append}
 use borrow.Author.Tests.{le-leb, leb-true, lt-ltb, le-ltb, eq-eqb, eqb-true}
 use Rattle.history.specs.Event.{History, gaveItem, withdrawn}
 use Rattle.history.specs.Linearization.{Item}
 use Rattle.rules.specs.Sizes.{Sizes, mostDrained}
 use Rattle.rules.specs.Cell.{Reader, pair, consumerPhase, drainLimit, drainCount, pairNumber}
-use Rattle.rules.specs.Range.{Sort, unused, number, any, ofSorts, every, pairSorts, noPairSorts, pairInRange, areaInRange, drainInRange}
+use Rattle.rules.specs.Range.{unused, number, ofSorts, every, pairSorts, noPairSorts, pairInRange, areaInRange, drainInRange}
 use Rattle.rules.specs.InRange.{every-at, every-of, row-at}
 use Rattle.rules.specs.Update.{both, and-true}
 use Rattle.rules.specs.Consumer.{pairAt, itemsMarked}

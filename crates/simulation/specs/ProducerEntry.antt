@@ -3,7 +3,7 @@ use mathlib.Core.Path.{_≡_, refl, ap, ap₂, sym, _∙_, subst, fun-ext}
 use mathlib.Core.Bool.{Bool, true, false, _&&_, cond, and-false}
 use mathlib.Core.List.{List, [], _∷_, _++_}
 use mathlib.Core.Option.{some}
-use Prim.Native.Nat.{ℕ, suc, _+_, _≤_}
+use Prim.Native.Nat.{ℕ, suc, _≤_}
 use native.Mathlib.Nat.{mul-le-mul-left}
 use native.Mathlib.Omega.{arith}
 use lib.Dec.{eqb}
@@ -33,9 +33,9 @@ use Rattle.memory.specs.Memory.{ThreadOk, rowOf, held-is}
 use Rattle.memory.specs.OtherThreads.{others-kept}
 use Rattle.memory.specs.GoingBack.{awaited-linked}
 use Rattle.simulation.specs.View.{Ghost, placesOf, placeOf, producersOf, consumerFrom, view, codeOf}
-use Rattle.simulation.specs.Good.{Good, Goes, Fine, by-need, by-cond, by-up-to}
+use Rattle.simulation.specs.Good.{Good, Goes, Fine, by-need, by-cond}
 use Rattle.simulation.specs.Told.{ToEnqueue}
-use Rattle.simulation.specs.Rows.{ProducerWords, of-sort, has-sort, producer-row-of}
+use Rattle.simulation.specs.Rows.{ProducerWords, of-sort, producer-row-of}
 use Rattle.simulation.specs.ProducerSteps.{as-seen, at-twice, producers-after, unclaimed, own-words, seen-at, producer-goes}
 use Rattle.simulation.specs.OwnWords.{of-producer, own-in-sort, own-there, withHistory}
 use Rattle.simulation.specs.Awaiting.{blank-awaited}
