@@ -1,18 +1,15 @@
 -- Runs of the fold (document 02, U6), computed: a day with one stopped producer, single steps on stores that the engine did not write, and which
 -- retired records are free.
-use mathlib.Core.Path.{_≡_, ap}
-use mathlib.Core.Bool.{true, _&&_}
+use mathlib.Core.Path.{_≡_}
+use mathlib.Core.Bool.{true}
 use mathlib.Core.List.{List, [], _∷_, _++_, map}
 use Prim.Native.Nat.{ℕ}
-use lib.ListN.{replicate}
-use Rattle.rules.specs.Sizes.{Sizes, storeWords}
-use Rattle.rules.specs.Cell.{Cell, Write, reader, writes, _:=_, spare, allHandled, tail, tailRecord, headRecord, consumerPhase, cursorRecord, cursorPosition, foundRecord, foundPosition, phase, held, claimed, place, next, prev, used, state}
+use Rattle.rules.specs.Cell.{Cell, Write, _:=_, spare, allHandled, tail, tailRecord, headRecord, consumerPhase, cursorRecord, cursorPosition, foundRecord, foundPosition, phase, held, claimed, place, next, prev, used, state}
 use Rattle.rules.specs.Rule.{Response, refused, accepted, ok, going, ended, empty, item}
-use Rattle.rules.specs.Request.{startEnqueue, startDequeue, step, opened}
-use Rattle.rules.specs.Play.{Played}
-use Rattle.rules.specs.Update.{both}
-use Rattle.rules.specs.Runs.{Trial, sized, times, plain, first, ends, call, placed, enqueue, playedOn, quickOn, played-on, replay, quickReplay, replay-is, computed, runs-as-written}
-use Rattle.rules.specs.Sameness.{passes-after, Sameness, lists, responses, wordLists}
+use Rattle.rules.specs.Request.{startEnqueue, startDequeue, step}
+use Rattle.rules.specs.Runs.{Trial, sized, times, first, ends, call, placed, enqueue, replay, quickReplay, replay-is, computed, runs-as-written}
+use Rattle.rules.specs.Single.{Single, sights, seenOf, quickSeen, seenAs, singles-hold}
+use Rattle.rules.specs.Sameness.{passes-after, lists, responses, wordLists}
 
 abbrev pub foldRuns : List Trial
 foldRuns =
@@ -67,48 +64,6 @@ fold-runs-pass = passes-after runs-as-written
 pub fold-runs-as-written : map replay foldRuns ≡ map (λ t. t .replies) foldRuns
 fold-runs-as-written = computed responses replay quickReplay (λ t. t .replies) replay-is foldRuns fold-runs-pass
 
--- A step of a thread on an opened store where some cells were then written: its reply, and what some cells hold afterwards.
-pub record Single : Type 0 where
-  pub sizes : Sizes
-  pub cells : List Write
-  pub thread : ℕ
-  pub looks : List Cell
-  pub reply : List Response
-  pub holds : List ℕ
-
--- what is seen of a step
-pub record Seen : Type 0 where
-  pub reply : List Response
-  pub holds : List ℕ
-
-sights : Sameness Seen
-unfolding responses wordLists
-sights =
-    record {
-      test = λ x y. responses .test (x .reply) (y .reply) && wordLists .test (x .holds) (y .holds);
-      sound =
-          λ x y e.
-          let b = both (responses .test (x .reply) (y .reply)) (wordLists .test (x .holds) (y .holds)) e in
-          λ i. record { reply = responses .sound (x .reply) (y .reply) (b .0) i; holds = wordLists .sound (x .holds) (y .holds) (b .1) i };
-    }
-
-abbrev before : Single → List ℕ
-before s = writes (s .sizes) (opened (s .sizes) (replicate (storeWords (s .sizes)) 0)) (s .cells)
-
-abbrev lookAt : Single → Played → Seen
-lookAt s p = record { reply = p .replies; holds = map (reader (s .sizes) (p .words)) (s .looks) }
-
-unfoldable pub seenOf : Single → Seen
-seenOf s = lookAt s (playedOn (plain (step (s .thread)) ∷ []) (before s))
-
-unfoldable quickSeen : Single → Seen
-unfolding quickOn opened writes reader
-quickSeen s = lookAt s (quickOn (plain (step (s .thread)) ∷ []) (before s))
-
-seen-is : (s : Single) → seenOf s ≡ quickSeen s
-unfolding seenOf quickSeen
-seen-is s = ap (lookAt s) (played-on (plain (step (s .thread)) ∷ []) (before s))
-
 -- Three linked records, 0, 1 and 2, of places 1, 2 and 3; the first is the head record, the last the tail record; the tail stands at 6. The
 -- cursor stands in record 1.
 abbrev threeRecords : List Write
@@ -138,7 +93,7 @@ abbrev cursor : List Cell
 cursor = cursorRecord ∷ cursorPosition ∷ foundRecord ∷ foundPosition ∷ allHandled ∷ consumerPhase ∷ []
 
 abbrev single : List Write → List Cell → Response → List ℕ → Single
-single cells looks r holds = record { sizes = sized 2 4 2 9; cells = cells; thread = 0; looks = looks; reply = r ∷ []; holds = holds }
+single cells looks r holds = record { sizes = sized 2 4 2 9; cells = cells; request = step 0; looks = looks; reply = r ∷ []; holds = holds }
 
 abbrev goingOn : Response
 goingOn = accepted going 1
@@ -175,15 +130,12 @@ singles =
     ∷ single (scanning 3 2 1 (spare 0 := 1 ∷ [])) cursor (refused 3) (2 ∷ 2 ∷ 0 ∷ 0 ∷ 1 ∷ 3 ∷ [])
     ∷ []
 
-abbrev seenAs : Single → Seen
-seenAs s = record { reply = s .reply; holds = s .holds }
-
 singles-pass : lists sights .test (map quickSeen singles) (map seenAs singles) ≡ true
 unfolding quickSeen lists responses wordLists sights
 singles-pass = passes-after fold-runs-as-written
 
 pub singles-as-written : map seenOf singles ≡ map seenAs singles
-singles-as-written = computed sights seenOf quickSeen seenAs seen-is singles singles-pass
+singles-as-written = singles-hold singles singles-pass
 
 -- Producer 1 claims in phase 4, holding record 0; record 1 is retired, of place 4; records 2 and 3 are as these cells say. What the producer's
 -- claimed word holds then, and its phase.
@@ -192,7 +144,7 @@ claiming cells t r holds =
     record {
       sizes = sized 2 4 2 9;
       cells = phase 1 := 4 ∷ held 1 := 1 ∷ used 1 := 3 ∷ place 1 := 4 ∷ used 3 := 2 ∷ cells;
-      thread = t;
+      request = step t;
       looks = claimed 1 ∷ phase 1 ∷ used 1 ∷ [];
       reply = r ∷ [];
       holds = holds;
@@ -227,4 +179,4 @@ unfolding quickSeen lists responses wordLists sights
 claims-pass = passes-after singles-as-written
 
 pub claims-as-written : map seenOf claims ≡ map seenAs claims
-claims-as-written = computed sights seenOf quickSeen seenAs seen-is claims claims-pass
+claims-as-written = singles-hold claims claims-pass

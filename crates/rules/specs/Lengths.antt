@@ -12,8 +12,8 @@ use Rattle.rules.specs.Consumer.{front, readTail, scan, readEntry, resca
 use Rattle.rules.specs.Request.{Request, startEnqueue, startDequeue, step, Invocation, applied, opened, startingEnqueue, startingDequeue, startingDrain, phaseStep, counted, stepping, effect}
 use Rattle.rules.specs.Play.{Played, stepsMade}
 use Rattle.rules.specs.Quick.{quickSteps, steps-are}
-use Rattle.rules.specs.Witnesses.{claims-as-written}
-use Rattle.rules.specs.Runs.{sized, times, plain, computed}
+use Rattle.rules.specs.Witnesses.{starting-as-written}
+use Rattle.rules.specs.Runs.{sized, times, plain, filled, computed}
 use Rattle.rules.specs.Sameness.{passes-after, lists, numbers}
 
 -- Calls after an open, and the accepted steps of the enqueue that a producer has under way, if it is then stepped 5 × P + N + 7 times.
@@ -41,15 +41,6 @@ quickLength l = quickSteps (l .thread) (calls l) (openedAs l) 0
 length-is : (l : Length) → acceptedSteps l ≡ quickLength l
 unfolding acceptedSteps quickLength
 length-is l = steps-are (l .thread) (calls l) (openedAs l) 0
-
--- Producer 1 fills two records of two entries.
-abbrev filled : List Request
-filled =
-    startEnqueue 1 10
-    ∷ times 3 (step 1)
-    ++ (startEnqueue 1 11 ∷ times 5 (step 1))
-    ++ (startEnqueue 1 12 ∷ times 6 (step 1))
-    ++ (startEnqueue 1 13 ∷ times 4 (step 1))
 
 abbrev pub lengths : List Length
 lengths =
@@ -105,7 +96,7 @@ lengths =
 
 lengths-pass : lists numbers .test (map quickLength lengths) (map (λ l. l .made) lengths) ≡ true
 unfolding quickLength lists numbers
-lengths-pass = passes-after claims-as-written
+lengths-pass = passes-after starting-as-written
 
 pub lengths-as-written : map acceptedSteps lengths ≡ map (λ l. l .made) lengths
 lengths-as-written = computed numbers acceptedSteps quickLength (λ l. l .made) length-is lengths lengths-pass

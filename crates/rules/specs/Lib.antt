@@ -10,6 +10,7 @@ pub mod Play
 pub mod Quick
 pub mod Sameness
 pub mod Runs
+pub mod Single
 pub mod Witnesses
 pub mod Lengths
 pub mod DrainRuns

@@ -106,6 +106,18 @@ pub computed : {A B : Type 0} (s : Sameness B) (f g e : A → B) → ((x : A) �
     → lists s .test (map g xs) (map e xs) ≡ true → map f xs ≡ map e xs
 computed s f g e h xs t = map-same f g h xs ∙ lists s .sound (map g xs) (map e xs) t
 
+-- Producer 1 fills two records of two entries.
+abbrev pub filled : List Request
+filled =
+    startEnqueue 1 10
+    ∷ times 3 (step 1)
+    ++ (startEnqueue 1 11 ∷ times 5 (step 1))
+    ++ (startEnqueue 1 12 ∷ times 6 (step 1))
+    ++ (startEnqueue 1 13 ∷ times 4 (step 1))
+
+abbrev pub filledReplies : List Response
+filledReplies = enqueue 1 4 ++ enqueue 2 6 ++ enqueue 3 7 ++ enqueue 4 5
+
 abbrev pub table : List Trial
 table =
     -- the printed run, with the step counts of document 02, U3, and its start that takes the position (U8); then `d` and three steps give going, going, item 1 7
@@ -120,21 +132,8 @@ table =
     ∷ record {
       words = 182;
       sizes = sized 2 2 1 9;
-      requests =
-          startEnqueue 1 10
-          ∷ times 3 (step 1)
-          ++ (startEnqueue 1 11 ∷ times 5 (step 1))
-          ++ (startEnqueue 1 12 ∷ times 6 (step 1))
-          ++ (startEnqueue 1 13 ∷ times 4 (step 1))
-          ++ (startEnqueue 1 14 ∷ times 3 (step 1));
-      replies =
-          first ok
-          ∷ enqueue 1 4
-          ++ enqueue 2 6
-          ++ enqueue 3 7
-          ++ enqueue 4 5
-          ++ placed 5 3
-          ++ (refused 8 ∷ []);
+      requests = filled ++ (startEnqueue 1 14 ∷ times 3 (step 1));
+      replies = first ok ∷ filledReplies ++ placed 5 3 ++ (refused 8 ∷ []);
     }
     -- B = 4. Producer 1 takes 0 and stops before phase 9. The dequeue steps twice. Producer 1 ends; producer 2 enqueues and
     -- ends. Five more steps give item 1

@@ -1,16 +1,16 @@
 -- Further runs, computed: that the rules do all that the theorems speak of, and what the traps of document 01 would get wrong.
-use mathlib.Core.Path.{_≡_, ap}
+use mathlib.Core.Path.{_≡_}
 use mathlib.Core.Bool.{true}
 use mathlib.Core.List.{List, [], _∷_, _++_, map}
 use Prim.Native.Nat.{ℕ, suc}
 use lib.ListN.{replicate}
 use Rattle.rules.specs.Sizes.{Sizes, storeWords}
-use Rattle.rules.specs.Cell.{Write, reader, writes, _:=_, lastClaimed, tail, tailRecord, headPosition, consumerPhase, foundRecord, foundPosition, starts, itemNumber, itemValue, phase, value, held, claimed, stepCount, place, next, used}
+use Rattle.rules.specs.Cell.{Write, writes, _:=_, lastClaimed, tail, tailRecord, headPosition, starts, consumerPhase, foundRecord, foundPosition, itemNumber, itemValue, phase, call as number, value, position, held, claimed, backed, enqueueSteps, stepCount, place, next, used}
 use Rattle.rules.specs.Rule.{Response, refused, accepted, ok, started, going, ended, empty, item}
 use Rattle.rules.specs.Request.{Request, startEnqueue, startDequeue, step, opened}
-use Rattle.rules.specs.Play.{Played}
 use Rattle.rules.specs.FoldRuns as fold
-use Rattle.rules.specs.Runs.{Trial, sized, times, plain, first, goings, ends, begun, call, placed, enqueue, playedOn, quickOn, played-on, repliesTo, quickReplies, replies-to, replay, quickReplay, replay-is, computed}
+use Rattle.rules.specs.Runs.{Trial, sized, times, plain, first, goings, ends, begun, call, placed, enqueue, filled, filledReplies, repliesTo, quickReplies, replies-to, replay, quickReplay, replay-is, computed}
+use Rattle.rules.specs.Single.{Single, sights, seenOf, quickSeen, seenAs, singles-hold}
 use Rattle.rules.specs.Sameness.{passes-after, lists, responses, wordLists}
 
 abbrev pub witnesses : List Trial
@@ -197,11 +197,7 @@ witnesses =
       words = 182;
       sizes = sized 2 2 1 9;
       requests =
-          startEnqueue 1 10
-          ∷ times 3 (step 1)
-          ++ (startEnqueue 1 11 ∷ times 5 (step 1))
-          ++ (startEnqueue 1 12 ∷ times 6 (step 1))
-          ++ (startEnqueue 1 13 ∷ times 4 (step 1))
+          filled
           ++ (startEnqueue 1 14 ∷ times 3 (step 1))
           ++ (startDequeue ∷ times 3 (step 0))
           ++ (step 1 ∷ startDequeue ∷ times 4 (step 0))
@@ -209,10 +205,7 @@ witnesses =
           ++ (startDequeue ∷ times 3 (step 0));
       replies =
           first ok
-          ∷ enqueue 1 4
-          ++ enqueue 2 6
-          ++ enqueue 3 7
-          ++ enqueue 4 5
+          ∷ filledReplies
           ++ placed 5 3
           ++ (refused 8 ∷ [])
           ++ call ok 2 (item 1 10)
@@ -363,14 +356,6 @@ probes =
       replies = refused 3 ∷ [];
     }
     ∷ record { sizes = sized 2 2 1 9; cells = stepCount 1 := 1 ∷ []; requests = startDequeue ∷ []; replies = refused 3 ∷ [] }
-    -- A start takes its position (document 02, U8). With tail at M it is refused with 9, looked at after 5 and 6.
-    ∷ record { sizes = sized 2 2 1 9; cells = tail := 8 ∷ []; requests = startEnqueue 1 7 ∷ []; replies = placed 1 1 }
-    ∷ record { sizes = sized 2 2 1 9; cells = tail := 9 ∷ []; requests = startEnqueue 1 7 ∷ []; replies = refused 9 ∷ [] }
-    ∷ record { sizes = sized 2 2 1 9; cells = tail := 9 ∷ starts := 9 ∷ []; requests = startEnqueue 1 7 ∷ []; replies = refused 6 ∷ [] }
-    ∷ record { sizes = sized 2 2 1 9; cells = tail := 9 ∷ phase 1 := 2 ∷ []; requests = startEnqueue 1 7 ∷ []; replies = refused 5 ∷ [] }
-    -- A producer's phase 1 is out of range, whatever its words hold.
-    ∷ record { sizes = sized 2 2 1 9; cells = phase 1 := 1 ∷ []; requests = step 1 ∷ startDequeue ∷ []; replies = refused 3 ∷ refused 3 ∷ [] }
-    ∷ record { sizes = sized 2 2 1 9; cells = phase 1 := 1 ∷ value 1 := 7 ∷ []; requests = step 1 ∷ []; replies = refused 3 ∷ [] }
     ∷ []
 
 probes-pass : lists responses .test (map quickProbe probes) (map (λ p. p .replies) probes) ≡ true
@@ -380,45 +365,31 @@ probes-pass = passes-after witnesses-as-written
 pub probes-as-written : map probe probes ≡ map (λ p. p .replies) probes
 probes-as-written = computed responses probe quickProbe (λ p. p .replies) probe-is probes probes-pass
 
--- A claim on a store of four records (document 02, U1): the record claimed last (word 11), the use of each record, and what the producer's
+-- A claim on a store of four records (document 02, U1): by the record claimed last (word 11) and the use of each record, what the producer's
 -- claimed word and word 11 hold afterwards. All record numbers as stored, plus one.
-pub record Claim : Type 0 where
-  pub last : ℕ
-  pub uses : List ℕ
-  pub leaves : List ℕ
-
 abbrev pub useWrites : (r : ℕ) → List ℕ → List Write
 useWrites r [] = []
 useWrites r (u ∷ us) = used r := u ∷ useWrites (suc r) us
 
--- the words before the claim, and what is looked at afterwards
-abbrev beforeClaim : Claim → List ℕ
-beforeClaim c =
-    let z = sized 2 4 1 9 in
-    writes z (opened z (replicate (storeWords z) 0)) (lastClaimed := c .last ∷ phase 1 := 4 ∷ held 1 := 1 ∷ useWrites 0 (c .uses))
-
-abbrev afterClaim : Played → List ℕ
-afterClaim p = let σ = reader (sized 2 4 1 9) (p .words) in σ (claimed 1) ∷ σ lastClaimed ∷ []
-
-unfoldable pub claimedWords : Claim → List ℕ
-claimedWords c = afterClaim (playedOn (plain (step 1) ∷ []) (beforeClaim c))
-
-unfoldable quickClaimed : Claim → List ℕ
-unfolding quickOn opened writes reader
-quickClaimed c = afterClaim (quickOn (plain (step 1) ∷ []) (beforeClaim c))
-
-claimed-is : (c : Claim) → claimedWords c ≡ quickClaimed c
-unfolding claimedWords quickClaimed
-claimed-is c = ap afterClaim (played-on (plain (step 1) ∷ []) (beforeClaim c))
+abbrev claim : (last : ℕ) → List ℕ → Response → List ℕ → Single
+claim last uses r holds =
+    record {
+      sizes = sized 2 4 1 9;
+      cells = lastClaimed := last ∷ phase 1 := 4 ∷ held 1 := 1 ∷ useWrites 0 uses;
+      request = step 1;
+      looks = claimed 1 ∷ lastClaimed ∷ [];
+      reply = r ∷ [];
+      holds = holds;
+    }
 
 -- a claim that takes r, and one that finds no record free
-abbrev pub takes : (last : ℕ) → List ℕ → (r : ℕ) → Claim
-takes last uses r = record { last = last; uses = uses; leaves = r ∷ r ∷ [] }
+abbrev pub takes : (last : ℕ) → List ℕ → (r : ℕ) → Single
+takes last uses r = claim last uses (accepted going 1) (r ∷ r ∷ [])
 
-abbrev pub findsNone : (last : ℕ) → List ℕ → Claim
-findsNone last uses = record { last = last; uses = uses; leaves = 0 ∷ last ∷ [] }
+abbrev pub findsNone : (last : ℕ) → List ℕ → Single
+findsNone last uses = claim last uses (refused 8) (0 ∷ last ∷ [])
 
-abbrev pub claims : List Claim
+abbrev pub claims : List Single
 claims =
     -- the first free one after it
     takes 1 (2 ∷ 0 ∷ 0 ∷ 0 ∷ []) 2
@@ -435,9 +406,46 @@ claims =
     ∷ findsNone 3 (2 ∷ 2 ∷ 1 ∷ 2 ∷ [])
     ∷ []
 
-claims-pass : lists wordLists .test (map quickClaimed claims) (map (λ c. c .leaves) claims) ≡ true
-unfolding quickClaimed lists wordLists
+claims-pass : lists sights .test (map quickSeen claims) (map seenAs claims) ≡ true
+unfolding quickSeen lists responses wordLists sights
 claims-pass = passes-after probes-as-written
 
-pub claims-as-written : map claimedWords claims ≡ map (λ c. c .leaves) claims
-claims-as-written = computed wordLists claimedWords quickClaimed (λ c. c .leaves) claimed-is claims claims-pass
+pub claims-as-written : map seenOf claims ≡ map seenAs claims
+claims-as-written = singles-hold claims claims-pass
+
+-- A start enqueue of producer 2 (document 02, U8) by tail and starts: its reply, and then tail, starts, and all of its words.
+abbrev start : (tail starts : ℕ) → List Write → Response → List ℕ → Single
+start l n more r holds =
+    record {
+      sizes = sized 2 2 2 9;
+      cells = tail := l ∷ starts := n ∷ more;
+      request = startEnqueue 2 70;
+      looks = tail ∷ starts ∷ phase 2 ∷ number 2 ∷ value 2 ∷ position 2 ∷ held 2 ∷ claimed 2 ∷ backed 2 ∷ enqueueSteps 2 ∷ [];
+      reply = r ∷ [];
+      holds = holds;
+    }
+
+abbrev noWords : List ℕ
+noWords = replicate 8 0
+
+abbrev pub starting : List Single
+starting =
+    -- It takes its position: the call's number is starts + 1, its position tail, one step is made, and the next phase is 2.
+    start 0 0 [] (accepted (started 1) 1) (1 ∷ 1 ∷ 2 ∷ 1 ∷ 70 ∷ 0 ∷ 0 ∷ 0 ∷ 0 ∷ 1 ∷ [])
+    ∷ start 8 3 [] (accepted (started 4) 1) (9 ∷ 4 ∷ 2 ∷ 4 ∷ 70 ∷ 8 ∷ 0 ∷ 0 ∷ 0 ∷ 1 ∷ [])
+    -- With tail at M it is refused with 9, looked at after 5 and 6, and no word is changed.
+    ∷ start 9 3 [] (refused 9) (9 ∷ 3 ∷ noWords)
+    ∷ start 9 9 [] (refused 6) (9 ∷ 9 ∷ noWords)
+    ∷ start 3 9 [] (refused 6) (3 ∷ 9 ∷ noWords)
+    ∷ start 9 9 (phase 2 := 2 ∷ []) (refused 5) (9 ∷ 9 ∷ 2 ∷ replicate 7 0)
+    -- A producer's phase 1 is out of range, its own and another's, whatever their words hold.
+    ∷ start 0 0 (phase 2 := 1 ∷ []) (refused 3) (0 ∷ 0 ∷ 1 ∷ replicate 7 0)
+    ∷ start 1 1 (phase 1 := 1 ∷ number 1 := 1 ∷ value 1 := 7 ∷ []) (refused 3) (1 ∷ 1 ∷ noWords)
+    ∷ []
+
+starting-passes : lists sights .test (map quickSeen starting) (map seenAs starting) ≡ true
+unfolding quickSeen lists responses wordLists sights
+starting-passes = passes-after claims-as-written
+
+pub starting-as-written : map seenOf starting ≡ map seenAs starting
+starting-as-written = singles-hold starting starting-passes
