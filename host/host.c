@@ -7,8 +7,9 @@
  * then stops a producer for a while. The consumer dequeues. Now and then its shift changes: it stands still while items come to wait, and the
  * next call is a drain. The host prints what the consumer received and checks that each producer's values arrive whole and in the order in
  * which it enqueued them. Calls of two producers that overlap have no order between them: call 4 may come out before call 1.
- * It prints how many steps the longest call of each kind took, and checks that the replies count a call's steps as the host does, and that
- * no call takes more than INTAKE_MOST_ENQUEUE_STEPS, INTAKE_MOST_DEQUEUE_STEPS or INTAKE_MOST_DRAIN_STEPS.
+ * It prints how many steps the longest call of each kind took, and checks that the replies count a call's steps as the host does, an
+ * enqueue's start as its first, and that no call takes more than INTAKE_MOST_ENQUEUE_STEPS, INTAKE_MOST_DEQUEUE_STEPS or
+ * INTAKE_MOST_DRAIN_STEPS.
  *
  * It starts no enqueue where intake_has_room says no, and steps on whoever is in the way before the consumer, so that no producer waits for a
  * record for good (docs/STEPS.md, "Room"). A step that is refused with 8 is made again later.
@@ -70,9 +71,18 @@ static void receive_all(uint32_t count) {
     drained += count;
 }
 
-/* starts the next call of an idle thread, if it has one */
+/* An accepted step of a thread, whose reply says that it is the so-many-th of its call. */
+static void count_step(uint32_t thread, uint32_t so_far) {
+    enum kind kind = under_way[thread];
+    steps++;
+    if (so_far != ++taken[thread]) fail("steps of a call counted otherwise", so_far);
+    if (so_far > longest[kind]) longest[kind] = so_far;
+    if (so_far > most_steps[kind]) fail("a call of too many steps", so_far);
+}
+
+/* starts the next call of an idle thread, if it has one; the start of an enqueue is a step */
 static void start(uint32_t thread, int shift_changed) {
-    uint32_t reply[4], answer;
+    uint32_t reply[4] = {0}, answer;
     if (thread > 0) {
         if (sent[thread] == items || !intake_has_room(store)) return;
         answer = intake_start_enqueue(store, words, thread, thread * 65536 + sent[thread]++, reply);
@@ -86,18 +96,13 @@ static void start(uint32_t thread, int shift_changed) {
         under_way[0] = DEQUEUE;
     }
     if (answer != INTAKE_OK) fail("start", answer);
+    if (thread > 0) count_step(thread, reply[2]);
 }
 
 /* The engine's answer to a step. */
 static uint32_t step(uint32_t thread) {
     uint32_t reply[4] = {0}, answer = intake_step(store, words, thread, buffer, buffer_words, FROM, reply);
-    enum kind kind = under_way[thread];
-    if (answer >= INTAKE_GOING) { /* accepted */
-        steps++;
-        if (reply[2] != ++taken[thread]) fail("steps of a call counted otherwise", reply[2]);
-        if (reply[2] > longest[kind]) longest[kind] = reply[2];
-        if (longest[kind] > most_steps[kind]) fail("a call of too many steps", longest[kind]);
-    }
+    if (answer >= INTAKE_GOING) count_step(thread, reply[2]); /* accepted */
     if (answer > INTAKE_GOING) { /* the call has ended */
         under_way[thread] = IDLE;
         taken[thread] = 0;

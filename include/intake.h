@@ -30,10 +30,11 @@
 extern "C" {
 #endif
 
-/* Grows when a call, a number or a word of the store changes its meaning. 6: a scan folds records that have been read, word 12 is in use
- * while it goes on, a retired record is kept while a producer holds a retired one of greater place, and intake_has_room counts records. The
- * words of a store of version 5 are in range here; what is proved speaks of stores that this version alone has written. */
-#define INTAKE_VERSION 6
+/* Grows when a call, a number or a word of the store changes its meaning. 7: starting an enqueue takes its position and is its first step, so
+ * that reply[2] is 1 then and one step less follows; it is refused with 9 where no position is left; and no producer is in phase 1. The words
+ * of a store of version 6 are in range here if each enqueue under way has been stepped; what is proved speaks of stores that this version
+ * alone has written. */
+#define INTAKE_VERSION 7
 
 /* What the calls return. */
 enum {
@@ -47,8 +48,8 @@ enum {
     INTAKE_REFUSED_IDLE = 7,      /* step: the thread has no call under way */
     INTAKE_REFUSED_NONE_FREE = 8, /* step of an enqueue: no record is free; it may be made again (intake_has_room and intake_in_the_way say how
                                      to keep it from staying so) */
-    INTAKE_REFUSED_LINK = 9,      /* step: a link is missing, an index leaves its record or a number its range; never on a store that only
-                                     the engine has written */
+    INTAKE_REFUSED_LINK = 9,      /* step: a link is missing, an index leaves its record or a number its range; start of an enqueue: no position
+                                     is left, though a start is; never on a store that only the engine has written */
     INTAKE_REFUSED_LIMIT = 14,    /* start of a drain: a limit outside 1 to INTAKE_MOST_DRAINED */
     INTAKE_REFUSED_BUFFER = 15,   /* step that would end a drain: the buffer is too short from the named word, or ends before it; the drain
                                      stays under way, and the step may be made again */
@@ -84,8 +85,8 @@ enum { INTAKE_ENTRIES = 0, INTAKE_RECORDS = 1, INTAKE_PRODUCERS = 2, INTAKE_TAIL
 #define INTAKE_MOST_DRAIN_STEPS(entries, records, limit) \
     (INTAKE_MOST_DEQUEUE_STEPS(entries, records) + ((limit)-1u) * ((records) * ((entries) + 1u) + (entries) + 4u))
 
-/* The most accepted steps that an enqueue takes on a store of these sizes that only the engine has written, whatever steps others make in
- * between: at most 150, for 64 and 16. A step refused with 8 is not accepted and not counted. */
+/* The most accepted steps that an enqueue takes, its start among them, on a store of these sizes that only the engine has written, whatever
+ * steps others make in between: at most 150, for 64 and 16. A step refused with 8 is not accepted and not counted. */
 #define INTAKE_MOST_ENQUEUE_STEPS(records, producers) (5u * (producers) + (records) + 6u)
 
 /* So many records are enough for intake_has_room to say yes of a store with no item left and no call under way: 2 * producers + 4, and more
@@ -124,7 +125,8 @@ static inline int intake_in_the_way(const uint32_t *store, uint32_t producer) {
 /* Makes the store empty. Returns INTAKE_OK, or refusal 1 or 2. */
 uint32_t intake_open(uint32_t *store, size_t words, uint32_t entries, uint32_t records, uint32_t producers, uint32_t starts);
 
-/* Producer 1 to producers begins to enqueue value. Returns INTAKE_OK and puts the call number into reply[0]; or refusal 2 to 6. */
+/* Producer 1 to producers begins to enqueue value, and takes the next position: that is the first step of its call. Returns INTAKE_OK, and puts
+ * the call number into reply[0] and 1, the steps so far, into reply[2]; reply[1] and reply[3] stay as they are. Or refusal 2 to 6 or 9. */
 uint32_t intake_start_enqueue(uint32_t *store, size_t words, uint32_t producer, uint32_t value, uint32_t reply[4]);
 
 /* The consumer begins to dequeue. Returns INTAKE_OK; or refusal 2, 3 or 5. */
@@ -138,8 +140,8 @@ uint32_t intake_start_drain(uint32_t *store, size_t words, uint32_t limit);
  * On INTAKE_ITEM reply[0] is the call number of the item's enqueue and reply[1] its value. On INTAKE_DRAINED reply[0] says how many items the
  * drain gave and reply[1] is 0; the items, call number and value of each in the order in which they were taken, are in the buffer from
  * buffer[from] on, and its other words stay. Otherwise reply[0] and reply[1] stay as they are. On every accepted step reply[2] is the number of
- * accepted steps of that call so far, this one included; on a store that something else has written it is the stored number plus one. reply[3]
- * stays as it is.
+ * accepted steps of that call so far, this one and an enqueue's start included; on a store that something else has written it is the stored
+ * number plus one. reply[3] stays as it is.
  * Only the step that ends a drain looks at buffer and from: two words are needed for each item, and none where a drain gives none (from may then
  * be buffer_words, but not more). A host that never drains lends a buffer of no words. */
 uint32_t intake_step(uint32_t *store, size_t words, uint32_t thread, uint32_t *buffer, size_t buffer_words, uint32_t from, uint32_t reply[4]);

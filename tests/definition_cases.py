@@ -90,12 +90,13 @@ def play(lent, sizes, calls):
 
 
 def counted(case, calls):
-    """The case of a schedule's first calls, with the accepted steps counted by their replies."""
+    """The case of a schedule's first calls, with the accepted steps counted by their replies. The start of an enqueue is its
+    first."""
     steps = [0, 0]
     for call, reply in zip(case.calls[:calls], case.expected[0][1:]):
         t = im.thread_of(call)
         if t < 2 and reply[0] != 'refused':
-            steps[t] = steps[t] + 1 if call[0] == 's' else 0
+            steps[t] = steps[t] + 1 if call[0] == 's' else int(call[0] == 'e')
     return Count(case.lent, case.sizes, case.calls[:calls], steps)
 
 
@@ -155,9 +156,9 @@ def folding_schedule(rng):
     """A schedule in which a record is folded. Producer 1 stops at position 1, the last of record 0; positions 2 to 4 are set, 2
     and 3 taken, and the next scan crosses out of record 1, which it has read."""
     enqueues = [('e', 2, random_value(rng)) for _ in range(4)]
-    first = enqueues[:1] + [('s', 2)] * 4 + [('d',)] + [('s', 0)] * 3 + [('e', 1, 7), ('s', 1)]
+    first = enqueues[:1] + [('s', 2)] * 3 + [('d',)] + [('s', 0)] * 3 + [('e', 1, 7)]
     for start, steps in zip(enqueues[1:], (9, 6, 7)):
-        first += [start] + [('s', 2)] * steps
+        first += [start] + [('s', 2)] * (steps - 1)
     for steps in (8, 12, rng.choice((8, 8, 7))):
         first += [('d',)] + [('s', 0)] * steps
     sizes = (2, rng.choice((3, 4)), rng.choice((2, 3)), rng.choice((20, 40)))
@@ -266,7 +267,7 @@ def wild(rng, kind, phase):
     thread = 0 if kind == 'consumer' else rng.randint(1, P)
     for t in range(P + 1):
         limits = producer if t else consumer
-        at = phase if t == thread else rng.randrange(len(limits))
+        at = phase if t == thread else rng.choice(list(limits))
         words += [at] + [up_to(limit) for limit in limits[at][1:-1]]
         words.append(step_counts.drawn(rng) if at else 0)
     words[im.ALL_HANDLED] = rng.randint(0, 1) if words[im.CONTENTS] in im.SCANNING else 0
@@ -335,7 +336,7 @@ def edges():
     cases = [case for k, top in enumerate(tops) if k not in threads for case in at_edge(store, k, top, ('d',))]
     for thread, limits in enumerate(by_thread):
         first = im.CONTENTS + im.THREAD_WORDS * thread
-        for phase, row in enumerate(limits):
+        for phase, row in limits.items():
             words = list(store)
             words[first : first + im.THREAD_WORDS] = [phase] + [min(top, 1) for top in row[1:]]
             for k in range(1, im.THREAD_WORDS):
@@ -343,7 +344,7 @@ def edges():
             if thread == 0:
                 cases += at_edge(words, im.ALL_HANDLED, int(phase in im.SCANNING), ('s', thread))
                 cases.append(answer(fold_stores.with_word_12(words, 2), ('s', thread)))
-        cases += at_edge(store, first, len(limits) - 1, ('s', thread))
+        cases += at_edge(store, first, max(limits), ('s', thread))
     area, draining = im.drain_at(*sizes[:3]), list(store)
     cases += at_edge(store, len(store) - 1, 0, ('d',))
     draining[im.CONTENTS], draining[area : area + 6] = 1, [64, 2, 1, 7, 2, 8]
@@ -358,14 +359,26 @@ def at_edge(store, k, top, call):
     return [answer(store[:k] + [word] + store[k + 1 :], call) for word in words]
 
 
-def with_no_start_left(rng, stores):
-    """A start enqueue on a store of the model whose starts are set to M, of a producer with a call under way or not."""
-    wants, threads = rng.random() < 0.5, []
+def starting_enqueue(rng, stores):
+    """A start enqueue on a store of the model whose tail and starts are set to M or to less, of a producer with a call under way
+    or not."""
+    wants, threads = rng.random() < 0.2, []
     while not threads:
         words = list(rng.choice(stores))
         threads = [t for t in range(1, words[2] + 1) if (t in busy(words)) == wants]
-    words[im.STARTS] = words[3]
+    M = words[3]
+    words[im.TAIL], words[im.STARTS] = (rng.choice((0, M - 1, M, M, rng.randint(0, M))) for _ in range(2))
     return answer(words, ('e', rng.choice(threads), random_value(rng)))
+
+
+def with_phase_1(rng, store):
+    """A store of the model with a producer in phase 1, its other words as they are or as before U8, and any call."""
+    words = list(store)
+    own = im.CONTENTS + im.THREAD_WORDS * rng.randint(1, words[2])
+    words[own] = 1
+    if rng.random() < 0.5:
+        words[own + 1 : own + im.THREAD_WORDS] = [1, random_value(rng), 0, 0, 0, 0, rng.randint(0, 1)]
+    return answer(words, rng.choice((random_call(rng, words[2]), likely_call(rng, words))))
 
 
 def with_another_last(rng, store):
@@ -504,35 +517,37 @@ def claiming(rng):
 def singles(seed, stores, count):
     """So many single calls; the damaged stores are made from `stores`."""
     rng = random.Random(seed)
-    phases = [('producer', p) for p in range(1, 12)] + [('consumer', p) for p in range(1, 9)]
+    phases = [('producer', p) for p in range(2, 12)] + [('consumer', p) for p in range(1, 9)]
     dequeues = [store for store in stores if store[im.CONTENTS]]
     late = [store for store in dequeues if store[im.CONTENTS] in (7, 8)]
     cases = edges() + letting_go(rng, 60) + folding(rng, 3) + last_counts(stores) + ends(rng, dequeues) + claiming(rng)
     while len(cases) < count:
         store = rng.choice(stores)
-        kind = len(cases) % 28
+        kind = len(cases) % 29
         if kind < 4:
             cases.append(damaged(rng, store))
-        elif kind < 14:
+        elif kind < 13:
             cases.append(wild(rng, *rng.choice(phases)))
-        elif kind < 16:
+        elif kind < 15:
             cases.append(of_another_length(rng, store))
-        elif kind < 17:
+        elif kind < 16:
             cases.append(of_other_sizes(rng, store))
-        elif kind < 18:
+        elif kind < 17:
             cases.append(random_words(rng))
         elif kind < 19:
-            cases.append(with_no_start_left(rng, stores))
-        elif kind < 21:
+            cases.append(starting_enqueue(rng, stores))
+        elif kind < 20:
+            cases.append(with_phase_1(rng, store))
+        elif kind < 22:
             cases.append(with_another_last(rng, store))
-        elif kind < 23:
+        elif kind < 24:
             store = rng.choice(late)
             cases.append(damaged(rng, store, drain_stores.lent_step(rng, store, 0)))
-        elif kind < 24:
+        elif kind < 25:
             cases.append(with_another_count(rng, store))
-        elif kind < 26:
-            cases.append(starting_drain(rng, stores))
         elif kind < 27:
+            cases.append(starting_drain(rng, stores))
+        elif kind < 28:
             cases.append(with_another_area(rng, rng.choice(dequeues)))
         else:
             cases.append(opening(rng))
@@ -749,12 +764,12 @@ def invocation_term(call):
 
 
 def response_term(reply):
-    """A reply with its number of steps; that of an open and of a start is 0."""
+    """A reply with its number of steps; that of an open and of another start than an enqueue's is 0."""
     kind, *numbers = reply
     if kind == 'refused':
         return f'refused {numbers[0]}'
     if kind == 'ok':
-        return f'accepted (started {numbers[0]}) 0' if numbers else 'accepted ok 0'
+        return 'accepted (started {}) {}'.format(*numbers) if numbers else 'accepted ok 0'
     if kind == 'item':
         return 'accepted (item {} {}) {}'.format(*numbers)
     if kind == 'drained':
@@ -864,7 +879,7 @@ use Rattle.rules.specs.Sizes.{Sizes}
 use Rattle.rules.specs.Cell.{reader, writes}
 use Rattle.rules.specs.Free.{free, nextFree}
 use Rattle.rules.specs.Rule.{Response}
-use Rattle.rules.specs.Producer.{takePosition, loadTail, lookNext, claimRecord, linkClaimed, shiftTail, goBack, writeEntry, setEntry, claimAhead, linkAhead, producerStep}
+use Rattle.rules.specs.Producer.{loadTail, lookNext, claimRecord, linkClaimed, shiftTail, goBack, writeEntry, setEntry, claimAhead, linkAhead, producerStep}
 use Rattle.rules.specs.Consumer.{front, readTail, scan, readEntry, rescan, readItem, markHandled, retireHead, consumerStep}
 use Rattle.rules.specs.Request.{Invocation, Result, applied, opened, open-store, startingEnqueue, startingDequeue, startingDrain, phaseStep, counted, stepping, effect, sizesOf, result}
 use Rattle.rules.specs.Play.{Played, play, stepsMade, itemsLeft}
@@ -960,7 +975,7 @@ next m = let z = sizesOf m in nextFree z (reader z m)
 STORE = STORE.replace(
     'UNFOLDED',
     'applied effect startingEnqueue startingDequeue startingDrain stepping counted phaseStep open-store opened reader '
-    'writes free nextFree takePosition loadTail lookNext claimRecord linkClaimed shiftTail goBack writeEntry '
+    'writes free nextFree loadTail lookNext claimRecord linkClaimed shiftTail goBack writeEntry '
     'setEntry claimAhead linkAhead producerStep front readTail scan readEntry rescan readItem markHandled retireHead '
     'consumerStep',
 )

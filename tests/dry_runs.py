@@ -99,7 +99,7 @@ STOPPED, OTHER, THIRD = 1, 2, 3  # the feeder that stops; those that go on, at l
 
 
 def stop(run, phase):
-    """The feeder takes a position and stands still before a phase: at the first position of a record, or at the second one for
+    """The feeder starts and stands still before a phase: at the first position of a record, or at the second one for
     phases 10 and 11. For 4 and 5 the record has not been linked ahead, for 7 the tail record has gone on."""
     B = run.words[0]
     while run.words[im.TAIL] % B != (1 if phase in (4, 5, 10, 11) else 0):
@@ -109,7 +109,7 @@ def stop(run, phase):
         stand_before(run, THIRD, 10)
         while run.words[im.TAIL] % B:
             turn(run, OTHER)
-    run.take(STOPPED)
+    run.start(STOPPED)
     if phase == 7:
         for _ in range(B):
             turn(run, OTHER)

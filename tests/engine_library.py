@@ -4,7 +4,7 @@ import ctypes
 
 from archives import archive, shared
 
-GOING, END, EMPTY, ITEM, DRAINED = 100, 101, 102, 103, 104
+OK, GOING, END, EMPTY, ITEM, DRAINED = 0, 100, 101, 102, 103, 104
 
 
 def load():
@@ -61,15 +61,16 @@ class Engine:
 
 def expected(reply):
     """What the interface returns for a reply of the model, and the reply buffer then: the number of steps is its third
-    word, and a refusal leaves all four. Of a drain the first is the number of items and the second zero."""
+    word, of a start enqueue too; a refusal, an open and other starts leave all four. Of a drain the first is the number of
+    items and the second zero."""
     mark = list(Engine.MARK)
     kind, *numbers = reply
     if kind == 'refused':
         return numbers[0], mark
-    if kind == 'ok':
-        return 0, numbers + mark[len(numbers) :]
+    if reply == ('ok',):
+        return OK, mark
     *item, steps = numbers
     if kind == 'drained':
         item.append(0)
-    number = {'going': GOING, 'end': END, 'empty': EMPTY, 'item': ITEM, 'drained': DRAINED}[kind]
+    number = {'ok': OK, 'going': GOING, 'end': END, 'empty': EMPTY, 'item': ITEM, 'drained': DRAINED}[kind]
     return number, [*item, *mark[len(item) : 2], steps, mark[3]]

@@ -27,8 +27,8 @@ def steps(*threads):
 
 
 def enqueue(t, call, count):
-    """The start of a call and its first steps, so many."""
-    return [('e', t, value_of(call))] + steps(t) * count
+    """The first steps of a call, so many, the start among them."""
+    return [('e', t, value_of(call))] + steps(t) * (count - 1)
 
 
 def dequeue(count):

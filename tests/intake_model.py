@@ -1,14 +1,14 @@
-"""An independent model of the Jiffy intake, written by hand from document 01 and from U1 to U3, U5 and U6 of document 02.
+"""An independent model of the Jiffy intake, written by hand from document 01 and from U1 to U3, U5, U6 and U8 of document 02.
 
 The store is a list of 32-bit words. `open_store`, `start_enqueue`, `start_dequeue`, `start_drain` and `step` change the
 list, and the buffer that a step is lent, only when they accept. They answer one of
 
-    ('ok',)  ('ok', call)  ('refused', number)
+    ('ok',)  ('ok', call, steps)  ('refused', number)
     ('going', steps)  ('end', steps)  ('empty', steps)  ('item', call, value, steps)  ('drained', items, steps)
 
-where steps is the number of accepted steps of that call so far, and items how many a drain gave. Each phase is one
-method of `Intake`, under the sentence of the papers that it renders. A wrong engine for a test is a subclass that
-overrides one method.
+where steps is the number of accepted steps of that call so far, and items how many a drain gave. Starting an enqueue is
+its first step. Each phase is one method of `Intake`, under the sentence of the papers that it renders. A wrong engine for
+a test is a subclass that overrides one method.
 """
 
 from functools import lru_cache
@@ -32,11 +32,11 @@ SCANNED = CURSOR_POSITION  # in phases 6 to 8: 1 where a drain came there throug
 LAST_PRODUCER_PHASE, LAST_CONSUMER_PHASE = 11, 8
 SCANNING = (3, 4)  # the consumer's phases in which word 12 may be 1
 
-# The words in use in each phase; the others are zero then.
-PRODUCER_USES = [(), (0, 1, 2, 7)] + [(0, 1, 2, 3, 4, 6, 7)] * 3 + [(0, 1, 2, 3, 4, 5, 6, 7)]
-PRODUCER_USES += [(0, 1, 2, 3, 4, 6, 7)] * 4 + [(0, 1, 2, 3, 4, 7), (0, 1, 2, 3, 4, 5, 7)]
-CONSUMER_USES = [(), (0, 7), (0, 7), (0, 1, 2, 7), (0, 1, 2, 7), (0, 1, 2, 3, 4, 7)]
-CONSUMER_USES += [(0, 2, 3, 4, 7), (0, 2, 3, 4, 5, 6, 7), (0, 2, 5, 6, 7)]
+# The words in use in each phase; the others are zero then. A phase that is not here is out of range: a producer has no phase 1.
+PRODUCER_USES = {0: ()} | {phase: (0, 1, 2, 3, 4, 6, 7) for phase in (2, 3, 4, 6, 7, 8, 9)}
+PRODUCER_USES |= {5: (0, 1, 2, 3, 4, 5, 6, 7), 10: (0, 1, 2, 3, 4, 7), 11: (0, 1, 2, 3, 4, 5, 7)}
+CONSUMER_USES = {0: (), 1: (0, 7), 2: (0, 7), 3: (0, 1, 2, 7), 4: (0, 1, 2, 7), 5: (0, 1, 2, 3, 4, 7)}
+CONSUMER_USES |= {6: (0, 2, 3, 4, 7), 7: (0, 2, 3, 4, 5, 6, 7), 8: (0, 2, 5, 6, 7)}
 
 # Record words, uses of a record and states of an entry.
 RECORD_HEAD, ENTRY_WORDS = 4, 3
@@ -89,10 +89,11 @@ def thread_limits(N, M):
     producer = (LAST_PRODUCER_PHASE, M, U32, M, N, N, 1, MOST_STEPS)
 
     def by_phase(tops, uses):
-        return [tuple(top if k in used else 0 for k, top in enumerate(tops)) for used in uses]
+        return {phase: tuple(top if k in used else 0 for k, top in enumerate(tops)) for phase, used in uses.items()}
 
     by_cursor, by_flag = (by_phase(tops, CONSUMER_USES) for tops in (consumer, consumer[:2] + (1,) + consumer[3:]))
-    return by_cursor[:6] + by_flag[6:], by_phase(producer, PRODUCER_USES)
+    by_flag = {phase: tops for phase, tops in by_flag.items() if phase >= 6}
+    return by_cursor | by_flag, by_phase(producer, PRODUCER_USES)
 
 
 @lru_cache(maxsize=256)
@@ -123,7 +124,7 @@ def threads_in_range(words):
     for t in range(P + 1):
         limits = producer if t else consumer
         own = words[CONTENTS + THREAD_WORDS * t : CONTENTS + THREAD_WORDS * (t + 1)]
-        if own[PHASE] >= len(limits) or not all(map(le, own, limits[own[PHASE]])):
+        if own[PHASE] not in limits or not all(map(le, own, limits[own[PHASE]])):
             return False
     return True
 
@@ -258,10 +259,11 @@ def link(word):
 
 
 class Intake:
-    """The store during one step: a copy of the words that its sizes need, and one method a phase."""
+    """The store during one start of an enqueue or one step: a copy of the words that its sizes need, and one method a
+    phase."""
 
     PRODUCER = (
-        None, 'take', 'load', 'look', 'claim', 'link', 'shift', 'back', 'write', 'set', 'claim_ahead', 'link_ahead',
+        None, None, 'load', 'look', 'claim', 'link', 'shift', 'back', 'write', 'set', 'claim_ahead', 'link_ahead',
     )
     CONSUMER = (None, 'front', 'read_tail', 'scan_tail', 'scan_entry', 'rescan', 'read_item', 'mark', 'let_go')
 
@@ -399,12 +401,21 @@ class Intake:
         self.put_part(claimed, PREV, held + 1)
         self.put_part(claimed, PLACE, place)
 
+    def begin(self, t, v):
+        """Start enqueue gives call number starts + 1, and also does phase 1. That counts as the call's first step."""
+        self.own = CONTENTS + THREAD_WORDS * t
+        self.w[STARTS] += 1
+        self.put(CALL, self.w[STARTS])
+        self.put(VALUE, v)
+        self.take()
+        self.put(STEPS, 1)
+        return ('ok', self.w[STARTS], 1)
+
     def take(self):
         """1. Take: L becomes tail, tail grows by one; to 2."""
-        tail = self.w[TAIL]
-        self.w[TAIL] = self.successor(tail)
-        self.put(POSITION, tail)
-        return self.to(2)
+        self.put(POSITION, self.w[TAIL])
+        self.w[TAIL] += 1
+        self.to(2)
 
     def load(self):
         """2. Load: hold the tail record; choose."""
@@ -672,23 +683,23 @@ def open_store(words, B, N, P, M):
     return ('ok',)
 
 
-def start_enqueue(words, t, v):
-    """Give call number starts + 1 to producer t, phase 1."""
+def start_enqueue(words, t, v, engine=Intake):
+    """Give call number starts + 1 and position tail to producer t, phase 2."""
     number = admission(words)
     if number:
         return refused(number)
     if not 1 <= t <= words[2]:
         return refused(4)
-    own = CONTENTS + THREAD_WORDS * t
-    if words[own + PHASE]:
+    if words[CONTENTS + THREAD_WORDS * t + PHASE]:
         return refused(5)
     if words[STARTS] == words[3]:
         return refused(6)
-    words[STARTS] += 1
-    words[own + PHASE] = 1
-    words[own + CALL] = words[STARTS]
-    words[own + VALUE] = v
-    return ('ok', words[STARTS])
+    if words[TAIL] == words[3]:
+        return refused(9)
+    intake = engine(words)
+    reply = intake.begin(t, v)
+    words[: len(intake.w)] = intake.w
+    return reply
 
 
 def start_dequeue(words):
@@ -743,7 +754,7 @@ def step(words, t, buffer=(), first=0, engine=Intake):
 def do(words, call, engine=Intake):
     """Run one call of a list."""
     if call[0] == 'e':
-        return start_enqueue(words, call[1], call[2])
+        return start_enqueue(words, call[1], call[2], engine)
     if call[0] == 'd':
         return start_dequeue(words)
     if call[0] == 'drain':

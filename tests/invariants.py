@@ -7,7 +7,7 @@ state it meets. `broken(words, ghost)` names the clauses that fail.
 Words of the clauses: lo, tp and hi are the places of the head record, the tail record and the last record; hp is the
 head position; a gap is a place whose record was folded; a place is listed if it is from lo to hi and no gap; state_at(p)
 is EMPTY, SET or HANDLED, where a position of a place that is not listed counts as handled below hi and as empty past it;
-own[p] is the call that took position p.
+own[p] is the call whose start took position p.
 
 There are two histories. What was *told* is the papers': going adds nothing, but for the marks of a drain. In what is
 *kept* every item is given at its mark, also where a dequeue then goes to phase 8, and another dequeue is opened right
@@ -108,7 +108,7 @@ class Events(im.History):
 class Ghost(NamedTuple):
     """What a run leaves beside the words."""
 
-    own: tuple = ()  # position -> call, written at the take
+    own: tuple = ()  # position -> call, written at the start, which takes the position
     kept: Past = Past()
     told: Past = Past()
     entries: tuple = ()  # position -> state, as the steps have written it
@@ -119,10 +119,12 @@ class Ghost(NamedTuple):
         """The ghost after a call with this reply; `before` are the words before the call, `words` those after it."""
         if reply[0] == 'refused':
             return self
-        thread, phase = im.thread_of(call), None
+        thread, phase, ghost = im.thread_of(call), None, self
+        if call[0] == 'e':
+            ghost = self._replace(own=self.own + (reply[1],), entries=self.entries + (EMPTY,))
         if call[0] == 's':
             phase = before[im.CONTENTS + im.THREAD_WORDS * thread]
-        ghost = self.of_store(thread, phase, before, words)
+            ghost = self.of_store(thread, phase, before, words)
         told = im.told(self.told, call, reply, before, words)
         if not thread and reply[0] in ('item', 'empty', 'drained'):
             told = told.at_rest()
@@ -135,11 +137,8 @@ class Ghost(NamedTuple):
         return ghost._replace(kept=im.told(self.kept, call, reply, before, words), told=told)
 
     def of_store(self, thread, phase, before, words):
-        """Owners, entries, gaps and last place after a step of a thread in a phase, by what these phases do; phase is None
-        for a start."""
+        """Entries, gaps and last place after a step of a thread in a phase, by what these phases do."""
         own = im.CONTENTS + im.THREAD_WORDS * thread
-        if thread and phase == 1:
-            return self._replace(own=self.own + (self.told.start_of(thread)[2],), entries=self.entries + (EMPTY,))
         if thread and phase == 9:
             return self._replace(entries=put(self.entries, before[own + im.POSITION], SET))
         if thread and phase in (5, 11):
@@ -383,14 +382,9 @@ def _(v):
     return v.B * v.hi + 2 <= v.tail + 2 * v.B
 
 
-@of_store('places: tail <= starts')
+@of_store('places: tail equals starts')
 def _(v):
-    return v.tail <= v.starts
-
-
-@of_store('places: tail and the takes to come make starts')
-def _(v):
-    return v.tail + len(v.in_phases(1, 1)) == v.starts
+    return v.tail == v.starts
 
 
 # Entries.
@@ -459,6 +453,11 @@ def _(v):
     return len(v.own) == v.tail
 
 
+@clause('ownership: the owner of position p is call p + 1')
+def _(v):
+    return all(call == p + 1 for p, call in enumerate(v.own))
+
+
 @clause('ownership: every owner has begun')
 def _(v):
     return all(1 <= call <= len(v.kept.values) for call in v.own)
@@ -511,19 +510,19 @@ def _(v):
 # Producers, by phase.
 
 
-@clause('producer 1-11: its words are those of its start')
+@clause('producer 2-11: its words are those of its start')
 def _(v):
-    return all(v.kept.start_of(p.thread)[2:] == (p.call, p.value) for p in v.in_phases(1, 11))
+    return all(v.kept.start_of(p.thread)[2:] == (p.call, p.value) for p in v.in_phases(2, 11))
 
 
-@clause('producer 1-11: not ended')
+@clause('producer 2-11: not ended')
 def _(v):
-    return not any(v.is_ended(p.call) for p in v.in_phases(1, 11))
+    return not any(v.is_ended(p.call) for p in v.in_phases(2, 11))
 
 
-@clause('producer 1: its call owns no position')
+@of_store('producer 2-11: its call is L + 1')
 def _(v):
-    return not any(p.call in v.own for p in v.in_phases(1, 1))
+    return all(p.call == p.L + 1 for p in v.in_phases(2, 11))
 
 
 @of_store('producer 2-9: L < tail')
@@ -576,9 +575,9 @@ def _(v):
     return all(v.is_taken(p.call) or v.state_at(p.L) == SET for p in v.in_phases(10, 11))
 
 
-@clause('producer 1-9: its call is not taken')
+@clause('producer 2-9: its call is not taken')
 def _(v):
-    return not any(v.is_taken(p.call) for p in v.in_phases(1, 9))
+    return not any(v.is_taken(p.call) for p in v.in_phases(2, 9))
 
 
 # The consumer, by phase.

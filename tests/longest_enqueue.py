@@ -26,7 +26,7 @@ def bound(N, P):
 def longest(B, N, P):
     """The accepted steps of the longest enqueue, by counting.
 
-    Take, the last load, write and set are 4 steps. Before that load come rounds of phases 2 to 6, five steps each. A
+    The start, the last load, write and set are 4 steps. Before that load come rounds of phases 2 to 6, five steps each. A
     round leaves the tail record at a later place, and a position is taken at most P - 1 past the first one after the
     tail record. So there are at most as many rounds as records for P positions; with a round less, `after_the_rounds`
     gains two steps at the most."""
@@ -55,13 +55,10 @@ def accepted(intake, call):
             if refusal.number != 8:
                 raise
             return im.refused(8)
-    words, own = intake.w, CONTENTS + THREAD_WORDS * (call[1] if call[0] == 'e' else 0)
-    words[own] = 1
-    if call[0] == 'd':
-        return ('ok',)
-    words[im.STARTS] += 1
-    words[own + im.CALL], words[own + im.VALUE] = words[im.STARTS], call[2]
-    return ('ok', words[im.STARTS])
+    if call[0] == 'e':
+        return intake.begin(*call[1:])
+    intake.w[CONTENTS] = 1
+    return ('ok',)
 
 
 def starts(calls):
@@ -89,13 +86,12 @@ class Run:
             reply = self.call(('s', t))
         return reply
 
-    def take(self, t):
-        """Start an enqueue and take its position."""
+    def start(self, t):
+        """Start an enqueue, which takes its position."""
         self.call(('e', t, t))
-        self.call(('s', t))
 
     def enqueue(self, t):
-        self.take(t)
+        self.start(t)
         self.to_end(t)
 
     def take_all(self):
@@ -121,8 +117,8 @@ class Run:
 def construct(B, N, P):
     """The calls of a longest enqueue, for any sizes.
 
-    All records are filled, so that nothing is linked after the last one. Others take positions and stop, ours takes the
-    next one, and all items are taken. Ours makes its rounds; after each load, the others with positions before the tail record
+    All records are filled, so that nothing is linked after the last one. Others start and stop, ours starts next, and all
+    items are taken. Ours makes its rounds; after each load, the others with positions before the tail record
     end and their items are taken, so that a record is free for the next round. (Not before the load: while ours holds a record
     that is retired no older one is free.) Where ours is to go back, the others end before its last load, nothing is
     taken, so that the record which it holds stays linked, and one of them enqueues until all records are."""
@@ -131,8 +127,8 @@ def construct(B, N, P):
     for _ in range(B * N):
         run.enqueue(min(OTHER, P))
     for t in range(OTHER, OTHER + (P - 1 if back >= ahead else B * (rounds - 1) + 1)):
-        run.take(t)
-    run.take(OURS)
+        run.start(t)
+    run.start(OURS)
     run.take_all()
     for _ in range(rounds):
         run.call(('s', OURS))

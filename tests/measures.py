@@ -1,8 +1,8 @@
 """How long a call can last: for each call under way a number that bounds the accepted steps it has yet to take.
 
-Each accepted step of its own lowers it, and no call of another thread raises it. So what it is at a start bounds the
-steps of the whole call, whatever others do in between; a step refused with 8 is not accepted. A measure is read off the
-words alone. It is meant for stores that only the engine has written.
+Each accepted step of its own lowers it, and no call of another thread raises it. So what it is after a start bounds the
+steps that follow, whatever others do in between; a step refused with 8 is not accepted. The start of an enqueue is a
+step itself. A measure is read off the words alone. It is meant for stores that only the engine has written.
 """
 
 import intake_model as im
@@ -26,7 +26,7 @@ def last_load_steps(N):
 
 
 def most_enqueue_steps(B, N, P):
-    """The measure of an enqueue at its start."""
+    """The start of an enqueue, its first step, and the measure then, at the most."""
     return 1 + 5 * records_for(B, P) + last_load_steps(N)
 
 
@@ -76,7 +76,7 @@ def of_enqueue(words, t, records):
     """Each round of phases 2 to 6, five steps, leaves the tail record at a later place, until it is no longer before the
     call's position; then each phase 7 leaves one record less to go back over. The tail record that was loaded is none of
     these, nor is a record before the position's that the producer still holds when it loads."""
-    B, N, P = words[:3]
+    B, N = words[:2]
     own = im.CONTENTS + im.THREAD_WORDS * t
     phase, position, held, back = (words[own + k] for k in (im.PHASE, im.POSITION, im.HELD, im.BACK))
 
@@ -84,8 +84,8 @@ def of_enqueue(words, t, records):
         """How many records past that of a place the position is; 0 if it is not past it."""
         return records_for(B, max(0, position + 1 - B * place))
 
-    if phase <= 1:
-        return phase * most_enqueue_steps(B, N, P)
+    if phase == 0:
+        return 0
     place = records.place(held) if held else 0
     if phase == 2:
         rounds, holds_earlier = ahead(records.place(words[im.TAIL_RECORD])), held and B * place <= position
@@ -142,13 +142,13 @@ def broken(call, reply, words, words_after, before, after):
     others = [u for u in range(len(before)) if u != t]
     bad = [f'measure: raised or used up by another, {u}' for u in others if not min(before[u], 1) <= after[u] <= before[u]]
     if call[0] != 's':
-        return bad + ['measure: at a start'] * (not 1 <= after[t] <= most_steps(words_after, t))
+        step = int(call[0] == 'e')
+        bad += ['measure: at a start'] * (not 1 <= after[t] <= most_steps(words_after, t) - step)
+        return bad + ['measure: too many positions past the tail record'] * (step and past_the_tail_record(words) > words[2])
     if reply[0] == 'going':
         bad += ['measure: not lowered'] * (not 1 <= after[t] < before[t])
     else:
         bad += ['measure: used up before the end'] * (before[t] < 1)
-    if t and words[im.CONTENTS + im.THREAD_WORDS * t] == 1:
-        bad += ['measure: too many positions past the tail record'] * (past_the_tail_record(words) > words[2])
     return bad
 
 

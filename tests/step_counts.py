@@ -26,20 +26,20 @@ def drawn(rng):
 
 
 def miscounted(call, reply, words, after):
-    """What an accepted call does wrong: a start leaves 0, a step adds one and replies it, and a call that ends leaves 0. The
-    numbers of other threads stay."""
+    """What an accepted call does wrong: a step adds one and replies it, and so does a start of an enqueue; another start
+    leaves 0, and a call that ends leaves 0. The numbers of other threads stay."""
     t, expected = thread_of(call), steps_of(words)
-    if call[0] == 's':
+    if call[0] in ('e', 's'):
         expected[t] += 1
         if reply[-1] != expected[t]:
             return ['steps: the reply']
-        if reply[0] != 'going':
+        if reply[0] not in ('ok', 'going'):
             expected[t] = 0
     return [] if steps_of(after) == expected else ['steps: the words']
 
 
 class Tally:
-    """The accepted steps of each call under way, counted in the list of calls."""
+    """The accepted steps of each call under way, counted in the list of calls. The start of an enqueue is its first."""
 
     def __init__(self):
         self.under_way = {}
@@ -49,9 +49,10 @@ class Tally:
         t = thread_of(call)
         if call[0] != 's':
             self.under_way[t] = 0
+        if call[0] not in ('e', 's'):
             return []
         self.under_way[t] += 1
-        steps = self.under_way[t] if reply[0] == 'going' else self.under_way.pop(t)
+        steps = self.under_way[t] if reply[0] in ('ok', 'going') else self.under_way.pop(t)
         return [] if reply[-1] == steps else ['steps: the reply']
 
     def wrong(self, words):

@@ -17,7 +17,7 @@ def setUpModule():
     global SCHEDULES, COUNTS, SINGLES, CLAIMS, HISTORIES
     SCHEDULES = dc.schedules(1, 3_200)
     COUNTS = [dc.counted(case, 30 + k) for k, case in enumerate(SCHEDULES)]
-    SINGLES = dc.singles(7, [store for case in SCHEDULES for store in dc.snapshots(case)], 2_500)
+    SINGLES = dc.singles(8, [store for case in SCHEDULES for store in dc.snapshots(case)], 2_600)
     CLAIMS = dc.claims(7, 90)
     HISTORIES = dc.histories(3, 1_600)
 
@@ -93,13 +93,13 @@ class Tables(unittest.TestCase):
 class Reach(unittest.TestCase):
     """What the cases reach, counted by the model."""
 
-    PRODUCER = [('producer', phase) for phase in range(1, 12)]
+    PRODUCER = [('producer', phase) for phase in range(2, 12)]
     CONSUMER = [('consumer', phase) for phase in range(1, 9)]
 
     def test_number_of_cases(self):
         """A generator that makes fewer cases than meant, or the same ones again."""
         self.assertGreaterEqual(sum(len(case.calls) for case in SCHEDULES), 3_200)
-        self.assertEqual((len(SINGLES), len(CLAIMS), len(HISTORIES)), (2_500, 1_338, 1_600))
+        self.assertEqual((len(SINGLES), len(CLAIMS), len(HISTORIES)), (2_600, 1_338, 1_600))
         self.assertGreater(len({(tuple(case.words), case.call) for case in SINGLES}), 1_850)
         self.assertGreater(len({(tuple(case.words), case.entries) for case in HISTORIES}), 1_300)
 
@@ -138,12 +138,26 @@ class Reach(unittest.TestCase):
         steps = [reply[-1] for _, call, reply in calls if call[0] == 's' and reply[0] != 'refused']
         self.assertGreater(sum(count > 9 for count in steps), 10)
 
-    def test_no_start_left(self):
-        """No start enqueue of a producer with a call under way, or of an idle one, when the starts have come to M."""
-        starts = [case for case in SINGLES if case.call[0] == 'e' and len(case.words) > im.STARTS]
-        replies = [case.expected[0] for case in starts if case.words[im.STARTS] == case.words[3]]
-        self.assertGreater(replies.count(('refused', 5)), 20)
-        self.assertGreater(replies.count(('refused', 6)), 10)
+    def test_starts(self):
+        """No start enqueue of a producer with a call under way, or of an idle one, when starts, tail or both have come to M; none
+        that is accepted where tail is not starts."""
+        starts = [case for case in SINGLES if case.call[0] == 'e' and im.admission(case.words) == 0]
+        seen = [(case.words[im.STARTS] == case.words[3], case.words[im.TAIL] == case.words[3], case.expected[0]) for case in starts]
+        for full in ((True, False), (False, True), (True, True)):
+            self.assertGreater(seen.count((*full, ('refused', 5))), 1, full)
+        self.assertGreater(seen.count((True, False, ('refused', 6))), 5)
+        self.assertGreater(seen.count((True, True, ('refused', 6))), 5)
+        self.assertGreater(seen.count((False, True, ('refused', 9))), 5)
+        accepted = [case.words for case in starts if case.expected[0][0] == 'ok']
+        for apart in (-1, 1):
+            self.assertGreater(sum((words[im.TAIL] - words[im.STARTS]) * apart > 0 for words in accepted), 5, apart)
+
+    def test_phase_1_of_a_producer(self):
+        """No call of some kind on a store that is out of range by a producer's phase 1 alone."""
+        stores = [case for case in SINGLES if case.call[0] != 'open' and im.admission(case.words) == 3]
+        calls = [case.call[0] for case in stores if in_range_in_phase_2(case.words)]
+        for kind, least in (('s', 10), ('e', 3), ('d', 3), ('drain', 3)):
+            self.assertGreater(calls.count(kind), least, kind)
 
     def test_histories_of_schedules(self):
         """Schedules whose histories lack a kind of event, or are too short to show an order."""
@@ -350,6 +364,15 @@ def claims_one(words, call, reply):
 def in_range_with(words, k, word):
     """Whether a store is in range with another word k."""
     return im.in_range(words[:k] + [word] + words[k + 1 :])
+
+
+def in_range_in_phase_2(words):
+    """Whether some producer is in phase 1, and the store is in range with it in phase 2."""
+    first = im.CONTENTS + im.THREAD_WORDS
+    if len(words) < im.CONTENTS or not im.sizes_allowed(words[:4]):
+        return False
+    owns = range(first, min(first + im.THREAD_WORDS * words[2], len(words)), im.THREAD_WORDS)
+    return any(words[own] == 1 and in_range_with(words, own, 2) for own in owns)
 
 
 def places(words):

@@ -13,7 +13,7 @@ import longest_drain
 import step_counts
 from intake_model import MOST_STEPS, Intake, Recorder, start_drain, step
 from measures import most_drain_steps
-from test_model import D, E, OK, S, dequeue_whole, end, enqueue_whole, going, opened, random_store, refused
+from test_model import D, E, OK, S, dequeue_whole, end, enqueue_whole, going, opened, random_store, refused, started
 
 MARK = 9  # in the words of a buffer
 DEQ, NOTHING = (3, 0, 0, 0), (5, 0, 0, 0)
@@ -153,7 +153,7 @@ class Runs(unittest.TestCase):
     def test_first_front_not_set(self):
         """A drain that goes on after a scan: it acts as one dequeue and ends with it."""
         recorder, buffer = Recorder(4, 2, 2, 9), room(1)
-        recorder.run(E(1, 70) + S(1, 3))
+        recorder.run(E(1, 70) + S(1, 2))
         for v in (80, 81):
             enqueue_whole(recorder, 2, v)
         self.assertEqual(recorder.run(drain(5) + lend(buffer, 7)), [OK] + going(1, 6) + drained(1, 7))
@@ -168,7 +168,7 @@ class Runs(unittest.TestCase):
         """The same where phase 8 follows: the word that says so is kept there."""
         recorder, buffer = Recorder(2, 3, 2, 9), room(1)
         enqueue_whole(recorder, 2, 70)
-        recorder.run(E(1, 80) + S(1, 3))
+        recorder.run(E(1, 80) + S(1, 2))
         self.assertEqual(dequeue_whole(recorder), ('item', 1, 70, 3))
         enqueue_whole(recorder, 2, 90)
         self.assertEqual(recorder.run(drain(9) + lend(buffer) + S(1)), [OK] + going(1) + going(4))
@@ -207,7 +207,7 @@ class Runs(unittest.TestCase):
         self.assertEqual(drain_whole(recorder, 64), ([1, 70, 2, 71], 7))
         self.assertEqual(recorder.run(drain(64) + S(0)), [OK] + drained(0, 1))
         recorder = Recorder(2, 2, 1, 9)
-        recorder.run(E(1, 70) + S(1))
+        recorder.run(E(1, 70))
         self.assertEqual(recorder.run(drain(1) + S(0, 3)), [OK] + going(1, 2) + drained(0, 3))
 
     def test_words(self):
@@ -232,7 +232,7 @@ class Runs(unittest.TestCase):
 
     def test_the_area_is_left_zero(self):
         """A drain after which every call meets 3: the limit is 0 while the consumer is idle."""
-        for engine, reply in ((Intake, ('ok', 4)), (LeavesTheArea, refused(3))):
+        for engine, reply in ((Intake, ('ok', 4, 1)), (LeavesTheArea, refused(3))):
             recorder = three_in(opening(engine))
             drain_whole(recorder, 1)
             self.assertEqual(recorder.call(('e', 1, 7)), reply)
@@ -277,7 +277,7 @@ def late_set_run(opened):
     """B = 4. Producer 1 takes 0 and stops before phase 9. The drain steps twice. Producer 1 ends; producer 2 enqueues and
     ends. The replies of five more steps, and the buffer."""
     recorder, buffer = opened(4, 2, 2, 9), room(1)
-    recorder.run(E(1, 70) + S(1, 3) + drain(5) + lend(buffer, 2) + S(1))
+    recorder.run(E(1, 70) + S(1, 2) + drain(5) + lend(buffer, 2) + S(1))
     enqueue_whole(recorder, 2, 80)
     return recorder.run(lend(buffer, 5)), buffer
 
@@ -286,7 +286,7 @@ def overtaken(opened):
     """B = 4. Producer 1 enqueues at 0, producer 2 takes 1 and stops before phase 9, producer 3 enqueues at 2."""
     recorder = opened(4, 2, 3, 9)
     enqueue_whole(recorder, 1, 70)
-    recorder.run(E(2, 80) + S(2, 3))
+    recorder.run(E(2, 80) + S(2, 2))
     enqueue_whole(recorder, 3, 90)
     return recorder
 
@@ -300,7 +300,7 @@ def passing_run(opened):
     """B = 2. Producer 1 takes 0 and stops before phase 9; producer 2 enqueues at 1 to 3. A dequeue takes the item of 1, then
     producer 1 ends. What a drain gives, and its steps."""
     recorder = opened(2, 3, 2, 9)
-    recorder.run(E(1, 70) + S(1, 3))
+    recorder.run(E(1, 70) + S(1, 2))
     for v in (71, 72, 73):
         enqueue_whole(recorder, 2, v)
     dequeue_whole(recorder)
@@ -329,7 +329,7 @@ class Histories(unittest.TestCase):
         between that move."""
         recorder, buffer = overtaken(Recorder), room(1)
         before = recorder.history
-        recorder.run(drain(64) + lend(buffer, 3) + E(1, 71) + S(1))
+        recorder.run(drain(64) + lend(buffer, 3) + E(1, 71))
         self.assertEqual(recorder.history, before + (DEQ, item(1, 70), DEQ, (1, 1, 4, 71)))
         self.assertEqual(recorder.run(lend(buffer)), drained(1, 4))
         self.assertEqual(recorder.history, before + (DEQ, (1, 1, 4, 71), item(1, 70)))
@@ -343,7 +343,7 @@ class Histories(unittest.TestCase):
     def test_explained_after_every_call(self):
         """A history with drains, under way or ended, that is not explained; or items left that it does not leave."""
         met = collections.Counter()
-        for seed in range(120):
+        for seed in range(160):
             rng = random.Random(seed)
             recorder = Recorder(2, 2 + seed % 4, 3, 40)
             for _ in range(200):
@@ -423,7 +423,7 @@ class Buffers(unittest.TestCase):
         self.assertEqual(early.run(drain(3) + lend([], 9, named=im.U32))[3:5], [refused(15)] * 2)
         recorder = Recorder(2, 2, 1, 9)
         none = [('s', 1, [], 1)]
-        self.assertEqual(recorder.run(E(1, 7) + none * 4), [('ok', 1)] + going(1, 3) + end(4))
+        self.assertEqual(recorder.run(E(1, 7) + none * 3), started(1) + going(2, 3) + end(4))
         self.assertEqual(recorder.run(D + lend([], 3, named=1))[-1], ('item', 1, 7, 3))
         self.assertEqual(recorder.run(D + lend([], 2, named=1))[-1], ('empty', 2))
 
@@ -432,7 +432,7 @@ def ends_of_drains():
     """For each phase and number of items with which drains of random runs end, the words before that step."""
     found = {}
     for seed in range(60):
-        rng, recorder = random.Random(seed), Recorder(2, 3, 3, 40)
+        rng, recorder = random.Random(seed), Recorder(2, 3, 3, (5, 6, 40)[seed % 3])  # with few starts it is empty soon
         for _ in range(300):
             t = rng.randrange(4)
             before = list(recorder.words)
@@ -449,7 +449,7 @@ class AnyStore(unittest.TestCase):
     def test_beside_a_dequeue(self):
         """A step of a drain that differs from that of a dequeue otherwise than the paper says."""
         rng, seen = random.Random(41), collections.Counter()
-        while sum(seen.values()) < 12_000:
+        while sum(seen.values()) < 14_000:
             words = random_store(rng)
             if im.drain_word(words, im.LIMIT):
                 reply = self.check(rng, words)

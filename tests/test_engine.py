@@ -132,7 +132,7 @@ class Differential(Both, unittest.TestCase):
                 phases[phase] += reply[0] != 'refused'
         for known in (*REPLIES, *(('refused', number) for number in (4, 5, 6, 7, 8, 14, 15))):
             self.assertGreaterEqual(seen[known], 50, seen)
-        for known in [(False, phase) for phase in range(1, 9)] + [(True, phase) for phase in range(1, 12)]:
+        for known in [(False, phase) for phase in range(1, 9)] + [(True, phase) for phase in range(2, 12)]:
             self.assertGreaterEqual(phases[known], 50, phases)
 
     def test_damaged_stores(self):
@@ -150,16 +150,48 @@ class Differential(Both, unittest.TestCase):
             self.assertGreaterEqual(seen['refused', number], 50, seen)
 
     def test_stores_in_range(self):
-        """A phase that goes wrong on words in range that no engine has written: links, indexes, numbers, word 11."""
-        rng, seen = random.Random(15), collections.Counter()
+        """A phase or a start that goes wrong on words in range that no engine has written: links, indexes, numbers, word 11."""
+        rng, seen, starts = random.Random(15), collections.Counter(), collections.Counter()
         for _ in range(5000):
             store = random_store(rng)
             steps = [lent_step(rng, store, t) for t in range(store[2] + 1)]
             for call in [('d',), ('drain', rng.choice(drain_stores.LIMITS))] + steps + [('e', t, 7) for t in range(store[2] + 1)]:
                 words = list(store)
-                seen[kind(self.on(words, call))] += 1
+                reply = kind(self.on(words, call))
+                seen[reply] += 1
+                starts[reply] += call[0] == 'e'
         for known in (*REPLIES, *(('refused', number) for number in (*range(4, 10), 14, 15))):
             self.assertGreaterEqual(seen[known], 50, seen)
+        for known in ('ok', *(('refused', number) for number in (4, 5, 6, 9))):
+            self.assertGreaterEqual(starts[known], 50, starts)
+
+    def test_starts(self):
+        """A start of an enqueue that takes no position or another one, that is not its call's first step, that looks at starts or tail
+        otherwise than in the table's order, or that leaves the number of steps out of its reply (document 02, U8)."""
+        for tail, starts, busy in itertools.product((0, 1, 8, 9), (0, 1, 8, 9), (0, 2)):
+            words = [0] * model.needed_words(2, 2, 2)
+            model.open_store(words, 2, 2, 2, 9)
+            words[6], words[10], words[24] = tail, starts, busy
+            expected = ('refused', 5) if busy else ('refused', 6) if starts == 9 else ('refused', 9) if tail == 9 else ('ok', starts + 1, 1)
+            after = list(words)
+            self.assertEqual(self.on(after, ('e', 1, 7)), expected)
+            if expected[0] == 'ok':
+                words[6], words[10], words[24:32] = tail + 1, starts + 1, [2, starts + 1, 7, tail, 0, 0, 0, 1]
+            self.assertEqual(after, words)
+
+    def test_phase_1_of_a_producer(self):
+        """A producer's phase 1 that is let through, by a start or a step of any thread, whatever the other words of its thread hold."""
+        rng, seen = random.Random(25), collections.Counter()
+        for _ in range(1000):
+            words = random_store(rng)
+            own = 16 + 8 * rng.randint(1, words[2])
+            words[own] = 1
+            if rng.random() < 0.5:
+                words[own + 3 : own + 7] = [0] * 4  # as it was before U8
+            call = random_call(rng, words[2], words)
+            seen[call[0]] += 1
+            self.assertEqual(self.on(words, call), ('refused', 3))
+        self.assertGreater(min(seen[name] for name in ('e', 'd', 'drain', 's')), 10)
 
     def test_numbers_of_steps(self):
         """A number of steps that is not kept, or not replied, or that leaves its range: in every phase of stores that the
@@ -173,7 +205,7 @@ class Differential(Both, unittest.TestCase):
                 refusal = {model.MOST_STEPS: 9, model.MOST_STEPS + 1: 3}.get(steps)
                 self.assertEqual((reply[0], reply[-1]), ('refused', refusal) if refusal else (kind, steps + 1))
         dry = model.Recorder(2, 2, 1, 9)
-        dry.run([call for v, steps in enumerate((4, 6, 7, 5, 4)) for call in [('e', 1, v)] + [('s', 1)] * steps])
+        dry.run([call for v, steps in enumerate((4, 6, 7, 5, 4)) for call in [('e', 1, v)] + [('s', 1)] * (steps - 1)])
         for steps, number in zip(step_counts.EDGES, (8, 8, 8, 8, 3)):
             self.assertEqual(self.on(step_counts.with_steps(dry.words, 1, steps), ('s', 1)), ('refused', number))
 
@@ -247,7 +279,7 @@ class Differential(Both, unittest.TestCase):
         rng, folds = random.Random(23), 0
         for sizes in ((2, 4, 2, 400), (2, 6, 3, 400), (3, 5, 3, 400), (4, 8, 4, 400)):
             beside = Beside(self, *sizes)
-            beside.run([('e', 1, 1), ('s', 1)])
+            beside.call(('e', 1, 1))
             for _ in range(2500):
                 t = rng.choice((0, 0, 0, *range(2, sizes[2] + 1)))
                 before = model.record_parts(beside.words, model.USE)
@@ -354,7 +386,7 @@ class Drains(Both, unittest.TestCase):
     def test_histories(self):
         """A history with drains, by the words before and after each call, that the compiled judge does not find explained."""
         library, rng, met = judge_library.load(), random.Random(20), collections.Counter()
-        for _ in range(12):
+        for _ in range(18):
             beside, history = self.opened(2, rng.randint(2, 4), 3, 60), model.History()
             for _ in range(300):
                 t = rng.choice((0, 0, 0, 1, 2, 3))

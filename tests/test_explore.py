@@ -11,7 +11,7 @@ import measures
 from intake_model import EMPTY, HANDLED, SET, USE_RETIRED
 from test_drain import DRAINING, AsksForRoomEarly
 from test_fold import FOLDING
-from test_model import COUNTING, LETTING_GO, TRAPS, ShiftsOnlyAfterOwnLink
+from test_model import COUNTING, LETTING_GO, STARTING, TRAPS, ShiftsOnlyAfterOwnLink
 
 
 def held_in(v, first, last):
@@ -57,11 +57,11 @@ SITUATIONS = {
     and v.lo < v.tp,
     'the head record is left in 8': lambda v: v.consumer.phase == 8,
     'a producer holds the record that is left in 8': lambda v: v.consumer.phase == 8
-    and v.head_record in held_in(v, 1, 11),
+    and v.head_record in held_in(v, 2, 11),
     'no record is free in 4, and one will be after 8': lambda v: v.consumer.phase == 8
     and v.in_phases(4, 4)
     and not im.free_records(v.words)
-    and v.head_record not in held_in(v, 1, 11),
+    and v.head_record not in held_in(v, 2, 11),
     'an enqueue ends between the mark and the reply': lambda v: v.consumer.phase == 8
     and v.kept.ended != v.kept.before_dequeue,
     'nothing but a dequeue is under way, and its item is neither left nor told': lambda v: untold_alone(v),
@@ -149,7 +149,7 @@ def goes_on(v):
 
 def untold_alone(v):
     """A call that has ended and was not taken by what was told is not left, and only a dequeue is under way."""
-    if v.consumer.phase != 8 or v.limit > 0 or v.in_phases(1, 11):
+    if v.consumer.phase != 8 or v.limit > 0 or v.in_phases(2, 11):
         return False
     untaken = set(v.calls_in(v.told.ended & ~v.told.taken))
     left = {call for call, _ in im.items_left(v.words)}
@@ -258,6 +258,19 @@ class Sensitivity(unittest.TestCase):
             for violation in violations:
                 self.assertTrue(violation[-1][0].startswith('steps: '), (engine, violation))
 
+    def test_wrong_starts_are_caught(self):
+        """An exploration blind to a start that takes no position, takes another one, leaves tail, or is no step. One that also loads
+        is linearizable; its own run shows it (test_model.py)."""
+        caught = {engine.__name__: what_is_wrong(engine) for engine in STARTING}
+        self.assertEqual({name: bad and bad[0] for name, bad in caught.items()}, {
+            'TakesNothing': 'measure: at a start',
+            'LeavesTail': 'places: tail equals starts',
+            'TakesTheNext': 'entries: empty in [hp, tail) has a producer in 2 to 9 there',
+            'CountsFromZero': 'steps: the reply',
+            'LoadsToo': None,
+        })
+        self.assertIn('producer 2-11: its call is L + 1', caught['TakesTheNext'])
+
     def test_wrong_ways_to_let_go_are_caught(self):
         """An exploration blind to a phase 8 that does not retire, that gives no item or another, or that leaves the
         tail record. Two others never stand in 8 and are linearizable; their own run shows them."""
@@ -312,7 +325,7 @@ class Sensitivity(unittest.TestCase):
             self.assertIsNotNone(explore.explore_histories(2, 2, 1, 2, 20, engine=engine).violation)
             recorder = im.Recorder(2, 2, 1, 9, engine=engine)
             for v in range(2):
-                recorder.run([('e', 1, v)] + [('s', 1)] * 6)
+                recorder.run([('e', 1, v)] + [('s', 1)] * 5)
             recorder.run(([('d',)] + [('s', 0)] * 3) * 2)
             self.assertFalse(explore.demand_3_long(im.items_left(recorder.words), recorder.history))
 
@@ -321,7 +334,7 @@ class Sensitivity(unittest.TestCase):
         rng = random.Random(11)
         failed = {'ranges'} if invariants.CLAUSES['ranges'](out_of_range_view()) is False else set()
         states = list(reachable_states(rng, 40))
-        for _ in range(20_000):
+        for _ in range(40_000):
             words, ghost = rng.choice(states)
             damaged = damaged_words(rng, words), damaged_ghost(rng, ghost)
             if im.in_range(damaged[0]):

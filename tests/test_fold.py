@@ -119,9 +119,9 @@ def stopped_front(opened, N=4, P=2):
     """B = 2. Producer 1 takes position 0 and stops. Producer 2 enqueues 11, 12, 13, 14 at positions 1 to 4. Three dequeues
     give positions 1 to 3; record 1, of place 2, is all handled then."""
     recorder = opened(2, N, P, 99)
-    recorder.run(E(1, 10) + S(1))
+    recorder.run(E(1, 10))
     for v, steps in zip(range(11, 15), (6, 7, 6, 7)):
-        recorder.run(E(2, v) + S(2, steps))
+        recorder.run(E(2, v) + S(2, steps - 1))
     for steps in (7, 11, 15):
         recorder.run(D + S(0, steps))
     return recorder
@@ -179,10 +179,10 @@ class Folding(unittest.TestCase):
         """A fold of a record with an entry that is empty: its first or its last."""
         for taken in (2, 3):
             recorder = Recorder(2, 4, 3, 99)
-            recorder.run(E(1, 10) + S(1))
+            recorder.run(E(1, 10))
             for position in range(1, 5):
                 if position == taken:
-                    recorder.run(E(3, 13) + S(3))
+                    recorder.run(E(3, 13))
                 else:
                     enqueue_whole(recorder, 2, 10 + position)
             for _ in range(4):
@@ -192,7 +192,7 @@ class Folding(unittest.TestCase):
     def test_not_the_head_record(self):
         """A fold of the head record: its entries past the head are all handled, and it was not entered at its first."""
         recorder = Recorder(2, 4, 2, 99)
-        recorder.run(E(1, 10) + S(1))
+        recorder.run(E(1, 10))
         for v in (11, 12):
             enqueue_whole(recorder, 2, v)
         for _ in range(3):
@@ -202,7 +202,7 @@ class Folding(unittest.TestCase):
     def test_not_the_tail_record(self):
         """A fold of the tail record: all its entries are handled, the next is linked ahead, and the scan ends there."""
         recorder = Recorder(2, 4, 2, 99)
-        recorder.run(E(1, 10) + S(1))
+        recorder.run(E(1, 10))
         for v in (11, 12, 13):
             enqueue_whole(recorder, 2, v)
         for _ in range(3):
@@ -465,10 +465,10 @@ def fold_of(engine):
 def empty_entry_run(engine):
     """The uses of the records after a scan over record 1, of which position 2 is handled and position 3 empty."""
     recorder = Recorder(2, 4, 3, 99, engine=engine)
-    recorder.run(E(1, 10) + S(1))
+    recorder.run(E(1, 10))
     for v in (11, 12):
         enqueue_whole(recorder, 2, v)
-    recorder.run(E(3, 13) + S(3))
+    recorder.run(E(3, 13))
     enqueue_whole(recorder, 2, 14)
     for _ in range(3):
         dequeue_whole(recorder)
@@ -484,9 +484,9 @@ def walk_run(engine):
     record 2, whose prev is record 1. Producer 3 ends and its item is taken; the next scan folds record 1. Producer 2 enqueues at
     7, with the last free record, and 8, and claims ahead at 9: the recorder, and the reply of that claim."""
     recorder = Recorder(2, 5, 3, 99, engine=engine)
-    recorder.run(E(1, 10) + S(1))
+    recorder.run(E(1, 10))
     enqueue_whole(recorder, 2, 11)
-    recorder.run(E(3, 12) + S(3))
+    recorder.run(E(3, 12))
     for v in (13, 14):
         enqueue_whole(recorder, 2, v)
     recorder.run(S(1))
@@ -499,7 +499,7 @@ def walk_run(engine):
         dequeue_whole(recorder)
     for v in (17, 18):
         enqueue_whole(recorder, 2, v)
-    return recorder, recorder.run(E(2, 19) + S(2, 5))[-1]
+    return recorder, recorder.run(E(2, 19) + S(2, 4))[-1]
 
 
 if __name__ == '__main__':

@@ -20,7 +20,7 @@ SEARCHED = (
     (4, 2, 1, 9, 13),
     (2, 2, 2, 11, 18),
 )
-# and by longest_enqueue.py as a program, which takes from a quarter of a minute to over one.
+# and by longest_enqueue.py as a program, which takes from ten seconds to a minute.
 SEARCHED_LONG = (
     (3, 2, 2, 11, 18),
     (4, 2, 2, 11, 18),
@@ -64,7 +64,7 @@ class Kept(unittest.TestCase):
             replies, wrong = tallied(Run(B, N, P, starts(calls)), calls)
             self.assertEqual((calls[-1], replies[-1], wrong), (('s', OURS), ('end', steps), []), (B, N, P))
             started = max(k for k, call in enumerate(calls) if call[:2] == ('e', OURS))
-            self.assertEqual(calls[started:].count(('s', OURS)), steps)
+            self.assertEqual(calls[started:].count(('s', OURS)), steps - 1)
 
     def test_bounds(self):
         """A row past one of its bounds, or with another."""
@@ -162,9 +162,9 @@ class GoesBackNowhere(im.Intake):
 
 
 # Producer 3 has linked the record that producer 1 needs, and stands between phases 5 and 6.
-STOPPED_LINKER = E(1, 7) + S(1, 4) + E(2, 7) + S(2, 3) + E(3, 7) + S(3, 5) + E(1, 7)
-# Producer 1 has taken a position before the tail record.
-LATE = E(1, 7) + S(1) + E(2, 7) + S(2, 6) + E(2, 7) + S(2, 7)
+STOPPED_LINKER = E(1, 7) + S(1, 3) + E(2, 7) + S(2, 2) + E(3, 7) + S(3, 4) + E(1, 7)
+# Producer 1 has a position before the tail record.
+LATE = E(1, 7) + E(2, 7) + S(2, 5) + E(2, 7) + S(2, 6)
 
 
 class WhatTheBoundShutsOut(unittest.TestCase):
@@ -187,8 +187,8 @@ class WhatTheBoundShutsOut(unittest.TestCase):
         """An enqueue that is refused with 8 more often than its bound, and whose number of steps grows by that."""
         recorder = im.Recorder(2, 2, 1, 5)
         for steps in (4, 6, 7, 5):
-            recorder.run(E(1, 7) + S(1, steps))
-        self.assertEqual(recorder.run(E(1, 7) + S(1, 103))[1:], going(1, 3) + [refused(8)] * 100)
+            recorder.run(E(1, 7) + S(1, steps - 1))
+        self.assertEqual(recorder.run(E(1, 7) + S(1, 102))[1:], going(2, 3) + [refused(8)] * 100)
         recorder.run(D + S(0, 3) + D + S(0, 4))
         self.assertEqual(recorder.run(S(1, 6)), going(4, 8) + end(9))
 

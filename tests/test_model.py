@@ -1,6 +1,8 @@
-"""The model against document 01 and U1 to U3 of document 02: runs, claims, records that are let go, numbers of steps,
-refusals, damaged stores, and the four traps. test_drain.py has U5, test_fold.py U6, test_room.py how long a store lasts."""
+"""The model against document 01 and U1 to U3 and U8 of document 02: runs, claims, records that are let go, numbers of
+steps, starts, refusals, damaged stores, and the four traps. test_drain.py has U5, test_fold.py U6, test_room.py how long a
+store lasts."""
 
+import collections
 import random
 import unittest
 
@@ -29,6 +31,11 @@ def refused(number):
     return ('refused', number)
 
 
+def started(call):
+    """The reply of a start enqueue, which is the call's first step."""
+    return [('ok', call, 1)]
+
+
 def going(first, last=None):
     """The replies of a call's steps from one to another, all going; of one step if no other is given."""
     return [('going', k) for k in range(first, (last or first) + 1)]
@@ -54,9 +61,10 @@ def opened(B, N, P, M):
 
 
 def enqueue_whole(recorder, t, v, limit=50):
-    """Run an enqueue to its end; the number of steps it took, or the refusal it met and on which step."""
+    """Run an enqueue to its end; the number of steps it took, or the refusal it met and on which step. The start is the
+    first."""
     recorder.call(('e', t, v))
-    for tried in range(1, limit + 1):
+    for tried in range(2, limit + 1):
         reply = recorder.call(('s', t))
         if reply[0] == 'end':
             return reply[1]
@@ -92,8 +100,8 @@ class Runs(unittest.TestCase):
         """A wrong phase order, a wrong empty answer, a lost item or a wrong number of steps in the shortest run."""
         recorder = Recorder(2, 2, 1, 9)
         self.assertEqual(recorder.opened, OK)
-        replies = recorder.run(D + S(0, 2) + E(1, 7) + S(1, 4))
-        self.assertEqual(replies, [OK] + going(1) + empty(2) + [('ok', 1)] + going(1, 3) + end(4))
+        replies = recorder.run(D + S(0, 2) + E(1, 7) + S(1, 3))
+        self.assertEqual(replies, [OK] + going(1) + empty(2) + started(1) + going(2, 3) + end(4))
         self.assertEqual(recorder.run(D + S(0, 3)), [OK] + going(1, 2) + item(1, 7, 3))
         self.assertEqual(
             recorder.history,
@@ -147,7 +155,7 @@ class Runs(unittest.TestCase):
     def test_handled_entry_at_the_head(self):
         """An item found past the head that is given twice, or a head that does not pass it later."""
         recorder = Recorder(4, 2, 2, 9)
-        recorder.run(E(1, 70) + S(1, 3))
+        recorder.run(E(1, 70) + S(1, 2))
         enqueue_whole(recorder, 2, 80)
         self.assertEqual(recorder.run(D + S(0, 7)), [OK] + going(1, 6) + item(2, 80, 7))
         self.assertEqual(recorder.run(S(1)), end(4))
@@ -157,7 +165,7 @@ class Runs(unittest.TestCase):
     def test_rescan_begins_again_after_each_find(self):
         """A rescan that keeps the first set entry it meets: here 2 is found, then 1, then 0."""
         recorder = Recorder(4, 2, 3, 9)
-        recorder.run(E(1, 70) + S(1, 3) + E(2, 80) + S(2, 3))
+        recorder.run(E(1, 70) + S(1, 2) + E(2, 80) + S(2, 2))
         enqueue_whole(recorder, 3, 90)
         self.assertEqual(recorder.run(D + S(0, 7)), [OK] + going(1, 7))
         self.assertEqual(recorder.run(S(2) + S(0)), going(4) + going(8))
@@ -167,7 +175,7 @@ class Runs(unittest.TestCase):
         """A back flag that is not kept: position 1 is set after going back, with a record free."""
         recorder = Recorder(2, 3, 2, 9)
         enqueue_whole(recorder, 2, 0)
-        recorder.run(E(1, 1) + S(1))
+        recorder.run(E(1, 1))
         enqueue_whole(recorder, 2, 2)
         self.assertEqual(im.free_records(recorder.words), [2])
         self.assertEqual(recorder.run(S(1, 4)), going(2, 4) + end(5))
@@ -339,7 +347,7 @@ def given_back_run(engine, N, dequeues):
     enqueues at position 3, and claims."""
     recorder = ClaimRecorder(2, N, 2, 9, engine=engine)
     enqueue_whole(recorder, 1, 0)
-    recorder.run(E(2, 1) + S(2, 3) + E(1, 2) + S(1, 3) + S(2) + S(1) + S(2) + S(1) + S(2) + S(1, 4))
+    recorder.run(E(2, 1) + S(2, 2) + E(1, 2) + S(1, 2) + S(2) + S(1) + S(2) + S(1) + S(2) + S(1, 4))
     for _ in range(dequeues):
         dequeue_whole(recorder)
     enqueue_whole(recorder, 1, 3)
@@ -360,7 +368,7 @@ def late_set_run(engine):
     """B = 4. Producer 1 takes 0 and stops before phase 9. The dequeue steps twice. Producer 1 ends; producer 2
     enqueues and ends. The replies of five more steps."""
     recorder = Recorder(4, 2, 2, 9, engine=engine)
-    recorder.run(E(1, 70) + S(1, 3) + D + S(0, 2) + S(1))
+    recorder.run(E(1, 70) + S(1, 2) + D + S(0, 2) + S(1))
     enqueue_whole(recorder, 2, 80)
     return recorder.run(S(0, 5))
 
@@ -469,7 +477,7 @@ class LettingGo(unittest.TestCase):
         for steps in (4, 6):
             recorder = Recorder(2, 2, 1, 9)
             enqueue_whole(recorder, 1, 70)
-            recorder.run(E(1, 71) + S(1, steps))
+            recorder.run(E(1, 71) + S(1, steps - 1))
             self.assertEqual(recorder.run(D + S(0, 3)), [OK] + going(1, 2) + item(1, 70, 3))
             self.assertEqual(recorder.run(D + S(0, 3)), [OK] + going(1, 2) + item(2, 71, 3))
             self.assertEqual(recorder.run(D + S(0)), [OK] + empty(1))
@@ -492,7 +500,7 @@ class LettingGo(unittest.TestCase):
     def test_head_that_passes_to_the_end(self):
         """A move that is not made where phase 1 brings the head to the record's end: its last item was taken first."""
         recorder = Recorder(2, 2, 2, 9)
-        recorder.run(E(1, 70) + S(1, 3))
+        recorder.run(E(1, 70) + S(1, 2))
         for v in (71, 72):
             enqueue_whole(recorder, 2, v)
         self.assertEqual(dequeue_whole(recorder), ('item', 2, 71, 7))
@@ -551,7 +559,7 @@ class LettingGo(unittest.TestCase):
 # For each round of the run below what producer 3 met, the dequeue of the last item, and how producer 3 went on.
 LET_GO = [
     (
-        [('ok', 5 + 2 * k)] + going(1, 3) + [refused(8)],
+        started(5 + 2 * k) + going(2, 3) + [refused(8)],
         [OK] + going(1, 3) + item(2 + 2 * k, 1 + 2 * k, 4),
         going(4, 8) + end(9),
     )
@@ -567,13 +575,13 @@ def let_go_run(call, rounds=3):
     def run(calls):
         return [call(each) for each in calls]
 
-    run(E(1, 0) + S(1, 4) + E(2, 1) + S(2, 6) + E(1, 2) + S(1, 7) + E(2, 3) + S(2, 5))
+    run(E(1, 0) + S(1, 3) + E(2, 1) + S(2, 5) + E(1, 2) + S(1, 6) + E(2, 3) + S(2, 4))
     replies = []
     for k in range(rounds):
-        met = run(E(3, 4 + 2 * k) + S(3, 4))
+        met = run(E(3, 4 + 2 * k) + S(3, 3))
         run(D + S(0, 3))
         replies.append((met, run(D + S(0, 4)), run(S(3, 6))))
-        run(E(1, 5 + 2 * k) + S(1, 5))
+        run(E(1, 5 + 2 * k) + S(1, 4))
     return replies
 
 
@@ -586,7 +594,7 @@ def tail_record_run(engine):
     second of two dequeues, and one step more."""
     recorder = Recorder(2, 2, 1, 9, engine=engine)
     enqueue_whole(recorder, 1, 70)
-    recorder.run(E(1, 71) + S(1, 5))
+    recorder.run(E(1, 71) + S(1, 4))
     dequeue_whole(recorder)
     return recorder.run(D + S(0, 4))
 
@@ -647,7 +655,7 @@ class EndsAfterTheLast(Intake):
 COUNTING = (LeavesOutStays, CountsEachPhase)
 
 # (producer, phase, reply) of every accepted step
-ACCEPTED_STEPS = {(True, phase, 'going') for phase in range(1, 11)} | {(True, phase, 'end') for phase in (9, 10, 11)}
+ACCEPTED_STEPS = {(True, phase, 'going') for phase in range(2, 11)} | {(True, phase, 'end') for phase in (9, 10, 11)}
 ACCEPTED_STEPS |= {(False, phase, 'going') for phase in range(1, 9)} | {(False, phase, 'empty') for phase in (1, 2, 3)}
 ACCEPTED_STEPS |= {(False, phase, 'item') for phase in (7, 8)}
 ACCEPTED_STEPS |= {(False, phase, 'drained') for phase in (1, 2, 3, 7, 8)}
@@ -662,7 +670,7 @@ class Counting(unittest.TestCase):
         recorder = Recorder(2, 2, 1, 9)
         self.assertEqual(recorder.run(D + S(0)), [OK] + going(1))
         for call, steps in enumerate((4, 6, 7, 5), 1):
-            self.assertEqual(recorder.run(E(1, 0) + S(1, steps)), [('ok', call)] + going(1, steps - 1) + end(steps))
+            self.assertEqual(recorder.run(E(1, 0) + S(1, steps - 1)), started(call) + going(2, steps - 1) + end(steps))
         self.assertEqual(recorder.run(S(0, 2)), going(2, 3))
 
     def test_steps_that_stay(self):
@@ -683,14 +691,14 @@ class Counting(unittest.TestCase):
         self.assertEqual(recorder.run(S(0) + S(1, 2)), [refused(7)] * 3)
         for v, steps in enumerate((4, 6, 7, 5)):
             self.assertEqual(enqueue_whole(recorder, 1, v), steps)
-        self.assertEqual(recorder.run(E(1, 4) + S(1, 5)), [('ok', 5)] + going(1, 3) + [refused(8)] * 2)
+        self.assertEqual(recorder.run(E(1, 4) + S(1, 4)), started(5) + going(2, 3) + [refused(8)] * 2)
         self.assertEqual(recorder.run(S(2) + S(0) + S(1)), [refused(4), refused(7), refused(8)])
         self.assertEqual((dequeue_whole(recorder), dequeue_whole(recorder)), (('item', 1, 0, 3), ('item', 2, 1, 4)))
         recorder.words[12] = 1
         self.assertEqual(recorder.run(S(1, 2)), [refused(3)] * 2)
         recorder.words[12] = 0
         self.assertEqual(recorder.run(S(1, 6)), going(4, 8) + end(9))
-        self.assertEqual(recorder.run(S(1) + E(1, 5) + S(1)), [refused(7), ('ok', 6)] + going(1))
+        self.assertEqual(recorder.run(S(1) + E(1, 5) + S(1)), [refused(7)] + started(6) + going(2))
 
     def test_the_last_numbers(self):
         """A number that leaves its range, or a step refused before it does: in every phase, with every reply."""
@@ -755,7 +763,7 @@ def scan_run(engine):
     the answers of two dequeues."""
     recorder = Recorder(2, 3, 4, 9, engine=engine)
     for t in (1, 2, 3):
-        recorder.run(E(t, t) + S(t))
+        recorder.run(E(t, t))
     return enqueue_whole(recorder, 4, 4), dequeue_whole(recorder), dequeue_whole(recorder)
 
 
@@ -763,7 +771,7 @@ def back_run(engine):
     """B = 2. Producer 1 takes position 0 and stops; producer 2 enqueues at positions 1 to 4, in three records. What
     producer 1 then replies: it loads the third record and goes back over two."""
     recorder = Recorder(2, 3, 2, 9, engine=engine)
-    recorder.run(E(1, 0) + S(1))
+    recorder.run(E(1, 0))
     for v in range(1, 5):
         enqueue_whole(recorder, 2, v)
     return recorder.run(S(1, 5))
@@ -773,7 +781,7 @@ def accepted_steps():
     """For every (producer, phase, reply) of random runs a store on which such a step is accepted, and its thread."""
     stores = {}
     for seed in range(60):
-        rng, recorder = random.Random(seed), Recorder(2, 2 + seed % 3, 3, 40)
+        rng, recorder = random.Random(seed), Recorder(2, 2 + seed % 3, 3, (5, 6, 40)[seed // 3 % 3])  # with few starts it is empty soon
         for _ in range(300):
             t = rng.randrange(4)
             before = list(recorder.words)
@@ -782,6 +790,141 @@ def accepted_steps():
             if before[16 + 8 * t] and reply[0] != 'refused':
                 stores.setdefault((t > 0, before[16 + 8 * t], reply[0]), (before, t))
     return stores
+
+
+# Starting takes the place (document 02, U8): wrong engines, then the runs.
+
+
+class TakesNothing(Intake):
+    """A start leaves the producer in phase 1, and takes no position."""
+
+    def take(self):
+        self.put(im.PHASE, 1)
+
+
+class LeavesTail(Intake):
+    """A start takes position tail, and tail stays."""
+
+    def take(self):
+        super().take()
+        self.w[im.TAIL] -= 1
+
+
+class TakesTheNext(Intake):
+    """A start takes the position that tail grows to."""
+
+    def take(self):
+        super().take()
+        self.put(im.POSITION, self.w[im.TAIL])
+
+
+class CountsFromZero(Intake):
+    """The take is not counted as a step."""
+
+    def begin(self, t, v):
+        reply = super().begin(t, v)
+        self.put(im.STEPS, 0)
+        return reply[:2] + (0,)
+
+
+class LoadsToo(Intake):
+    """A start makes the first load as well."""
+
+    def take(self):
+        super().take()
+        self.load()
+
+
+STARTING = (TakesNothing, LeavesTail, TakesTheNext, CountsFromZero, LoadsToo)
+
+
+class Starting(unittest.TestCase):
+    """A start of an enqueue takes its position, and is the call's first step."""
+
+    def test_word_by_word(self):
+        """A start that writes another word, or another number into one of these: starts, tail, and phase, call number, value,
+        position and steps of its thread. Producers 2 and 1 start on a store on which three enqueues have started."""
+        recorder = Recorder(2, 3, 3, 9)
+        for v in (70, 71):
+            enqueue_whole(recorder, 1, v)
+        recorder.run(E(3, 72) + S(3, 2) + D + S(0, 2))
+        for t, v, position in ((2, 2**32 - 1, 3), (1, 0, 4)):
+            before = list(recorder.words)
+            self.assertEqual(recorder.run(E(t, v)), [('ok', position + 1, 1)])
+            changes = {6: position + 1, 10: position + 1}
+            changes |= {16 + 8 * t + k: word for k, word in enumerate([2, position + 1, v, position, 0, 0, 0, 1])}
+            self.assertEqual(recorder.words, changed(before, changes))
+
+    def test_positions_by_starts(self):
+        """Positions in the order of first steps, and not of starts: producer 2 starts first and steps last. Its item comes out first."""
+        recorder = Recorder(4, 2, 2, 9)
+        self.assertEqual(recorder.run(E(2, 80) + E(1, 70)), started(1) + started(2))
+        self.assertEqual(recorder.run(S(1, 5)), going(2, 5) + end(6))
+        self.assertEqual(recorder.run(S(2, 3)), going(2, 3) + end(4))
+        self.assertEqual([dequeue_whole(recorder) for _ in range(2)], item(1, 80, 3) + item(2, 70, 3))
+
+    def test_forgotten_steps(self):
+        """A start without a step that takes no position: a dequeue reads tail and scans, and answers empty on its third step."""
+        recorder = Recorder(4, 2, 1, 9)
+        self.assertEqual(recorder.run(E(1, 7) + D + S(0, 3)), started(1) + [OK] + going(1, 2) + empty(3))
+
+    def test_any_store(self):
+        """A start that looks at another word, or in another order, or writes otherwise, on stores that no engine wrote."""
+        rng, seen = random.Random(44), collections.Counter()
+        for _ in range(6000):
+            words = random_store(rng)
+            (M, tail, starts), v = (words[k] for k in (3, 6, 10)), rng.getrandbits(32)
+            for t in range(words[2] + 2):
+                after, own = list(words), 16 + 8 * t
+                reply = start_enqueue(after, t, v)
+                if t == 0 or t > words[2]:
+                    expected = refused(4), words
+                elif words[own]:
+                    expected = refused(5), words
+                elif starts == M:
+                    expected = refused(6), words
+                elif tail == M:
+                    expected = refused(9), words
+                else:
+                    new = dict(enumerate([2, starts + 1, v, tail, 0, 0, 0, 1], own)) | {6: tail + 1, 10: starts + 1}
+                    expected = ('ok', starts + 1, 1), changed(words, new)
+                self.assertEqual((reply, after), expected)
+                seen[reply if reply[0] == 'refused' else ('ok', tail < starts, tail == starts)] += 1
+                seen['both'] += reply == refused(6) and tail == M
+        for known in (*map(refused, (4, 5, 6, 9)), ('ok', True, False), ('ok', False, True), ('ok', False, False), 'both'):
+            self.assertGreater(seen[known], 30, seen)
+
+    def test_tail_and_numbers(self):
+        """A store of the model on which tail is not starts, or a call's number not its position plus one."""
+        under_way = 0
+        for seed in range(40):
+            recorder = Recorder(2, 3, 3, 40)
+            random_calls(recorder, seed, 300)
+            words = recorder.words
+            self.assertEqual(words[6], words[10])
+            for own in range(24, 48, 8):
+                if words[own]:
+                    self.assertEqual(words[own + 1], words[own + 3] + 1)
+                    under_way += 1
+        self.assertGreater(under_way, 40)
+
+    def test_wrong_starts(self):
+        """Runs too weak to see a start that takes nothing, takes wrongly, is not counted or does more."""
+        right = starts_run(Intake)
+        self.assertEqual(right, (started(1) + started(2), going(2, 3) + end(4), ('item', 1, 70, 3)))
+        seen = {engine.__name__: starts_run(engine) for engine in STARTING}
+        self.assertEqual(seen['TakesNothing'], (started(1) + [refused(3)], [refused(3)] * 3, refused(3)))
+        self.assertEqual(seen['LeavesTail'][2], ('item', 1, 70, 3))
+        self.assertEqual(seen['TakesTheNext'][1], going(2, 4))
+        self.assertEqual(seen['CountsFromZero'][:2], ([('ok', 1, 0), ('ok', 2, 0)], going(1, 2) + end(3)))
+        self.assertEqual(seen['LoadsToo'][1], going(2) + end(3) + [refused(7)])
+
+
+def starts_run(engine):
+    """B = 4. Producers 1 and 2 start; the replies of that, of producer 1's three steps, and the answer of a dequeue."""
+    recorder = Recorder(4, 2, 2, 9, engine=engine)
+    starts, steps = recorder.run(E(1, 70) + E(2, 80)), recorder.run(S(1, 3))
+    return starts, steps, dequeue_whole(recorder)
 
 
 # Traps on the way: wrong engines.
@@ -866,7 +1009,7 @@ def stopped_linker_run(engine):
     phase 6. The steps of producer 3 at position 3."""
     recorder = Recorder(2, 2, 3, 9, engine=engine)
     enqueue_whole(recorder, 3, 0)
-    recorder.run(E(1, 1) + S(1, 3) + E(2, 2) + S(2, 5))
+    recorder.run(E(1, 1) + S(1, 2) + E(2, 2) + S(2, 4))
     return enqueue_whole(recorder, 3, 3)
 
 
@@ -884,7 +1027,7 @@ def stopped_holder_run(engine):
     recorder = Recorder(2, 2, 2, 9, engine=engine)
     for v in range(2):
         enqueue_whole(recorder, 2, v)
-    recorder.run(E(1, 2) + S(1, 3))
+    recorder.run(E(1, 2) + S(1, 2))
     enqueue_whole(recorder, 2, 3)
     for _ in range(2):
         dequeue_whole(recorder)
@@ -956,7 +1099,6 @@ class Refusals(unittest.TestCase):
     def test_3_limits_of_thread_words_by_phase(self):
         """A thread word not in use that is let through, or one in use that is not."""
         top, steps = 2**32 - 1, 100_000_000
-        self.assert_thread_limits(1, 1, [4, top, 0, 0, 0, 0, steps])
         for phase in (2, 3, 4, 6, 7, 8, 9):
             self.assert_thread_limits(1, phase, [4, top, 4, 3, 0, 1, steps])
         self.assert_thread_limits(1, 5, [4, top, 4, 3, 3, 1, steps])
@@ -970,6 +1112,21 @@ class Refusals(unittest.TestCase):
         self.assert_thread_limits(0, 6, [0, 1, 3, 4, 0, 0, steps])
         self.assert_thread_limits(0, 7, [0, 1, 3, 4, 4, top, steps])
         self.assert_thread_limits(0, 8, [0, 1, 0, 0, 4, top, steps])
+
+    def test_3_phase_1_of_a_producer(self):
+        """A producer's phase 1 that is let through, by a start or a step of any thread: with the words that it had before U8, with
+        those of phase 2, and with none."""
+        for own in (24, 32):
+            for rest in ([1, 7, 0, 0, 0, 0, 0], [1, 7, 0, 0, 0, 0, 1], [1, 7, 0, 2, 0, 0, 1], [0] * 7):
+                for phase in (1, 2):
+                    words = opened(2, 3, 2, 4)
+                    words[own : own + 8] = [phase, *rest]
+                    self.assertEqual(im.in_range(words), phase == 2)
+                    for call in [('d',), ('drain', 2)] + [(kind, t) + (7,) * (kind == 'e') for kind in 'es' for t in range(4)]:
+                        after = list(words)
+                        reply = im.do(after, call)
+                        self.assertEqual(reply == refused(3), phase == 1, call)
+                        self.assertTrue(phase == 2 or after == words)
 
     def assert_thread_limits(self, t, phase, tops):
         words = opened(2, 3, 1, 4)
@@ -996,11 +1153,32 @@ class Refusals(unittest.TestCase):
     def test_5_comes_before_6(self):
         """A second start of a busy thread, and the order of the two checks."""
         words = opened(2, 2, 2, 1)
-        self.assertEqual(start_enqueue(words, 1, 5), ('ok', 1))
+        self.assertEqual(start_enqueue(words, 1, 5), ('ok', 1, 1))
         self.assert_refused(5, words, start_enqueue, 1, 5)
         self.assert_refused(6, words, start_enqueue, 2, 5)
         self.assertEqual(start_dequeue(words), OK)
         self.assert_refused(5, words, start_dequeue)
+
+    def test_9_comes_after_6(self):
+        """A tail that a start takes past M; and 9 where no start is left, where the thread is busy, where there is no such producer
+        or where a word is out of range."""
+        words = opened(2, 2, 2, 4)
+        words[6] = 4
+        for starts in (0, 1, 3):
+            words[10] = starts
+            self.assert_refused(9, words, start_enqueue, 1, 5)
+        words[6], words[10] = 3, 4
+        self.assert_refused(6, words, start_enqueue, 1, 5)
+        words[6] = 4
+        self.assert_refused(6, words, start_enqueue, 1, 5)
+        words[32:40] = [2, 1, 7, 0, 0, 0, 0, 1]
+        for starts in (3, 4):
+            words[10] = starts
+            self.assert_refused(5, words, start_enqueue, 2, 5)
+            self.assert_refused(4, words, start_enqueue, 3, 5)
+        self.assertEqual(start_dequeue(list(words)), OK)
+        words[6] = 5
+        self.assert_refused(3, words, start_enqueue, 1, 5)
 
     def test_7_idle_thread(self):
         """A step of a thread that has no call."""
@@ -1032,10 +1210,7 @@ class Refusals(unittest.TestCase):
             self.assert_refused(9, words, step, 1)
 
     def test_9_number_leaves_its_range(self):
-        """A tail or a place that grows past its range."""
-        words = opened(2, 2, 1, 4)
-        words[6], words[24] = 4, 1
-        self.assert_refused(9, words, step, 1)
+        """A place that grows past its range."""
         words = opened(2, 2, 1, 4)
         words[24:32] = [5, 1, 5, 2, 1, 2, 0, 0]
         words[32] = 500_002
@@ -1047,8 +1222,9 @@ class Refusals(unittest.TestCase):
 class Damage(unittest.TestCase):
     """Stores that the engine did not write."""
 
-    CAN_MEET_9 = {('producer', k) for k in (1, 3, 5, 6, 7, 8, 9, 11)} | {('consumer', k) for k in range(1, 9)}
+    CAN_MEET_9 = {('producer', k) for k in (3, 5, 6, 7, 8, 9, 11)} | {('consumer', k) for k in range(1, 9)}
     ALL_PHASES = CAN_MEET_9 | {('producer', k) for k in (2, 4, 10)}
+    CAN_MEET_9 |= {('start', 0)}
 
     def check(self, words, call):
         """No call raises; a refusal changes nothing; an accepted call leaves words in range. The reply."""
@@ -1090,7 +1266,7 @@ class Damage(unittest.TestCase):
             self.assertTrue(im.in_range(words))
             for call, reply in self.check_all(words).items():
                 if reply == refused(9):
-                    role = 'producer' if call[1] else 'consumer'
+                    role = 'start' if call[0] == 'e' else 'producer' if call[1] else 'consumer'
                     full = step_counts.steps_of(words)[call[1]] == MOST_STEPS
                     (met_full if full else met).add((role, words[16 + 8 * call[1]]))
         self.assertEqual(met, self.CAN_MEET_9)
@@ -1133,7 +1309,7 @@ def random_store(rng):
     word_12 = rng.randint(0, 1)
     for t in range(P + 1):
         by_phase = im.thread_limits(N, M)[1 if t else 0]
-        phase = rng.randrange(len(by_phase))
+        phase = rng.choice(list(by_phase))
         words += [phase] + [rng.randint(0, min(limit, 12)) for limit in by_phase[phase][1:-1]]
         words.append(step_counts.drawn(rng) if phase else 0)
     words[12] = word_12 if words[16] in (3, 4) else 0

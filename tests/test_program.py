@@ -40,8 +40,10 @@ def parse(line):
 
 
 def line_of(reply):
-    """The printed line of a reply. The number of steps comes last on `end`, `empty` and `item`; `going` has none."""
-    return reply[0] if reply[0] == 'going' else ' '.join(map(str, reply))
+    """The printed line of a reply. The number of steps comes last on `end`, `empty` and `item`; `ok CALL` and `going` have
+    none."""
+    shown = {'ok': reply[:2], 'going': reply[:1]}.get(reply[0], reply)
+    return ' '.join(map(str, shown))
 
 
 def expected(data):

@@ -39,7 +39,7 @@ class StoppedFeeder(unittest.TestCase):
                 self.assertEqual(ended, self.expected(B, N, phase), (B, N, P, phase))
 
     def test_largest_host(self):
-        """The same of the sizes of host/host.c, for a feeder that has taken a position and not loaded."""
+        """The same of the sizes of host/host.c, for a feeder that has started and not stepped."""
         self.assertEqual(stopped_feeder((8, 64, 16), Before, 2, 0, 2_000), 8 * 64 - 1)
         self.assertEqual(stopped_feeder((8, 64, 16), im.Intake, 2, 0, 2_000), 2_000)
 

@@ -29,10 +29,9 @@ static int link_ok(const Store *z, uint32_t x) { return x <= z->N; }
 
 static int producer_ok(const Store *z, const uint32_t *w) {
     uint32_t p = w[PHASE];
-    if (p > 11) return 0;
+    if (p == 1 || p > 11) return 0; /* a start takes the position: no producer is in phase 1 */
     if (p == 0) return (w[1] | w[2] | w[3] | w[4] | w[5] | w[6] | w[7]) == 0;
     if (!number_ok(z, w[CALL]) || w[STEPS] > MOST_STEPS) return 0;
-    if (p == 1) return (w[3] | w[4] | w[5] | w[6]) == 0;
     if (!number_ok(z, w[POSITION]) || !link_ok(z, w[HELD])) return 0;
     if (p == 5 || p == 11 ? !link_ok(z, w[CLAIMED]) : w[CLAIMED] != 0) return 0;
     return p >= 10 ? w[BACKED] == 0 : w[BACKED] <= 1;
@@ -209,11 +208,6 @@ static int link_claimed(Store *z, uint32_t *w) {
 static uint32_t produce(Store *z, uint32_t t) {
     uint32_t *w = thread(z, t), *s = z->s, *h = w[HELD] ? record(z, w[HELD]) : 0, *e, L = w[POSITION];
     switch (w[PHASE]) {
-    case 1:
-        if (s[TAIL] == z->M) return 9;
-        w[POSITION] = s[TAIL]++;
-        w[PHASE] = 2;
-        return 100;
     case 2:
         w[HELD] = s[TAIL_RECORD];
         w[PHASE] = choose(z, L, record(z, w[HELD])[PLACE]);
@@ -456,9 +450,12 @@ static uint32_t start_enqueue(uint32_t *s, size_t words, uint32_t t, uint32_t va
     uint32_t *w = thread(&z, t);
     if (w[PHASE]) return 5;
     if (s[STARTS] == z.M) return 6;
-    w[PHASE] = 1;
+    if (s[TAIL] == z.M) return 9;
+    w[PHASE] = 2;
     reply[0] = w[CALL] = ++s[STARTS];
     w[VALUE] = value;
+    w[POSITION] = s[TAIL]++;
+    reply[2] = w[STEPS] = 1;
     return 0;
 }
 

@@ -9,7 +9,7 @@ use lib.ListN.{length, getD, drop}
 use borrow.Author.Tests.{eq-eqb, ne-eqb, le-leb, lt-leb}
 use Rattle.rules.specs.Sizes.{Sizes, mostSteps, contentWords, lastClaimedWord, allHandledWord, firstSpare, threadWords}
 use Rattle.rules.specs.Cell.{reader, content, lastClaimed, allHandled, spare, consumer, producer}
-use Rattle.rules.specs.Range.{Sort, unused, exactly, number, link, record-number, most, any, ofSort, ofSorts, threadInRange, producerInRange, consumerInRange, contentsInRange, contentSorts, lastClaimedSort, spareSorts, producerSorts, consumerSorts, idleSorts, placedSorts, frontSorts, cursorSorts, lastProducerPhase, lastConsumerPhase, mostAllHandled}
+use Rattle.rules.specs.Range.{Sort, unused, exactly, number, link, record-number, most, any, nothing, ofSort, ofSorts, threadInRange, producerInRange, consumerInRange, contentsInRange, contentSorts, lastClaimedSort, spareSorts, producerSorts, consumerSorts, idleSorts, placedSorts, frontSorts, cursorSorts, lastProducerPhase, lastConsumerPhase, mostAllHandled}
 use Rattle.rules.specs.Update.{both, true-false}
 use Rattle.rules.specs.Request.{sizesOf}
 use Rattle.store.specs.Caps.{cap, mostWord}
@@ -25,6 +25,7 @@ capped link = true
 capped record-number = false
 capped (most n) = true
 capped any = true
+capped nothing = false
 
 abbrev pub allCapped : List Sort → Bool
 allCapped [] = true
@@ -42,6 +43,7 @@ sort-test z link x c w = refl
 sort-test z record-number x c w = absurd (true-false c refl)
 sort-test z (most n) x c w = refl
 sort-test z any x c w = sym (le-leb x mostWord w)
+sort-test z nothing x c w = absurd (true-false c refl)
 
 -- a row of sorts is a row of bounds
 pub row-test : (z : Sizes) (σ row : ℕ → ℕ) (ss : List Sort) (k : ℕ) → allCapped ss ≡ true
@@ -77,6 +79,10 @@ module _ (z : Sizes) (m : List ℕ) (fit : (j : ℕ) → getD m j 0 ≤ mostWord
 
   pub producer-past : (t : ℕ) → (1 ≤ t) × (t ≤ z .P) → (p : ℕ) → getD m (contentWords + threadWords * t) 0 ≡ p → lastProducerPhase < p → producerInRange z (reader z m) t ≡ false
   producer-past t h p e l = thread-past z lastProducerPhase producerSorts (λ j. reader z m (producer t j)) p (producer-phase t h p e) l
+
+  -- phase 1
+  pub producer-out : (t : ℕ) → (1 ≤ t) × (t ≤ z .P) → getD m (contentWords + threadWords * t) 0 ≡ 1 → producerInRange z (reader z m) t ≡ false
+  producer-out t h e = rw (producer-phase t h 1 e) refl
 
   pub consumer-row : (p : ℕ) (ss : List Sort) → getD m contentWords 0 ≡ p → p ≤ lastConsumerPhase → getD consumerSorts p [] ≡ ss
       → allCapped ss ≡ true → length ss ≡ 7 → consumerInRange z (reader z m) ≡ atMost (from m contentWords) 1 (map (cap z) ss)

@@ -32,7 +32,7 @@ fn row_at_most(s: &[u32], at: u32, a: u32, b: u32, c: u32, d: u32, e: u32, f: u3
     (s[i + 1] <= a) & ((s[i + 2] <= b) & ((s[i + 3] <= c) & ((s[i + 4] <= d) & last)))
 }
 
-// Phase 0 to 11 of producer t, and the words that the phase uses: call number, value, position, held, claimed, whether
+// Phase 0 to 11 but 1 of producer t, and the words that the phase uses: call number, value, position, held, claimed, whether
 // phase 7 was taken, accepted steps.
 fn producer_in_range(s: &[u32], z: Shape, t: u32) -> bool
     requires { ⌜ Room (sizes z) (now s) ⌝ }
@@ -49,7 +49,7 @@ fn producer_in_range(s: &[u32], z: Shape, t: u32) -> bool
     }
     match phase {
         0 => row_at_most(s, at, 0, 0, 0, 0, 0, 0, 0),
-        1 => row_at_most(s, at, m, ANY, 0, 0, 0, 0, k),
+        1 => false,
         5 => row_at_most(s, at, m, ANY, m, n, n, 1, k),
         10 => row_at_most(s, at, m, ANY, m, n, 0, 0, k),
         11 => row_at_most(s, at, m, ANY, m, n, n, 0, k),

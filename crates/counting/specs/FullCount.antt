@@ -11,11 +11,11 @@ use borrow.Author.Tests.{le-ltb, lt-leb, leb-true, eq-eqb, ne-eqb, eqb-true}
 use Rattle.rules.specs.Sizes.{Sizes, mostSteps}
 use Rattle.rules.specs.Cell.{Cell, Reader, reader, Write, consumer, producer, consumerPhase, phase, stepCount}
 use Rattle.rules.specs.Range.{Sort, ofSorts, idleSorts, consumerSorts, producerSorts, lastConsumerPhase, lastProducerPhase, threadInRange}
-use Rattle.rules.specs.Update.{both}
+use Rattle.rules.specs.Update.{both, true-false}
 use Rattle.rules.specs.InRange.{sorts-at}
 use Rattle.rules.specs.Free.{nextFree}
 use Rattle.rules.specs.Rule.{Effect, Reply, refuse, reply, need}
-use Rattle.rules.specs.Producer.{takePosition, loadTail, lookNext, claimRecord, linkClaimed, shiftTail, goBack, writeEntry, setEntry, claimAhead, linkAhead, producerRules, producerStep}
+use Rattle.rules.specs.Producer.{loadTail, lookNext, claimRecord, linkClaimed, shiftTail, goBack, writeEntry, setEntry, claimAhead, linkAhead, producerRules, producerStep}
 use Rattle.rules.specs.Consumer.{byState, front, readTail, scan, readEntry, rescan, readItem, markHandled, retireHead, consumerRules, consumerStep}
 use Rattle.rules.specs.Request.{step, effect, stepping, phaseStep, counted}
 use Rattle.store.specs.Store.{Admitted}
@@ -75,10 +75,6 @@ module _ (z : Sizes) (σ : Reader) where
 
   -- A producer's.
   module _ (t : ℕ) where
-    take-position-9 : Only9 (takePosition z σ t)
-    unfolding takePosition
-    take-position-9 = search (either, refuses, replies)
-
     load-tail-9 : Only9 (loadTail z σ t)
     unfolding loadTail
     load-tail-9 = search (needed, replies)
@@ -134,9 +130,9 @@ unfolding claimAhead
 claim-ahead-9 z σ t zero = replies
 claim-ahead-9 z σ t (suc r) = replies
 
-producer-9 : (choice : ℕ) (z : Sizes) (σ : Reader) (t p : ℕ) → 1 ≤ p → p ≤ lastProducerPhase → (p ≡ 4 → choice ≡ 0 → ⊥) → Only9 (getD (producerRules choice) p (λ z σ t. refuse 7) z σ t)
+producer-9 : (choice : ℕ) (z : Sizes) (σ : Reader) (t p : ℕ) → 2 ≤ p → p ≤ lastProducerPhase → (p ≡ 4 → choice ≡ 0 → ⊥) → Only9 (getD (producerRules choice) p (λ z σ t. refuse 7) z σ t)
 producer-9 choice z σ t zero l h n = absurd (omega arith)
-producer-9 choice z σ t (suc zero) l h n = take-position-9 z σ t
+producer-9 choice z σ t (suc zero) l h n = absurd (omega arith)
 producer-9 choice z σ t (suc (suc zero)) l h n = load-tail-9 z σ t
 producer-9 choice z σ t (suc (suc (suc zero))) l h n = look-next-9 z σ t
 producer-9 choice z σ t (suc (suc (suc (suc zero)))) l h n = claim-9 z σ t choice (n refl)
@@ -151,14 +147,18 @@ producer-9 choice z σ t (suc (suc (suc (suc (suc (suc (suc (suc (suc (suc (suc 
 
 -- A thread in range that has accepted steps is not idle.
 busy : (z : Sizes) (last : ℕ) (sorts : List (List Sort)) (row : ℕ → ℕ) → getD sorts 0 [] ≡ idleSorts → threadInRange z last sorts row ≡ true → 1 ≤ row 7
-    → (1 ≤ row 0) × (row 0 ≤ last)
+    → (1 ≤ row 0) × (row 0 ≤ last) × (ofSorts z row 1 (getD sorts (row 0) []) ≡ true)
 busy z last sorts row idle e h =
     let b = both (leb (row 0) last) (ofSorts z row 1 (getD sorts (row 0) [])) e in
-    (started (row 0) refl (b .1), leb-true (row 0) last (b .0))
+    (started (row 0) refl (b .1), leb-true (row 0) last (b .0), b .1)
   where
     started : (p : ℕ) → row 0 ≡ p → ofSorts z row 1 (getD sorts (row 0) []) ≡ true → 1 ≤ p
     started zero q s = absurd (omega (arith, eqb-true (row 7) 0 (sorts-at z row 1 idleSorts (rw (q, idle) at s) 6 7 (omega arith) refl)))
     started (suc p) q s = omega arith
+
+-- A producer in range is not in phase 1.
+not-1 : (z : Sizes) (row : ℕ → ℕ) → ofSorts z row 1 (getD producerSorts (row 0) []) ≡ true → row 0 ≡ 1 → ⊥
+not-1 z row e q = true-false (rw q at e) refl
 
 -- A count past its most turns an effect into a refusal.
 past-most : {a : Effect} → Only9 a → (c : Cell) (k : ℕ) → mostSteps < k → counted c k a ≡ refuse 9
@@ -177,10 +177,13 @@ module _ {z : Sizes} {m : List ℕ} {t : ℕ} (a : Admitted z m) (b : t ≤ z .P
 
   module _ (o : t ≡ 0 → ⊥) where
     -- a producer's phase
-    in-phase : (1 ≤ reader z m (phase t)) × (reader z m (phase t) ≤ lastProducerPhase)
+    in-phase : (2 ≤ reader z m (phase t)) × (reader z m (phase t) ≤ lastProducerPhase)
     in-phase =
         let count : mostSteps ≤ reader z m (producer t 7) = rw (ne-eqb t 0 o) at full in
-        busy z lastProducerPhase producerSorts (λ k. reader z m (producer t k)) refl (a .ranges .producing t (omega arith) b) (omega arith)
+        let row : ℕ → ℕ = λ k. reader z m (producer t k) in
+        let p = busy z lastProducerPhase producerSorts row refl (a .ranges .producing t (omega arith) b) (omega arith) in
+        let n = not-1 z row (p .2) in
+        (omega arith, p .1)
 
     -- a producer's step, but in phase 4 with no record free
     pub producer-full : (reader z m (phase t) ≡ 4 → nextFree z (reader z m) ≡ 0 → ⊥) → effect (step t) z (reader z m) ≡ refuse 9

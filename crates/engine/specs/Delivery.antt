@@ -37,9 +37,9 @@ pub returned-of : (r : Reply) {n : ℕ} {m : List ℕ} {l : Result} → n ≡ co
     → _≡_ {A = Returned} (record { number = n; store = m }) (returned l)
 returned-of r {n} {m} c e = subst (λ (l : Result). _≡_ {A = Returned} (record { number = n; store = m }) (returned l)) e (rw c refl)
 
--- a start's reply
-pub replied-of : (r : Reply) (w : List ℕ) {n : ℕ} {m v : List ℕ} {l : Result} → n ≡ code (response r) → v ≡ replyWords (response r) w → left r m [] 0 ≡ l
-    → _≡_ {A = Replied} (record { number = n; store = m; reply = v }) (replied l w)
+-- a start enqueue's reply
+pub replied-of : (r : Counted) (w : List ℕ) {n : ℕ} {m v : List ℕ} {l : Result} → n ≡ code (responseAfter (r .steps) (r .reply)) → v ≡ replyWords (responseAfter (r .steps) (r .reply)) w
+    → leftAfter r m [] 0 ≡ l → _≡_ {A = Replied} (record { number = n; store = m; reply = v }) (replied l w)
 replied-of r w {n} {m} {v} c f e =
     subst (λ (l : Result). _≡_ {A = Replied} (record { number = n; store = m; reply = v }) (replied l w)) e (rw (c, f) refl)
 

@@ -17,9 +17,9 @@ use store::Counted;
 use store::Reply;
 use store::Shape;
 
-// *Start enqueue* (producer, value): admission first, then its own rule.
+// *Start enqueue* (producer, value): admission first, then its own rule. Its reply carries one step, the take.
 pub fn start_enqueue(s: &mut [u32], t: u32, v: u32) -> Reply
-    ensures { λ r. ⌜ left r (now (s .exit)) ≡ called (startEnqueue t v) (now (s .entry)) ⌝ }
+    ensures { λ r. ⌜ leftAfter (record { reply = r; steps = 1 }) (now (s .exit)) ≡ called (startEnqueue t v) (now (s .entry)) ⌝ }
 {
     let n = admit(s);
     if n != 0 {
@@ -153,7 +153,7 @@ pub extern "C" fn intake_start_enqueue(
 {
     let c = Counted {
         reply: start_enqueue(store, producer, value),
-        steps: 0,
+        steps: 1,
     };
     deliver(c, reply)
 }

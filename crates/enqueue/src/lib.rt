@@ -1,8 +1,8 @@
-// The producer's phases 1 to 3 and 6 to 9, a function each (document 01, "Calls"). The words are admitted and t is a producer.
+// The producer's phases 2, 3 and 6 to 9, a function each (document 01, "Calls"). The words are admitted and t is a producer.
 ghost use mathlib.Core.Path.{_≡_};
 ghost use Prim.Native.Nat.{_≤_, _<_};
 ghost use Rattle.rules.specs.Cell.{reader};
-ghost use Rattle.rules.specs.Producer.{choose, takePosition, loadTail, lookNext, shiftTail, goBack, writeEntry, setEntry};
+ghost use Rattle.rules.specs.Producer.{choose, loadTail, lookNext, shiftTail, goBack, writeEntry, setEntry};
 ghost use Rattle.store.specs.Shape.{sizes};
 ghost use Rattle.store.specs.Outcome.{left, does};
 ghost use Rattle.store.specs.Store.{Admitted};
@@ -22,22 +22,6 @@ use store::select;
 use store::slot_in;
 use store::state;
 use store::word;
-
-// 1. Take: L becomes tail, tail grows by one; to 2.
-pub fn take_position(s: &mut [u32], z: Shape, t: u32) -> Reply
-    requires { ⌜ Admitted (sizes z) (now s) ⌝ }
-    requires { ⌜ (1 ≤ t) × (t ≤ z .producers) ⌝ }
-    ensures { λ r. ⌜ left r (now (s .exit)) ≡ does (λ z σ. takePosition z σ t) z (now (s .entry)) ⌝ }
-{
-    let q = read_contents(s, z);
-    if z.starts <= q.tail {
-        return Reply::Refused(9);
-    }
-    put_producer(s, z, t, word::POSITION, q.tail);
-    put_content(s, z, word::TAIL, q.tail + 1);
-    put_producer(s, z, t, word::PHASE, phase::LOAD);
-    Reply::Going
-}
 
 // "choose" means: L at or past B × place of the held record goes to 3; L below B × (place − 1) goes to 7; otherwise 8.
 fn choose_phase(s: &[u32], z: Shape, t: u32, r: u32) -> u32

@@ -1,5 +1,5 @@
--- The counts are those of the list, a call ends within its number, and a step is refused only to wait: proved along every list, beside
--- demand 3.
+-- The counts are those of the list, a call ends within its number, a step is refused only to wait, and every start has its position: proved along
+-- every list, beside demand 3.
 use mathlib.Core.Path.{_≡_, refl, ap, ap₂, sym, _∙_, subst, subst⁻¹}
 use mathlib.Core.Logic.{_⊎_, inl, inr, _≢_}
 use mathlib.Core.Bool.{true}
@@ -31,7 +31,7 @@ use Rattle.progress.specs.Bounds.{mostLeft, some-left}
 use Rattle.progress.specs.Lowers.{OfThread, ItemsFit, enqueue-ended}
 use Rattle.progress.specs.Paced.{Keeps, call-keeps, accepted-busy}
 use Rattle.ordering.specs.Theorem.{Maintained, refused-number, played, result-is, keeps, opened-kept, opened-cells}
-use Rattle.ordering.specs.Steps.{openedPlay, stepsWithThis, StepCounts, limitAfter, mostDequeueSteps, DequeueEnds, mostDrainSteps, DrainEnds, RefusedToWait}
+use Rattle.ordering.specs.Steps.{openedPlay, stepsWithThis, StepCounts, limitAfter, mostDequeueSteps, DequeueEnds, mostDrainSteps, DrainEnds, RefusedToWait, AllPlaced}
 use Rattle.ordering.specs.EnqueueEnds.{mostEnqueueSteps, EnqueueEnds, fewerEnqueueSteps, EnqueueEndsSooner, CountBelow}
 
 -- The count of thread t's call, where one is under way, is n.
@@ -256,6 +256,10 @@ module _ {z : Sizes} {p : Played} (k : Maintained z p) (t : ℕ) (b : List ℕ) 
 
 pub refused-to-wait : RefusedToWait
 refused-to-wait z m calls opens t b i n there busy = waits (after-list z m opens t calls .maintained) t b i n there busy
+
+-- Every start has taken its position.
+pub all-placed : AllPlaced
+all-placed z m calls opens = sym (after-list z m opens 0 calls .maintained .good .model .owners .all-placed)
 
 -- The numbers at some sizes: the smallest, the host's, the largest.
 abbrev some-sizes : List Sizes

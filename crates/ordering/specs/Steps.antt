@@ -1,13 +1,13 @@
--- How many steps a call makes (document 02, U3 and U5), over every list of starts and steps after an accepted open. This module has the
--- statements alone; every name in it is a definition of `rules`. The proofs are `Counting.step-counts`, `dequeue-ends`, `drain-ends` and
--- `refused-to-wait`.
+-- How many steps a call makes (document 02, U3, U5 and U8), over every list of starts and steps after an accepted open. This module has the
+-- statements alone; every name in it is a definition of `rules`. The proofs are `Counting.step-counts`, `dequeue-ends`, `drain-ends`,
+-- `refused-to-wait` and `all-placed`.
 use mathlib.Core.Path.{_≡_}
 use mathlib.Core.Logic.{_⊎_, _≢_}
 use mathlib.Core.List.{List, []}
 use Prim.Native.Nat.{ℕ, suc, _+_, _-_, _*_, _/_, _≤_, _<_}
 use lib.ListN.{length}
 use Rattle.rules.specs.Sizes.{Sizes}
-use Rattle.rules.specs.Cell.{reader, threadPhase, drainLimit}
+use Rattle.rules.specs.Cell.{reader, tail, starts, threadPhase, drainLimit}
 use Rattle.rules.specs.Rule.{Reply, going, refused, accepted, ok}
 use Rattle.rules.specs.Request.{step, Invocation, lending, result, open-store}
 use Rattle.rules.specs.Play.{Played, play, stepsMade}
@@ -73,3 +73,10 @@ RefusedToWait =
     → reader z (play calls (openedPlay z m) .words) (threadPhase t) ≢ 0
     → result (lending buffer from (step t)) (play calls (openedPlay z m) .words) .reply ≡ refused n
     → ((n ≡ 8) × (1 ≤ t)) ⊎ ((n ≡ 15) × (t ≡ 0) × (1 ≤ limitAfter z m calls) × (length buffer < from + 2 * limitAfter z m calls))
+
+-- After every list, every start has taken its position: tail equals starts (document 02, U8).
+abbrev pub AllPlaced : Type 0
+AllPlaced =
+    (z : Sizes) (m : List ℕ) (calls : List Invocation)
+    → open-store z m .reply ≡ accepted ok 0
+    → let words = play calls (openedPlay z m) .words in reader z words tail ≡ reader z words starts

@@ -7,7 +7,7 @@ use Rattle.criterion.specs.Pass.{explains}
 use Rattle.rules.specs.Cell.{reader, writes}
 use Rattle.rules.specs.Range.{inRange}
 use Rattle.rules.specs.Free.{free, nextFree}
-use Rattle.rules.specs.Producer.{takePosition, loadTail, lookNext, claimRecord, linkClaimed, shiftTail, goBack, writeEntry, setEntry, claimAhead, linkAhead, producerStep}
+use Rattle.rules.specs.Producer.{loadTail, lookNext, claimRecord, linkClaimed, shiftTail, goBack, writeEntry, setEntry, claimAhead, linkAhead, producerStep}
 use Rattle.rules.specs.Consumer.{front, readTail, scan, readEntry, rescan, readItem, markHandled, retireHead, consumerStep}
 use Rattle.rules.specs.Request.{applied, opened, open-store, startingEnqueue, startingDequeue, phaseStep, counted, stepping, effect, admitted, result}
 use Rattle.protocol.specs.Words.{okLine, goingLine, endWord, emptyWord, badLine, explainedLine}
@@ -37,16 +37,15 @@ s-1 = 115 ∷ 32 ∷ 49 ∷ 10 ∷ []
 
 abbrev pub table : List Trial
 table =
-    -- the printed run, with `empty 2` and `end 4` (document 02, U3)
+    -- the printed run, with `empty 2` and `end 4` (document 02, U3); *start enqueue* is the first of the four (U8)
     record {
-      input = open-2-2-1-9 ++ d ++ s-0 ++ s-0 ++ e-1-7 ++ s-1 ++ s-1 ++ s-1 ++ s-1;
+      input = open-2-2-1-9 ++ d ++ s-0 ++ s-0 ++ e-1-7 ++ s-1 ++ s-1 ++ s-1;
       printed =
           okLine
           ++ okLine
           ++ goingLine
           ++ (emptyWord ++ (50 ∷ 10 ∷ []))
           ++ (111 ∷ 107 ∷ 32 ∷ 49 ∷ 10 ∷ [])
-          ++ goingLine
           ++ goingLine
           ++ goingLine
           ++ (endWord ++ (52 ∷ 10 ∷ []))
@@ -66,5 +65,5 @@ table =
 
 -- Every run of the table prints what the table says.
 pub runs-as-written : map (λ t. output (t .input)) table ≡ map (λ t. t .printed) table
-unfolding output blank runLines opening calling linesOf startsWith fieldAt lastAt openLine enqueueLine stepLine dequeueLine parseLine printed digitsFrom numberAt digits explains result admitted applied effect startingEnqueue startingDequeue phaseStep counted stepping open-store opened reader writes inRange free nextFree takePosition loadTail lookNext claimRecord linkClaimed shiftTail goBack writeEntry setEntry claimAhead linkAhead producerStep front readTail scan readEntry rescan readItem markHandled retireHead consumerStep
+unfolding output blank runLines opening calling linesOf startsWith fieldAt lastAt openLine enqueueLine stepLine dequeueLine parseLine printed digitsFrom numberAt digits explains result admitted applied effect startingEnqueue startingDequeue phaseStep counted stepping open-store opened reader writes inRange free nextFree loadTail lookNext claimRecord linkClaimed shiftTail goBack writeEntry setEntry claimAhead linkAhead producerStep front readTail scan readEntry rescan readItem markHandled retireHead consumerStep
 runs-as-written = refl

@@ -209,7 +209,7 @@ fn take_turn(store: &mut [u32], history: &mut [u32], out: &mut [u8], at: Place, 
         }
         Line::Enqueue(t, v) => {
             let reply = engine::start_enqueue(store, t, v);
-            return Next::On(finish(history, out, at, t, v, reply, 0));
+            return Next::On(finish(history, out, at, t, v, reply, 1));
         }
         Line::Dequeue => {
             let reply = engine::start_dequeue(store);

@@ -1,10 +1,10 @@
-// *Start enqueue*, *start dequeue* (document 01, "Calls") and *start drain* (document 02, U5), on admitted words.
+// *Start enqueue* (document 01, "Calls"; document 02, U8), *start dequeue* (document 01) and *start drain* (document 02, U5), on admitted words.
 ghost use mathlib.Core.Path.{_≡_};
 ghost use lib.Dec.{eqb};
 ghost use Rattle.rules.specs.Cell.{reader, consumerPhase};
 ghost use Rattle.rules.specs.Request.{startingEnqueue, startingDequeue, startingDrain};
 ghost use Rattle.store.specs.Shape.{sizes};
-ghost use Rattle.store.specs.Outcome.{left, does};
+ghost use Rattle.store.specs.Outcome.{left, leftAfter, does, doesAfter};
 ghost use Rattle.store.specs.Store.{Admitted};
 use store::Reply;
 use store::Shape;
@@ -19,10 +19,10 @@ use store::read_producer;
 use store::size;
 use store::word;
 
-// *Start enqueue* on admitted words: call number starts + 1, phase 1.
+// *Start enqueue* on admitted words: call number starts + 1; L becomes tail, tail grows by one, which is the call's first step; phase 2.
 pub fn begin_enqueue(s: &mut [u32], z: Shape, t: u32, v: u32) -> Reply
     requires { ⌜ Admitted (sizes z) (now s) ⌝ }
-    ensures { λ r. ⌜ left r (now (s .exit)) ≡ does (startingEnqueue t v) z (now (s .entry)) ⌝ }
+    ensures { λ r. ⌜ leftAfter (record { reply = r; steps = 1 }) (now (s .exit)) ≡ doesAfter 1 (startingEnqueue t v) z (now (s .entry)) ⌝ }
 {
     if t == 0 {
         return Reply::Refused(4);
@@ -33,14 +33,22 @@ pub fn begin_enqueue(s: &mut [u32], z: Shape, t: u32, v: u32) -> Reply
     if read_producer(s, z, t).phase != phase::IDLE {
         return Reply::Refused(5);
     }
-    let starts = read_contents(s, z).starts;
+    let q = read_contents(s, z);
+    let starts = q.starts;
+    let tail = q.tail;
     if starts == z.starts {
         return Reply::Refused(6);
     }
+    if tail == z.starts {
+        return Reply::Refused(9);
+    }
     put_content(s, z, word::STARTS, starts + 1);
-    put_producer(s, z, t, word::PHASE, phase::TAKE);
+    put_content(s, z, word::TAIL, tail + 1);
+    put_producer(s, z, t, word::PHASE, phase::LOAD);
     put_producer(s, z, t, word::CALL, starts + 1);
     put_producer(s, z, t, word::VALUE, v);
+    put_producer(s, z, t, word::POSITION, tail);
+    put_producer(s, z, t, word::STEPS, 1);
     Reply::Started(starts + 1)
 }
 

@@ -15,7 +15,6 @@ use enqueue::load_tail;
 use enqueue::look_next;
 use enqueue::set_entry;
 use enqueue::shift_tail;
-use enqueue::take_position;
 use enqueue::write_entry;
 use linking::link_ahead;
 use linking::link_claimed;
@@ -52,7 +51,6 @@ pub fn step_thread(s: &mut [u32], z: Shape, t: u32, b: &mut [u32], from: u32) ->
     }
     let phase = read_producer(s, z, t).phase;
     match phase {
-        1 => take_position(s, z, t),
         2 => load_tail(s, z, t),
         3 => look_next(s, z, t),
         4 => claim_record(s, z, t),
@@ -63,6 +61,6 @@ pub fn step_thread(s: &mut [u32], z: Shape, t: u32, b: &mut [u32], from: u32) ->
         9 => set_entry(s, z, t),
         10 => claim_ahead(s, z, t),
         11 => link_ahead(s, z, t),
-        0 | 12..=4294967295 => Reply::Refused(7),
+        0 | 1 | 12..=4294967295 => Reply::Refused(7),
     }
 }

@@ -5,7 +5,7 @@ use lib.ListN.{getD}
 use Rattle.history.specs.Event.{mostProducers}
 use Rattle.rules.specs.Sizes.{Sizes, mostEntries, mostRecords, mostStarts, mostPlace, mostSteps, mostDrained, contentWords, recordWords}
 use Rattle.rules.specs.Cell.{Cell, content, lastClaimed, allHandled, spare, consumer, producer, part, entry, drain, pair}
-use Rattle.rules.specs.Range.{Sort, unused, exactly, number, link, record-number, most, any, lastConsumerPhase, lastProducerPhase}
+use Rattle.rules.specs.Range.{Sort, unused, exactly, number, link, record-number, most, any, nothing, lastConsumerPhase, lastProducerPhase}
 
 -- the largest 32-bit number
 abbrev pub mostWord : ℕ
@@ -24,6 +24,7 @@ cap z link = z .N
 cap z record-number = z .N
 cap z (most n) = n
 cap z any = mostWord
+cap z nothing = 0
 
 -- words 1 to 7 of a producer and of the consumer, in any phase
 abbrev pub producerCaps : Sizes → List ℕ

@@ -33,7 +33,7 @@ responseIn b i k (Drained n) = accepted (drained (itemsAt b i n)) k
 abbrev pub responseAfter : (steps : ℕ) → Reply → Response
 responseAfter k r = responseIn [] 0 k r
 
--- of a call that is no step, and of a step that is not yet counted
+-- of a call that carries no step, and of a step that is not yet counted
 abbrev pub response : Reply → Response
 response r = responseAfter 0 r
 
@@ -46,9 +46,16 @@ left r m = λ b i. record { reply = responseIn b i 0 r; words = m; buffer = b }
 abbrev pub leftAfter : Counted → (words : List ℕ) → (buffer : List ℕ) (from : ℕ) → Result
 leftAfter c m = λ b i. record { reply = responseIn b i (c .steps) (c .reply); words = m; buffer = b }
 
--- What an effect, and a rule, leave of the words, the step not yet counted.
+-- What an effect, and a rule, leave of the words, the reply with so many accepted steps.
+abbrev pub leavesAfter : (steps : ℕ) → Sizes → (words : List ℕ) → Effect → (buffer : List ℕ) (from : ℕ) → Result
+leavesAfter k z m a = λ b i. applied k z m b i a
+
+abbrev pub doesAfter : (steps : ℕ) → (Sizes → Reader → Effect) → Shape → (words : List ℕ) → (buffer : List ℕ) (from : ℕ) → Result
+doesAfter k rule z m = leavesAfter k (sizes z) m (rule (sizes z) (reader (sizes z) m))
+
+-- the same, the step not yet counted
 abbrev pub leaves : Sizes → (words : List ℕ) → Effect → (buffer : List ℕ) (from : ℕ) → Result
-leaves z m a = λ b i. applied 0 z m b i a
+leaves z m a = leavesAfter 0 z m a
 
 abbrev pub does : (Sizes → Reader → Effect) → Shape → (words : List ℕ) → (buffer : List ℕ) (from : ℕ) → Result
-does rule z m = leaves (sizes z) m (rule (sizes z) (reader (sizes z) m))
+does rule z m = doesAfter 0 rule z m

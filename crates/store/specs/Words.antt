@@ -11,8 +11,8 @@ use lib.Seq.{sets}
 use borrow.Author.Tests.{ne-eqb, leb-true, eqb-true}
 use Rattle.rules.specs.Sizes.{Sizes, contentWords, threadWords, recordWords, firstRecord, mostEntries, mostRecords, mostPlace, mostDrained}
 use Rattle.rules.specs.Cell.{Cell, content, lastClaimed, allHandled, spare, consumer, producer, part, entry, drain, pair, consumerPhase, drainLimit, drainCount, stepCount, address, reader, Write, write, writes}
-use Rattle.rules.specs.Update.{both}
-use Rattle.rules.specs.Range.{Sort, unused, exactly, number, link, record-number, most, any, ofSort, ofSorts, every, threadInRange, pairInRange, pairSorts, noPairSorts, placedSorts, consumerSorts, producerSorts, contentSorts, lastClaimedSort, lastConsumerPhase, lastProducerPhase, mostAllHandled}
+use Rattle.rules.specs.Update.{both, true-false}
+use Rattle.rules.specs.Range.{Sort, unused, exactly, number, link, record-number, most, any, nothing, ofSort, ofSorts, every, threadInRange, pairInRange, pairSorts, noPairSorts, placedSorts, consumerSorts, producerSorts, contentSorts, lastClaimedSort, lastConsumerPhase, lastProducerPhase, mostAllHandled}
 use Rattle.rules.specs.Address.{There, there-is}
 use Rattle.rules.specs.InRange.{sorts-at, row-at, every-at, sortOf}
 use Rattle.store.specs.Caps.{mostRecordWords, cap, capOf, mostWord, producerCaps, consumerCaps, contentCaps}
@@ -32,6 +32,7 @@ sort-cap z link x w e = leb-true x (z .N) e
 sort-cap z record-number x w e = leb-true x (z .N) (both (leb 1 x) (leb x (z .N)) e .1)
 sort-cap z (most n) x w e = leb-true x n e
 sort-cap z any x w e = w
+sort-cap z nothing x w e = absurd (true-false e refl)
 
 -- the caps of the sorts are within these
 abbrev Under : Sizes → List Sort → List ℕ → Type 0

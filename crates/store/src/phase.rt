@@ -3,9 +3,7 @@
 // No call is under way.
 pub const IDLE: u32 = 0;
 
-// A producer's.
-pub const TAKE: u32 = 1;
-
+// A producer's; 1 is out of range, since *start enqueue* takes the position (document 02, U8).
 pub const LOAD: u32 = 2;
 
 pub const LOOK: u32 = 3;

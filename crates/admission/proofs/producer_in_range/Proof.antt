@@ -3,9 +3,9 @@ use mathlib.Core.Path.{refl, _∙_}
 use native.Mathlib.Omega.{arith}
 use borrow.Author.Needs.{needs}
 use denote.Ref.{now}
-use Rattle.rules.specs.Range.{idleSorts, startedSorts, placedSorts, linkingSorts, aheadSorts, linkingAheadSorts}
+use Rattle.rules.specs.Range.{idleSorts, placedSorts, linkingSorts, aheadSorts, linkingAheadSorts}
 use Rattle.store.specs.Shape.{sizes}
-use Rattle.admission.specs.Rows.{producer-row, producer-past, placed-phase}
+use Rattle.admission.specs.Rows.{producer-row, producer-past, producer-out, placed-phase}
 use Rattle.admission.proofs.producer_in_range.Statement.{statement}
 use Rattle.admission.proofs.producer_in_range.Tie as tie
 
@@ -42,30 +42,27 @@ row-at-most-requires-4 c κs = search needs
 row-at-most-requires-5 : tie.Need-row-at-most-requires-5
 row-at-most-requires-5 c κs = search needs
 
-row-at-most-requires-6 : tie.Need-row-at-most-requires-6
-row-at-most-requires-6 c κs = search needs
-
 returns-2 : tie.Need-returns-2
 returns-2 c = producer-row (sizes (c .before .before .before .before .before .args .z)) (now (c .before .before .before .before .before .args .s)) (λ j. omega (arith, c .before .before .before .shared-slice-known2 .given j)) (c .before .before .before .before .before .args .t) (c .before .before .before .before .before .pre .1) 0 idleSorts (c .before .match .keys1) (omega arith) refl refl refl ∙ c .row-at-most .ensures
 
 returns-3 : tie.Need-returns-3
-returns-3 c = producer-row (sizes (c .before .before .before .before .before .args .z)) (now (c .before .before .before .before .before .args .s)) (λ j. omega (arith, c .before .before .before .shared-slice-known2 .given j)) (c .before .before .before .before .before .args .t) (c .before .before .before .before .before .pre .1) 1 startedSorts (c .before .match .keys2) (omega arith) refl refl refl ∙ c .row-at-most2 .ensures
+returns-3 c = producer-out (sizes (c .before .before .before .before .args .z)) (now (c .before .before .before .before .args .s)) (λ j. omega (arith, c .before .before .shared-slice-known2 .given j)) (c .before .before .before .before .args .t) (c .before .before .before .before .pre .1) (c .match .keys2)
 
 returns-4 : tie.Need-returns-4
-returns-4 c = producer-row (sizes (c .before .before .before .before .before .args .z)) (now (c .before .before .before .before .before .args .s)) (λ j. omega (arith, c .before .before .before .shared-slice-known2 .given j)) (c .before .before .before .before .before .args .t) (c .before .before .before .before .before .pre .1) 5 linkingSorts (c .before .match .keys3) (omega arith) refl refl refl ∙ c .row-at-most3 .ensures
+returns-4 c = producer-row (sizes (c .before .before .before .before .before .args .z)) (now (c .before .before .before .before .before .args .s)) (λ j. omega (arith, c .before .before .before .shared-slice-known2 .given j)) (c .before .before .before .before .before .args .t) (c .before .before .before .before .before .pre .1) 5 linkingSorts (c .before .match .keys3) (omega arith) refl refl refl ∙ c .row-at-most2 .ensures
 
 returns-5 : tie.Need-returns-5
-returns-5 c = producer-row (sizes (c .before .before .before .before .before .args .z)) (now (c .before .before .before .before .before .args .s)) (λ j. omega (arith, c .before .before .before .shared-slice-known2 .given j)) (c .before .before .before .before .before .args .t) (c .before .before .before .before .before .pre .1) 10 aheadSorts (c .before .match .keys4) (omega arith) refl refl refl ∙ c .row-at-most4 .ensures
+returns-5 c = producer-row (sizes (c .before .before .before .before .before .args .z)) (now (c .before .before .before .before .before .args .s)) (λ j. omega (arith, c .before .before .before .shared-slice-known2 .given j)) (c .before .before .before .before .before .args .t) (c .before .before .before .before .before .pre .1) 10 aheadSorts (c .before .match .keys4) (omega arith) refl refl refl ∙ c .row-at-most3 .ensures
 
 returns-6 : tie.Need-returns-6
-returns-6 c = producer-row (sizes (c .before .before .before .before .before .args .z)) (now (c .before .before .before .before .before .args .s)) (λ j. omega (arith, c .before .before .before .shared-slice-known2 .given j)) (c .before .before .before .before .before .args .t) (c .before .before .before .before .before .pre .1) 11 linkingAheadSorts (c .before .match .keys5) (omega arith) refl refl refl ∙ c .row-at-most5 .ensures
+returns-6 c = producer-row (sizes (c .before .before .before .before .before .args .z)) (now (c .before .before .before .before .before .args .s)) (λ j. omega (arith, c .before .before .before .shared-slice-known2 .given j)) (c .before .before .before .before .before .args .t) (c .before .before .before .before .before .pre .1) 11 linkingAheadSorts (c .before .match .keys5) (omega arith) refl refl refl ∙ c .row-at-most4 .ensures
 
 returns-7 : tie.Need-returns-7
 returns-7 c =
     let n = c .before .match .rest in
     producer-row (sizes (c .before .before .before .before .before .args .z)) (now (c .before .before .before .before .before .args .s)) (λ j. omega (arith, c .before .before .before .shared-slice-known2 .given j)) (c .before .before .before .before .before .args .t) (c .before .before .before .before .before .pre .1) _ placedSorts refl (c .before .before .if1 .left)
     (placed-phase _ (c .before .before .if1 .left) (n .0 .0 .0 .0 .1) (n .0 .0 .0 .1) (n .0 .0 .1) (n .0 .1) (n .1)) refl refl
-    ∙ c .row-at-most6 .ensures
+    ∙ c .row-at-most5 .ensures
 
 pub producer-in-range-spec : {M : Type 1} → statement M
 producer-in-range-spec =
@@ -82,7 +79,6 @@ producer-in-range-spec =
     row-at-most-requires-3
     row-at-most-requires-4
     row-at-most-requires-5
-    row-at-most-requires-6
     returns-2
     returns-3
     returns-4

@@ -19,7 +19,7 @@ same-length c = search needs
 returns : tie.Need-returns
 returns c =
     let start = c .before .before .before .before .start-enqueue in
-    replied-of (start .result) (now (c .before .before .before .before .before .before .before .args .reply)) (c .deliver .ensures .0) (c .deliver .ensures .1) (lent (start .ensures) [] 0)
+    replied-of (record { reply = start .result; steps = 1 }) (now (c .before .before .before .before .before .before .before .args .reply)) (c .deliver .ensures .0) (c .deliver .ensures .1) (lent (start .ensures) [] 0)
 
 pub intake-start-enqueue-spec : {M : Type 1} → statement M
 intake-start-enqueue-spec =

@@ -4,7 +4,7 @@ use native.Mathlib.Omega.{arith}
 use borrow.Author.Needs.{needs}
 use Rattle.rules.specs.Request.{applied}
 use Rattle.store.specs.Items.{lent}
-use Rattle.stepping.specs.Phases.{consumer-idle, consumer-steps, producer-idle, producer-steps, past}
+use Rattle.stepping.specs.Phases.{consumer-idle, consumer-steps, producer-steps, producer-stays, past}
 use Rattle.stepping.proofs.step_thread.Statement.{statement}
 use Rattle.stepping.proofs.step_thread.Tie as tie
 
@@ -109,13 +109,10 @@ same-length-15 : tie.Need-same-length-15
 same-length-15 c = search needs
 
 returns-10 : tie.Need-returns-10
-returns-10 c = absurd (omega (arith, past 8 (c .before .read-consumer .result .phase) (c .match .rest .0) (c .match .rest .1)))
+returns-10 c = absurd (omega (arith, past 0 8 (c .before .read-consumer .result .phase) (c .match .rest .0) (omega (arith, c .match .rest .1))))
 
 read-producer-requires : tie.Need-read-producer-requires
 read-producer-requires c κs = search needs
-
-take-position-requires : tie.Need-take-position-requires
-take-position-requires c κs = search needs
 
 load-tail-requires : tie.Need-load-tail-requires
 load-tail-requires c κs = search needs
@@ -151,80 +148,68 @@ same-length-16 : tie.Need-same-length-16
 same-length-16 c = search needs
 
 returns-11 : tie.Need-returns-11
-returns-11 c = rw (producer-steps (c .before .before .before .before .before .read-producer .ensures) (c .before .before .before .before .before .before .before .before .before .before .pre .1) (c .before .before .before .before .before .before .before .if1 .left) 0 (c .before .before .before .before .match2 .keys1)) (lent (c .before .before .take-position .ensures) _ _)
+returns-11 c = rw (producer-steps (c .before .before .before .before .before .read-producer .ensures) (c .before .before .before .before .before .before .before .before .before .before .pre .1) (c .before .before .before .before .before .before .before .if1 .left) 1 (c .before .before .before .before .match2 .keys1)) (lent (c .before .before .load-tail .ensures) _ _)
 
 same-length-17 : tie.Need-same-length-17
 same-length-17 c = search needs
 
 returns-12 : tie.Need-returns-12
-returns-12 c = rw (producer-steps (c .before .before .before .before .before .read-producer .ensures) (c .before .before .before .before .before .before .before .before .before .before .pre .1) (c .before .before .before .before .before .before .before .if1 .left) 1 (c .before .before .before .before .match2 .keys2)) (lent (c .before .before .load-tail .ensures) _ _)
+returns-12 c = rw (producer-steps (c .before .before .before .before .before .read-producer .ensures) (c .before .before .before .before .before .before .before .before .before .before .pre .1) (c .before .before .before .before .before .before .before .if1 .left) 2 (c .before .before .before .before .match2 .keys2)) (lent (c .before .before .look-next .ensures) _ _)
 
 same-length-18 : tie.Need-same-length-18
 same-length-18 c = search needs
 
 returns-13 : tie.Need-returns-13
-returns-13 c = rw (producer-steps (c .before .before .before .before .before .read-producer .ensures) (c .before .before .before .before .before .before .before .before .before .before .pre .1) (c .before .before .before .before .before .before .before .if1 .left) 2 (c .before .before .before .before .match2 .keys3)) (lent (c .before .before .look-next .ensures) _ _)
+returns-13 c = rw (producer-steps (c .before .before .before .before .before .read-producer .ensures) (c .before .before .before .before .before .before .before .before .before .before .pre .1) (c .before .before .before .before .before .before .before .if1 .left) 3 (c .before .before .before .before .match2 .keys3)) (lent (c .before .before .claim-record .ensures) _ _)
 
 same-length-19 : tie.Need-same-length-19
 same-length-19 c = search needs
 
 returns-14 : tie.Need-returns-14
-returns-14 c = rw (producer-steps (c .before .before .before .before .before .read-producer .ensures) (c .before .before .before .before .before .before .before .before .before .before .pre .1) (c .before .before .before .before .before .before .before .if1 .left) 3 (c .before .before .before .before .match2 .keys4)) (lent (c .before .before .claim-record .ensures) _ _)
+returns-14 c = rw (producer-steps (c .before .before .before .before .before .read-producer .ensures) (c .before .before .before .before .before .before .before .before .before .before .pre .1) (c .before .before .before .before .before .before .before .if1 .left) 4 (c .before .before .before .before .match2 .keys4)) (lent (c .before .before .link-claimed .ensures) _ _)
 
 same-length-20 : tie.Need-same-length-20
 same-length-20 c = search needs
 
 returns-15 : tie.Need-returns-15
-returns-15 c = rw (producer-steps (c .before .before .before .before .before .read-producer .ensures) (c .before .before .before .before .before .before .before .before .before .before .pre .1) (c .before .before .before .before .before .before .before .if1 .left) 4 (c .before .before .before .before .match2 .keys5)) (lent (c .before .before .link-claimed .ensures) _ _)
+returns-15 c = rw (producer-steps (c .before .before .before .before .before .read-producer .ensures) (c .before .before .before .before .before .before .before .before .before .before .pre .1) (c .before .before .before .before .before .before .before .if1 .left) 5 (c .before .before .before .before .match2 .keys5)) (lent (c .before .before .shift-tail .ensures) _ _)
 
 same-length-21 : tie.Need-same-length-21
 same-length-21 c = search needs
 
 returns-16 : tie.Need-returns-16
-returns-16 c = rw (producer-steps (c .before .before .before .before .before .read-producer .ensures) (c .before .before .before .before .before .before .before .before .before .before .pre .1) (c .before .before .before .before .before .before .before .if1 .left) 5 (c .before .before .before .before .match2 .keys6)) (lent (c .before .before .shift-tail .ensures) _ _)
+returns-16 c = rw (producer-steps (c .before .before .before .before .before .read-producer .ensures) (c .before .before .before .before .before .before .before .before .before .before .pre .1) (c .before .before .before .before .before .before .before .if1 .left) 6 (c .before .before .before .before .match2 .keys6)) (lent (c .before .before .go-back .ensures) _ _)
 
 same-length-22 : tie.Need-same-length-22
 same-length-22 c = search needs
 
 returns-17 : tie.Need-returns-17
-returns-17 c = rw (producer-steps (c .before .before .before .before .before .read-producer .ensures) (c .before .before .before .before .before .before .before .before .before .before .pre .1) (c .before .before .before .before .before .before .before .if1 .left) 6 (c .before .before .before .before .match2 .keys7)) (lent (c .before .before .go-back .ensures) _ _)
+returns-17 c = rw (producer-steps (c .before .before .before .before .before .read-producer .ensures) (c .before .before .before .before .before .before .before .before .before .before .pre .1) (c .before .before .before .before .before .before .before .if1 .left) 7 (c .before .before .before .before .match2 .keys7)) (lent (c .before .before .write-entry .ensures) _ _)
 
 same-length-23 : tie.Need-same-length-23
 same-length-23 c = search needs
 
 returns-18 : tie.Need-returns-18
-returns-18 c = rw (producer-steps (c .before .before .before .before .before .read-producer .ensures) (c .before .before .before .before .before .before .before .before .before .before .pre .1) (c .before .before .before .before .before .before .before .if1 .left) 7 (c .before .before .before .before .match2 .keys8)) (lent (c .before .before .write-entry .ensures) _ _)
+returns-18 c = rw (producer-steps (c .before .before .before .before .before .read-producer .ensures) (c .before .before .before .before .before .before .before .before .before .before .pre .1) (c .before .before .before .before .before .before .before .if1 .left) 8 (c .before .before .before .before .match2 .keys8)) (lent (c .before .before .set-entry .ensures) _ _)
 
 same-length-24 : tie.Need-same-length-24
 same-length-24 c = search needs
 
 returns-19 : tie.Need-returns-19
-returns-19 c = rw (producer-steps (c .before .before .before .before .before .read-producer .ensures) (c .before .before .before .before .before .before .before .before .before .before .pre .1) (c .before .before .before .before .before .before .before .if1 .left) 8 (c .before .before .before .before .match2 .keys9)) (lent (c .before .before .set-entry .ensures) _ _)
+returns-19 c = rw (producer-steps (c .before .before .before .before .before .read-producer .ensures) (c .before .before .before .before .before .before .before .before .before .before .pre .1) (c .before .before .before .before .before .before .before .if1 .left) 9 (c .before .before .before .before .match2 .keys9)) (lent (c .before .before .claim-ahead .ensures) _ _)
 
 same-length-25 : tie.Need-same-length-25
 same-length-25 c = search needs
 
 returns-20 : tie.Need-returns-20
-returns-20 c = rw (producer-steps (c .before .before .before .before .before .read-producer .ensures) (c .before .before .before .before .before .before .before .before .before .before .pre .1) (c .before .before .before .before .before .before .before .if1 .left) 9 (c .before .before .before .before .match2 .keys10)) (lent (c .before .before .claim-ahead .ensures) _ _)
+returns-20 c = rw (producer-steps (c .before .before .before .before .before .read-producer .ensures) (c .before .before .before .before .before .before .before .before .before .before .pre .1) (c .before .before .before .before .before .before .before .if1 .left) 10 (c .before .before .before .before .match2 .keys10)) (lent (c .before .before .link-ahead .ensures) _ _)
 
 same-length-26 : tie.Need-same-length-26
 same-length-26 c = search needs
 
 returns-21 : tie.Need-returns-21
-returns-21 c = rw (producer-steps (c .before .before .before .before .before .read-producer .ensures) (c .before .before .before .before .before .before .before .before .before .before .pre .1) (c .before .before .before .before .before .before .before .if1 .left) 10 (c .before .before .before .before .match2 .keys11)) (lent (c .before .before .link-ahead .ensures) _ _)
-
-same-length-27 : tie.Need-same-length-27
-same-length-27 c = search needs
-
-returns-22 : tie.Need-returns-22
 unfolding applied
-returns-22 c = rw (producer-idle (c .before .read-producer .ensures) (c .before .before .before .before .before .before .pre .1) (c .before .before .before .if1 .left) (c .match2 .keys12)) refl
-
-same-length-28 : tie.Need-same-length-28
-same-length-28 c = search needs
-
-returns-23 : tie.Need-returns-23
-returns-23 c = absurd (omega (arith, past 11 (c .before .read-producer .result .phase) (c .match2 .rest .0) (c .match2 .rest .1)))
+returns-21 c = rw (producer-stays (c .before .read-producer .ensures) (c .before .before .before .before .before .before .pre .1) (c .before .before .before .if1 .left) _ refl (c .match2 .rest)) refl
 
 pub step-thread-spec : {M : Type 1} → statement M
 step-thread-spec =
@@ -265,7 +250,6 @@ step-thread-spec =
     same-length-15
     returns-10
     read-producer-requires
-    take-position-requires
     load-tail-requires
     look-next-requires
     claim-record-requires
@@ -297,8 +281,4 @@ step-thread-spec =
     same-length-25
     returns-20
     same-length-26
-    returns-21
-    same-length-27
-    returns-22
-    same-length-28
-    returns-23)
+    returns-21)

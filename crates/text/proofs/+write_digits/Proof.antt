@@ -1,6 +1,6 @@
 -- The proof of the cycle of calls {write_digits}. The measure is how many digits are left.
 use mathlib.Core.Path.{refl, _∙_}
-use Prim.Native.Nat.{_+_, _-_, _/_, _%_}
+use Prim.Native.Nat.{_-_, _/_, _%_}
 use native.Mathlib.Omega.{arith}
 use lib.ListN.{length-set}
 use Rattle.text.specs.Decimal.{digit}
