@@ -21,10 +21,10 @@ code (refused n) = n
 code (accepted r steps) = acceptedCode r
 
 -- Word 0 of the reply receives the call number (start enqueue, item) or how many items were handed over (drained), word 1 the value (item) or 0
--- (drained), word 2 the number of accepted steps of the call so far (a step); the others stay.
+-- (drained), word 2 the number of accepted steps of the call so far (a step, and start enqueue, whose take is one); the others stay.
 abbrev pub acceptedWords : Reply → (steps : ℕ) → List ℕ → List ℕ
 acceptedWords ok k w = w
-acceptedWords (started number) k w = set w 0 number
+acceptedWords (started number) k w = set (set w 0 number) 2 k
 acceptedWords going k w = set w 2 k
 acceptedWords ended k w = set w 2 k
 acceptedWords empty k w = set w 2 k

@@ -89,6 +89,7 @@ fn store_reply(r: Reply, steps: u32, reply: &mut [u32; 4])
         Reply::Ok => {}
         Reply::Started(number) => {
             reply[0] = number;
+            reply[2] = steps;
         }
         Reply::Going => {
             reply[2] = steps;
@@ -141,7 +142,7 @@ pub extern "C" fn intake_open(
     returned_code(open_store(store, z))
 }
 
-// *Start enqueue*; the call number goes to word 0 of the reply.
+// *Start enqueue*; the call number goes to word 0 of the reply, and 1 to word 2: the take is the call's first step.
 #[no_mangle]
 pub extern "C" fn intake_start_enqueue(
     store: &mut [u32],

@@ -138,9 +138,9 @@ ExchangeChain m (x ∷ xs) =
 
 -- What the number, the buffer's and the reply's words say: a refusal's number; 0 for an accepted start, word 0 the call number of an enqueue; for a
 -- step 100 going, 101 end, 102 empty, 103 item, words 0 and 1 its call number and value, 104 drained, word 0 how many items the buffer holds
--- from the named word on, and word 2 the accepted steps of the call.
+-- from the named word on; and for a step and an enqueue's start word 2 the accepted steps of the call.
 unfoldable pub says : Request → (number : ℕ) → (buffer : List ℕ) (from : ℕ) → (reply : List ℕ) → Response
-says (startEnqueue t v) n a i w = cond (eqb n 0) (accepted (started (getD w 0 0)) 0) (refused n)
+says (startEnqueue t v) n a i w = cond (eqb n 0) (accepted (started (getD w 0 0)) (getD w 2 0)) (refused n)
 says startDequeue n a i w = cond (eqb n 0) (accepted ok 0) (refused n)
 says (startDrain l) n a i w = cond (eqb n 0) (accepted ok 0) (refused n)
 says (step t) n a i w =

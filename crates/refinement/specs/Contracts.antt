@@ -43,7 +43,7 @@ open-store-contract κs a r e h = h
 
 pub start-enqueue-contract : Gives 1 start-enqueue-kinds.ps start-enqueue-kinds.r start-enqueue.Learnt
     λ κs a r e. (b : List ℕ) (i : ℕ)
-    → Meets (now (a .0)) (record { call = lending b i (startEnqueue (a .1 .0) (a .1 .1 .0)); response = responseIn b i 0 r; words = now (e .0); buffer = b })
+    → Meets (now (a .0)) (record { call = lending b i (startEnqueue (a .1 .0) (a .1 .1 .0)); response = responseIn b i 1 r; words = now (e .0); buffer = b })
 start-enqueue-contract κs a r e h b i = ap (λ (f : List ℕ → ℕ → Result). f b i) h
 
 pub start-dequeue-contract : Gives 1 start-dequeue-kinds.ps start-dequeue-kinds.r start-dequeue.Learnt

@@ -101,9 +101,9 @@ same-dumps z before before′ m m′ cs cs′ o o′ h h′ e =
     rw (after-open z before m o cs h, after-open z before′ m′ o′ cs′ h′, e)
     (same-words z before before′ (map (λ c. c .call) cs′) (accepts z before m o) (accepts z before′ m′ o′))
 
--- A start has made no step.
+-- A start of the consumer has made no step.
 abbrev pub StartsAtNone : Request → ℕ → Type 0
-StartsAtNone (startEnqueue t v) k = k ≡ 0
+StartsAtNone (startEnqueue t v) k = Unit
 StartsAtNone startDequeue k = k ≡ 0
 StartsAtNone (startDrain n) k = k ≡ 0
 StartsAtNone (step t) k = Unit
@@ -122,7 +122,7 @@ result-may v m =
     (λ r ws e long. (subst (Sound (sizesOf m) (v .request)) e (admitted-sound (v .request) m) .0, none (v .request)))
   where
     none : (q : Request) → StartsAtNone q (stepsSoFar q (reader (sizesOf m) m))
-    none (startEnqueue t v) = refl
+    none (startEnqueue t v) = tt
     none startDequeue = refl
     none (startDrain n) = refl
     none (step t) = tt
@@ -174,6 +174,13 @@ module _ (w : List ℕ) (four : length w ≡ 4) where
   steps-at : (k : ℕ) → getD (set w 2 k) 2 0 ≡ k
   steps-at k = getD-set-same w 2 k 0 (omega arith)
 
+  -- an enqueue's start has two
+  start-number-at : (n k : ℕ) → getD (set (set w 0 n) 2 k) 0 0 ≡ n
+  start-number-at n k = getD-set-other (set w 0 n) 2 0 k 0 (λ e. omega arith) ∙ number-at n
+
+  start-steps-at : (n k : ℕ) → getD (set (set w 0 n) 2 k) 2 0 ≡ k
+  start-steps-at n k = getD-set-same (set w 0 n) 2 k 0 (simp length-set (omega arith))
+
   -- an item's three
   abbrev itemWords : (n v k : ℕ) → List ℕ
   itemWords n v k = set (set (set w 0 n) 1 v) 2 k
@@ -193,7 +200,7 @@ module _ (w : List ℕ) (four : length w ≡ 4) where
   unfolding says
   says-is (startEnqueue t v) (refused n) a i h d = rw (ne-eqb n 0 (λ e. omega arith)) refl
   says-is (startEnqueue t v) (accepted ok k) a i h d = absurd (omega arith)
-  says-is (startEnqueue t v) (accepted (started n) k) a i h d = rw (number-at n, h .1) refl
+  says-is (startEnqueue t v) (accepted (started n) k) a i h d = rw (start-number-at n k, start-steps-at n k) refl
   says-is (startEnqueue t v) (accepted going k) a i h d = absurd (omega arith)
   says-is (startEnqueue t v) (accepted ended k) a i h d = absurd (omega arith)
   says-is (startEnqueue t v) (accepted empty k) a i h d = absurd (omega arith)

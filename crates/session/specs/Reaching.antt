@@ -14,7 +14,7 @@ use Rattle.history.specs.Linearization.{Linearizable}
 use Rattle.criterion.specs.Explained.{Explained}
 use Rattle.criterion.specs.Criterion.{criterion}
 use Rattle.rules.specs.Sizes.{Sizes, sizesInRange, storeWords}
-use Rattle.rules.specs.Cell.{Reader, reader, starts, phase, drainLimit}
+use Rattle.rules.specs.Cell.{Reader, reader, tail, starts, phase, drainLimit}
 use Rattle.rules.specs.Update.{neither}
 use Rattle.rules.specs.Range.{inRange}
 use Rattle.rules.specs.Rule.{Effect, refuse, reply, Response, refused, accepted, ok, started, going, ended, empty, item, drained}
@@ -138,7 +138,7 @@ module _ (t v n k : ℕ) (m : List ℕ) where
   σ = reader z m
 
   abbrev P : Effect → Type 0
-  P a = applied 0 z m [] 0 a .reply ≡ accepted (started n) k → Names t n
+  P a = applied 1 z m [] 0 a .reply ≡ accepted (started n) k → Names t n
 
   no : {j : ℕ} → refused j ≡ accepted (started n) k → Names t n
   no e = absurd (accepted-not-refused (sym e))
@@ -149,7 +149,7 @@ module _ (t v n k : ℕ) (m : List ℕ) where
       let g = ltb-false (z .P) t (b .1) in
       simp (le-leb 1 t (positive t (eqb-false t 0 (b .0))), le-leb t 16 (omega arith))
 
-  number : {j : ℕ} → accepted (started (suc j)) 0 ≡ accepted (started n) k → leb 1 n ≡ true
+  number : {j : ℕ} → accepted (started (suc j)) 1 ≡ accepted (started n) k → leb 1 n ≡ true
   number {j} e = let q : n ≡ suc j = cc in le-leb 1 n (omega arith)
 
   started-names : result (plain (startEnqueue t v)) m .reply ≡ accepted (started n) k → Names t n
@@ -158,7 +158,7 @@ module _ (t v n k : ℕ) (m : List ℕ) where
       by-cond P (ltb (length m) 16) (refuse 2) _ (λ _. no) λ _. by-cond P (not (sizesInRange z)) (refuse 3) _ (λ _. no) λ s.
       by-cond P (ltb (length m) (storeWords z)) (refuse 2) _ (λ _. no) λ _. by-cond P (not (inRange z σ)) (refuse 3) _ (λ _. no) λ _.
       by-cond P (eqb t 0 || ltb (z .P) t) (refuse 4) _ (λ _. no) λ b. by-cond P (not (eqb (σ (phase t)) 0)) (refuse 5) _ (λ _. no) λ _.
-      by-cond P (eqb (σ starts) (z .M)) (refuse 6) _ (λ _. no) λ _ e.
+      by-cond P (eqb (σ starts) (z .M)) (refuse 6) _ (λ _. no) λ _. by-cond P (eqb (σ tail) (z .M)) (refuse 9) _ (λ _. no) λ _ e.
       (producer (not-false (sizesInRange z) s) (neither (eqb t 0) (ltb (z .P) t) b), number e)
 
 -- the end of an enqueue repeats its start's words

@@ -18,29 +18,29 @@ enum-known-r c = search needs
 element-write-reply : tie.Need-element-write-reply
 element-write-reply c = search needs
 
-enum-told-3 : tie.Need-enum-told-3
-enum-told-3 c = search needs
-
 element-write-reply-2 : tie.Need-element-write-reply-2
 element-write-reply-2 c = search needs
 
-enum-told-4 : tie.Need-enum-told-4
-enum-told-4 c = search needs
+enum-told-3 : tie.Need-enum-told-3
+enum-told-3 c = search needs
 
 element-write-reply-3 : tie.Need-element-write-reply-3
 element-write-reply-3 c = search needs
 
-enum-told-5 : tie.Need-enum-told-5
-enum-told-5 c = search needs
+enum-told-4 : tie.Need-enum-told-4
+enum-told-4 c = search needs
 
 element-write-reply-4 : tie.Need-element-write-reply-4
 element-write-reply-4 c = search needs
 
-enum-known-r-2 : tie.Need-enum-known-r-2
-enum-known-r-2 c = search needs
+enum-told-5 : tie.Need-enum-told-5
+enum-told-5 c = search needs
 
 element-write-reply-5 : tie.Need-element-write-reply-5
 element-write-reply-5 c = search needs
+
+enum-known-r-2 : tie.Need-enum-known-r-2
+enum-known-r-2 c = search needs
 
 element-write-reply-6 : tie.Need-element-write-reply-6
 element-write-reply-6 c = search needs
@@ -48,17 +48,20 @@ element-write-reply-6 c = search needs
 element-write-reply-7 : tie.Need-element-write-reply-7
 element-write-reply-7 c = search needs
 
-enum-known-r-3 : tie.Need-enum-known-r-3
-enum-known-r-3 c = search needs
-
 element-write-reply-8 : tie.Need-element-write-reply-8
 element-write-reply-8 c = search needs
+
+enum-known-r-3 : tie.Need-enum-known-r-3
+enum-known-r-3 c = search needs
 
 element-write-reply-9 : tie.Need-element-write-reply-9
 element-write-reply-9 c = search needs
 
 element-write-reply-10 : tie.Need-element-write-reply-10
 element-write-reply-10 c = search needs
+
+element-write-reply-11 : tie.Need-element-write-reply-11
+element-write-reply-11 c = search needs
 
 returns : tie.Need-returns
 returns c = search needs
@@ -92,20 +95,21 @@ store-reply-spec =
     enum-told-2
     enum-known-r
     element-write-reply
-    enum-told-3
     element-write-reply-2
-    enum-told-4
+    enum-told-3
     element-write-reply-3
-    enum-told-5
+    enum-told-4
     element-write-reply-4
-    enum-known-r-2
+    enum-told-5
     element-write-reply-5
+    enum-known-r-2
     element-write-reply-6
     element-write-reply-7
-    enum-known-r-3
     element-write-reply-8
+    enum-known-r-3
     element-write-reply-9
     element-write-reply-10
+    element-write-reply-11
     returns
     returns-2
     returns-3
