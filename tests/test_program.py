@@ -145,8 +145,8 @@ class Streams(program_streams.Streams, unittest.TestCase):
     """Input that cannot be read and output that cannot be written, by document 01's printed run."""
 
     program = PROGRAM
-    data = b'open 2 2 1 9\nd\ns 0\ns 0\ne 1 7\ns 1\ns 1\ns 1\ns 1\n'
-    output = b'ok\nok\ngoing\nempty 2\nok 1\ngoing\ngoing\ngoing\nend 4\nexplained\n'
+    data = b'open 2 2 1 9\nd\ns 0\ns 0\ne 1 7\ns 1\ns 1\ns 1\n'
+    output = b'ok\nok\ngoing\nempty 2\nok 1\ngoing\ngoing\nend 4\nexplained\n'
 
 
 class Differential(unittest.TestCase):

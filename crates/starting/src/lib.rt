@@ -1,8 +1,9 @@
 // *Start enqueue* (document 01, "Calls"; document 02, U8), *start dequeue* (document 01) and *start drain* (document 02, U5), on admitted words.
 ghost use mathlib.Core.Path.{_≡_};
 ghost use lib.Dec.{eqb};
-ghost use Rattle.rules.specs.Cell.{reader, consumerPhase};
-ghost use Rattle.rules.specs.Request.{startingEnqueue, startingDequeue, startingDrain};
+ghost use Prim.Native.Nat.{suc, _≤_, _<_};
+ghost use Rattle.rules.specs.Cell.{reader, writes, tail, starts, consumerPhase};
+ghost use Rattle.rules.specs.Request.{startWrites, startingEnqueue, startingDequeue, startingDrain};
 ghost use Rattle.store.specs.Shape.{sizes};
 ghost use Rattle.store.specs.Outcome.{left, leftAfter, does, doesAfter};
 ghost use Rattle.store.specs.Store.{Admitted};
@@ -19,7 +20,27 @@ use store::read_producer;
 use store::size;
 use store::word;
 
-// *Start enqueue* on admitted words: call number starts + 1; L becomes tail, tail grows by one, which is the call's first step; phase 2.
+// The words of an accepted start: call number starts + 1; L becomes tail, tail grows by one, which is the call's first step; phase 2. Returns the call
+// number.
+fn place_call(s: &mut [u32], z: Shape, t: u32, v: u32) -> u32
+    requires { ⌜ Admitted (sizes z) (now s) ⌝ }
+    requires { ⌜ (1 ≤ t) × (t ≤ z .producers) ⌝ }
+    requires { ⌜ (reader (sizes z) (now s) starts < z .starts) × (reader (sizes z) (now s) tail < z .starts) ⌝ }
+    ensures { λ n. ⌜ (n ≡ suc (reader (sizes z) (now (s .entry)) starts)) × (now (s .exit) ≡ writes (sizes z) (now (s .entry)) (startWrites (reader (sizes z) (now (s .entry))) t v)) ⌝ }
+{
+    let q = read_contents(s, z);
+    let number = q.starts + 1;
+    put_content(s, z, word::STARTS, number);
+    put_content(s, z, word::TAIL, q.tail + 1);
+    put_producer(s, z, t, word::PHASE, phase::LOAD);
+    put_producer(s, z, t, word::CALL, number);
+    put_producer(s, z, t, word::VALUE, v);
+    put_producer(s, z, t, word::POSITION, q.tail);
+    put_producer(s, z, t, word::STEPS, 1);
+    number
+}
+
+// *Start enqueue* on admitted words.
 pub fn begin_enqueue(s: &mut [u32], z: Shape, t: u32, v: u32) -> Reply
     requires { ⌜ Admitted (sizes z) (now s) ⌝ }
     ensures { λ r. ⌜ leftAfter (record { reply = r; steps = 1 }) (now (s .exit)) ≡ doesAfter 1 (startingEnqueue t v) z (now (s .entry)) ⌝ }
@@ -34,22 +55,13 @@ pub fn begin_enqueue(s: &mut [u32], z: Shape, t: u32, v: u32) -> Reply
         return Reply::Refused(5);
     }
     let q = read_contents(s, z);
-    let starts = q.starts;
-    let tail = q.tail;
-    if starts == z.starts {
+    if q.starts == z.starts {
         return Reply::Refused(6);
     }
-    if tail == z.starts {
+    if q.tail == z.starts {
         return Reply::Refused(9);
     }
-    put_content(s, z, word::STARTS, starts + 1);
-    put_content(s, z, word::TAIL, tail + 1);
-    put_producer(s, z, t, word::PHASE, phase::LOAD);
-    put_producer(s, z, t, word::CALL, starts + 1);
-    put_producer(s, z, t, word::VALUE, v);
-    put_producer(s, z, t, word::POSITION, tail);
-    put_producer(s, z, t, word::STEPS, 1);
-    Reply::Started(starts + 1)
+    Reply::Started(place_call(s, z, t, v))
 }
 
 // Whether the consumer has no call under way.
