@@ -19,6 +19,7 @@ use enqueue::write_entry;
 use linking::link_ahead;
 use linking::link_claimed;
 use rescan::rescan_on;
+use retiring::retire_head;
 use scanning::read_entry;
 use scanning::scan_on;
 use store::Reply;
@@ -27,7 +28,6 @@ use store::read_consumer;
 use store::read_producer;
 use taking::mark_handled;
 use taking::read_item;
-use taking::retire_head;
 
 // One phase of thread t, not yet counted. Only the end of a drain looks at the buffer.
 pub fn step_thread(s: &mut [u32], z: Shape, t: u32, b: &mut [u32], from: u32) -> Reply

@@ -16,7 +16,7 @@ use Rattle.rules.specs.Readback.{WriteThere, length-writes, reader-writes}
 use Rattle.rules.specs.Consumer.{itemsMarked}
 use Rattle.store.specs.Words.{writes-then}
 use Rattle.draining.specs.Elsewhere.{Elsewhere, same-items, items-left}
-use Rattle.taking.specs.Marking.{marked, kept}
+use Rattle.handled.specs.Marking.{marked, kept}
 
 module _ (z : Sizes) (m : List ℕ) (fits : storeWords z ≤ length m) (ws : List Write) (there : All (WriteThere z) ws) (other : All Elsewhere ws) where
   -- One more is kept.

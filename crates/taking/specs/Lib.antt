@@ -1,2 +1,2 @@
-pub mod Marking
+pub mod Drains
 pub mod Keeping

@@ -14,7 +14,8 @@ use Rattle.store.specs.declared.Reply.the-variants.{Going}
 use Rattle.store.specs.Outcome.{left, leaves}
 use Rattle.store.specs.Shape.{sizes}
 use Rattle.taking.specs.Keeping.{both-written}
-use Rattle.taking.specs.Marking.{marked, toRetire, kept, drainGives}
+use Rattle.handled.specs.Marking.{marked, toRetire, kept}
+use Rattle.taking.specs.Drains.{drainGives}
 use Rattle.taking.proofs.mark_drained.Statement.{statement}
 use Rattle.taking.proofs.mark_drained.Tie as tie
 

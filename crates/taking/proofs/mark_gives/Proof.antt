@@ -14,7 +14,7 @@ use Rattle.store.specs.Items.{length-marked}
 use Rattle.store.specs.Shape.{sizes}
 use Rattle.draining.specs.Onward.{gives-short, gives, has-room}
 use Rattle.taking.specs.Keeping.{items-kept, marked-there, marked-elsewhere, both-written}
-use Rattle.taking.specs.Marking.{marked, kept}
+use Rattle.handled.specs.Marking.{marked, kept}
 use Rattle.taking.proofs.mark_gives.Statement.{statement}
 use Rattle.taking.proofs.mark_gives.Tie as tie
 

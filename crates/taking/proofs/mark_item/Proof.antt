@@ -10,7 +10,7 @@ use Rattle.store.specs.declared.Reply.the-variants.{Going, Item}
 use Rattle.store.specs.Outcome.{left, leaves}
 use Rattle.store.specs.Shape.{sizes}
 use Rattle.taking.specs.Keeping.{both-written}
-use Rattle.taking.specs.Marking.{marked, toRetire}
+use Rattle.handled.specs.Marking.{marked, toRetire}
 use Rattle.taking.proofs.mark_item.Statement.{statement}
 use Rattle.taking.proofs.mark_item.Tie as tie
 

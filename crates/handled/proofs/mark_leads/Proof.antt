@@ -6,8 +6,8 @@ use native.Mathlib.Omega.{arith}
 use borrow.Author.Tests.{eq-eqb, ne-eqb, le-leb, lt-leb}
 use borrow.Author.Needs.{needs}
 use Rattle.store.specs.Branches.{some}
-use Rattle.taking.proofs.mark_leads.Statement.{statement}
-use Rattle.taking.proofs.mark_leads.Tie as tie
+use Rattle.handled.proofs.mark_leads.Statement.{statement}
+use Rattle.handled.proofs.mark_leads.Tie as tie
 
 read-contents-requires : tie.Need-read-contents-requires
 read-contents-requires c κs = search needs

@@ -2,8 +2,8 @@
 use mathlib.Core.Path.{refl}
 use native.Mathlib.Numerals.{add-one}
 use borrow.Author.Needs.{needs}
-use Rattle.taking.proofs.drained_at.Statement.{statement}
-use Rattle.taking.proofs.drained_at.Tie as tie
+use Rattle.handled.proofs.drained_at.Statement.{statement}
+use Rattle.handled.proofs.drained_at.Tie as tie
 
 record-end-requires : tie.Need-record-end-requires
 record-end-requires c κs = search needs

@@ -12,8 +12,8 @@ use Rattle.store.specs.Items.{length-marked}
 use Rattle.store.specs.Shape.{sizes}
 use Rattle.draining.specs.Onward.{gives-short, gives, has-room}
 use Rattle.draining.specs.Elsewhere.{items-left}
-use Rattle.taking.proofs.retire_drained.Statement.{statement}
-use Rattle.taking.proofs.retire_drained.Tie as tie
+use Rattle.retiring.proofs.retire_drained.Statement.{statement}
+use Rattle.retiring.proofs.retire_drained.Tie as tie
 
 read-drain-requires : tie.Need-read-drain-requires
 read-drain-requires c κs = search needs

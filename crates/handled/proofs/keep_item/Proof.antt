@@ -3,8 +3,8 @@ use mathlib.Core.Path.{refl}
 use native.Mathlib.Numerals.{add-one}
 use borrow.Author.Needs.{needs}
 use Rattle.rules.specs.Cell.{writes}
-use Rattle.taking.proofs.keep_item.Statement.{statement}
-use Rattle.taking.proofs.keep_item.Tie as tie
+use Rattle.handled.proofs.keep_item.Statement.{statement}
+use Rattle.handled.proofs.keep_item.Tie as tie
 
 keep-pair-requires : tie.Need-keep-pair-requires
 keep-pair-requires c κs = search needs

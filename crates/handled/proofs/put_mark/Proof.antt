@@ -4,8 +4,8 @@ use native.Mathlib.Numerals.{add-one}
 use native.Mathlib.Omega.{arith}
 use borrow.Author.Needs.{needs}
 use Rattle.rules.specs.Cell.{writes}
-use Rattle.taking.proofs.put_mark.Statement.{statement}
-use Rattle.taking.proofs.put_mark.Tie as tie
+use Rattle.handled.proofs.put_mark.Statement.{statement}
+use Rattle.handled.proofs.put_mark.Tie as tie
 
 read-contents-requires : tie.Need-read-contents-requires
 read-contents-requires c κs = search needs

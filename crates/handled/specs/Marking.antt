@@ -1,15 +1,15 @@
--- The mark of the found entry, in the words of the rules: `marks`, and the parts of phases 7 and 8 that a drain has of its own (document 02, U5).
+-- The mark of the found entry, in the words of the rules: `marks`, and what a drain keeps (document 02, U5).
 use mathlib.Core.Path.{_≡_}
 use mathlib.Core.Bool.{cond}
 use mathlib.Core.List.{List, [], _∷_, _++_}
 use Prim.Native.Nat.{ℕ, suc}
 use lib.Dec.{eqb}
 use Rattle.rules.specs.Sizes.{Sizes}
-use Rattle.rules.specs.Cell.{Reader, reader, Write, _:=_, headRecord, headPosition, consumerPhase, foundRecord, foundPosition, itemNumber, itemValue, drainLimit, drainCount, pairNumber, pairValue, used, state}
-use Rattle.rules.specs.Rule.{Effect, refuse, goes, upTo}
-use Rattle.rules.specs.Consumer.{itemsMarked, marks, keepItem, goesOn}
-use Rattle.taking.specs.declared.Mark.{Mark}
-use Rattle.taking.specs.declared.Mark.the-variants.{None, Retires, Gives}
+use Rattle.rules.specs.Cell.{Reader, reader, Write, _:=_, headPosition, consumerPhase, foundRecord, foundPosition, drainCount, pairNumber, pairValue, state}
+use Rattle.rules.specs.Rule.{Effect, refuse, goes}
+use Rattle.rules.specs.Consumer.{marks}
+use Rattle.handled.specs.declared.Mark.{Mark}
+use Rattle.handled.specs.declared.Mark.the-variants.{None, Retires, Gives}
 
 -- to phase 8
 abbrev pub toRetire : List Write
@@ -24,19 +24,6 @@ module _ (z : Sizes) (σ : Reader) where
   abbrev pub marked : (r i : ℕ) → List Write
   marked r i =
       cond (eqb (σ foundPosition) (σ headPosition)) (state r i := 2 ∷ headPosition := suc (σ headPosition) ∷ []) (state r i := 2 ∷ [])
-
-  -- what a drain does after the writes of its mark, where that does not go to 8
-  abbrev pub drainGives : List Write → Effect
-  drainGives =
-      goesOn z σ (suc (σ drainCount)) (itemsMarked σ (σ drainCount) ++ (record { number = σ itemNumber; value = σ itemValue } ∷ []))
-
-  -- phase 7 of a drain, where entry i of record r is found
-  abbrev pub drainMarks : (r i : ℕ) → Effect
-  drainMarks r i = upTo (σ drainLimit) (suc (σ drainCount)) (marks z σ r i (keepItem z σ) drainGives)
-
-  -- phase 8 of a drain, where the head record h is left for a link at a position
-  abbrev pub drainRetires : (h l p : ℕ) → Effect
-  drainRetires h l p = goesOn z σ (σ drainCount) (itemsMarked σ (σ drainCount)) (headRecord := l ∷ headPosition := p ∷ used h := 3 ∷ [])
 
   -- The mark is refused with 9, goes to 8, or gives the item, whatever is kept and whatever follows.
   abbrev pub LeadsTo : Mark → Type 0

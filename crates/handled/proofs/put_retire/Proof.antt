@@ -2,8 +2,8 @@
 use mathlib.Core.Path.{refl}
 use borrow.Author.Needs.{needs}
 use Rattle.rules.specs.Cell.{writes}
-use Rattle.taking.proofs.put_retire.Statement.{statement}
-use Rattle.taking.proofs.put_retire.Tie as tie
+use Rattle.handled.proofs.put_retire.Statement.{statement}
+use Rattle.handled.proofs.put_retire.Tie as tie
 
 put-found-requires : tie.Need-put-found-requires
 put-found-requires c κs = search needs

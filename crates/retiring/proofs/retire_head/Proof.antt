@@ -9,8 +9,8 @@ use Rattle.rules.specs.Request.{applied}
 use Rattle.store.specs.Branches.{some}
 use Rattle.store.specs.Items.{lent}
 use Rattle.dequeue.proofs.Crossings.{crosses-to, crosses-nowhere}
-use Rattle.taking.proofs.retire_head.Statement.{statement}
-use Rattle.taking.proofs.retire_head.Tie as tie
+use Rattle.retiring.proofs.retire_head.Statement.{statement}
+use Rattle.retiring.proofs.retire_head.Tie as tie
 
 read-contents-requires : tie.Need-read-contents-requires
 read-contents-requires c κs = search needs
