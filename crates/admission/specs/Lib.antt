@@ -1,4 +1,3 @@
 pub mod Refusal
-pub mod Rows
+pub mod Contents
 pub mod Admit
-pub mod Area

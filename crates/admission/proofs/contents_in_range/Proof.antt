@@ -8,7 +8,7 @@ use borrow.Author.Needs.{needs}
 use denote.Ref.{now}
 use Rattle.rules.specs.Sizes.{firstRecord}
 use Rattle.store.specs.Shape.{sizes}
-use Rattle.admission.specs.Rows.{contents-test}
+use Rattle.admission.specs.Contents.{contents-test}
 use Rattle.admission.proofs.contents_in_range.Statement.{statement}
 use Rattle.admission.proofs.contents_in_range.Tie as tie
 

@@ -1,4 +1,4 @@
--- `taking::drained_at` meets its contract.
+-- `handled::drained_at` meets its contract.
 use mathlib.Core.Path.{refl}
 use native.Mathlib.Numerals.{add-one}
 use borrow.Author.Needs.{needs}

@@ -1,4 +1,4 @@
--- `taking::keep_item` meets its contract.
+-- `handled::keep_item` meets its contract.
 use mathlib.Core.Path.{refl}
 use native.Mathlib.Numerals.{add-one}
 use borrow.Author.Needs.{needs}

@@ -1,4 +1,4 @@
--- `taking::mark_leads` meets its contract.
+-- `handled::mark_leads` meets its contract.
 use mathlib.Core.Path.{refl}
 use Prim.Native.Nat.{suc}
 use native.Mathlib.Numerals.{add-one}

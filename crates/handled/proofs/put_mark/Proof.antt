@@ -1,4 +1,4 @@
--- `taking::put_mark` meets its contract.
+-- `handled::put_mark` meets its contract.
 use mathlib.Core.Path.{refl}
 use native.Mathlib.Numerals.{add-one}
 use native.Mathlib.Omega.{arith}

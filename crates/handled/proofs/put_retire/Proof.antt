@@ -1,4 +1,4 @@
--- `taking::put_retire` meets its contract.
+-- `handled::put_retire` meets its contract.
 use mathlib.Core.Path.{refl}
 use borrow.Author.Needs.{needs}
 use Rattle.rules.specs.Cell.{writes}

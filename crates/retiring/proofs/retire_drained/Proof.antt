@@ -1,4 +1,4 @@
--- `taking::retire_drained` meets its contract.
+-- `retiring::retire_drained` meets its contract.
 use mathlib.Core.List.{List, [], _∷_}
 use mathlib.Core.Path.{_≡_, refl, ap, _∙_}
 use Prim.Native.Nat.{ℕ}

@@ -1,4 +1,4 @@
--- `taking::retire_head` meets its contract.
+-- `retiring::retire_head` meets its contract.
 use mathlib.Core.Path.{_≡_, refl, sym, _∙_}
 use native.Mathlib.Omega.{arith}
 use borrow.Author.Tests.{eq-eqb, ne-eqb}

@@ -1,4 +1,4 @@
--- `admission::zero_from` meets its contract.
+-- `area::zero_from` meets its contract.
 use mathlib.Core.Path.{_≡_, refl}
 use Prim.Native.Nat.{_+_, _-_, _≤_}
 use native.Mathlib.Nat.{le-antisymm}
@@ -7,8 +7,8 @@ use native.Mathlib.Omega.{arith}
 use lib.Dec.{eqb}
 use lib.ListN.{getD}
 use Rattle.rules.specs.Range.{every}
-use Rattle.admission.proofs.zero_from.Statement.{statement}
-use Rattle.admission.proofs.zero_from.Tie as tie
+use Rattle.area.proofs.zero_from.Statement.{statement}
+use Rattle.area.proofs.zero_from.Tie as tie
 
 abbrev Inv-loop : tie.InvT-loop
 Inv-loop s at n zero₀ j₀ zero j = (j ≤ n) × (every j (λ k. eqb (getD s (at + k) 0) 0) ≡ zero)

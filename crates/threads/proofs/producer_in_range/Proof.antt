@@ -1,13 +1,13 @@
--- `admission::producer_in_range` meets its contract.
+-- `threads::producer_in_range` meets its contract.
 use mathlib.Core.Path.{refl, _∙_}
 use native.Mathlib.Omega.{arith}
 use borrow.Author.Needs.{needs}
 use denote.Ref.{now}
 use Rattle.rules.specs.Range.{idleSorts, placedSorts, linkingSorts, aheadSorts, linkingAheadSorts}
 use Rattle.store.specs.Shape.{sizes}
-use Rattle.admission.specs.Rows.{producer-row, producer-past, producer-out, placed-phase}
-use Rattle.admission.proofs.producer_in_range.Statement.{statement}
-use Rattle.admission.proofs.producer_in_range.Tie as tie
+use Rattle.threads.specs.Rows.{producer-row, producer-past, producer-out, placed-phase}
+use Rattle.threads.proofs.producer_in_range.Statement.{statement}
+use Rattle.threads.proofs.producer_in_range.Tie as tie
 
 mul-at : tie.Need-mul-at
 mul-at c = search needs

@@ -1,4 +1,4 @@
--- `admission::drain_in_range` meets its contract.
+-- `area::drain_in_range` meets its contract.
 use mathlib.Core.Bool.{_&&_, cond}
 use mathlib.Core.Path.{refl, ap₂, _∙_}
 use Prim.Native.Nat.{_+_}
@@ -10,9 +10,9 @@ use borrow.Author.Needs.{needs}
 use denote.Ref.{now}
 use Rattle.rules.specs.Sizes.{mostDrained}
 use Rattle.store.specs.Shape.{sizes}
-use Rattle.admission.specs.Area.{most, area-words, pairs-test}
-use Rattle.admission.proofs.drain_in_range.Statement.{statement}
-use Rattle.admission.proofs.drain_in_range.Tie as tie
+use Rattle.area.specs.Area.{most, area-words, pairs-test}
+use Rattle.area.proofs.drain_in_range.Statement.{statement}
+use Rattle.area.proofs.drain_in_range.Tie as tie
 
 drain-at-requires : tie.Need-drain-at-requires
 drain-at-requires c κs = search needs

@@ -1,4 +1,4 @@
--- `admission::producers_in_range` meets its contract.
+-- `threads::producers_in_range` meets its contract.
 use mathlib.Core.Path.{_≡_, refl}
 use Prim.Native.Nat.{suc, _-_, _≤_}
 use native.Mathlib.Nat.{le-antisymm}
@@ -7,8 +7,8 @@ use native.Mathlib.Omega.{arith}
 use Rattle.rules.specs.Cell.{reader}
 use Rattle.rules.specs.Range.{every, producerInRange}
 use Rattle.store.specs.Shape.{sizes}
-use Rattle.admission.proofs.producers_in_range.Statement.{statement}
-use Rattle.admission.proofs.producers_in_range.Tie as tie
+use Rattle.threads.proofs.producers_in_range.Statement.{statement}
+use Rattle.threads.proofs.producers_in_range.Tie as tie
 
 abbrev Inv-loop : tie.InvT-loop
 Inv-loop s z ok₀ t₀ ok t = (t ≤ z .producers) × (every t (λ p. producerInRange (sizes z) (reader (sizes z) s) (suc p)) ≡ ok)

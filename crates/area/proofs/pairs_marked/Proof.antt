@@ -1,4 +1,4 @@
--- `admission::pairs_marked` meets its contract.
+-- `area::pairs_marked` meets its contract.
 use mathlib.Core.Path.{_≡_, refl}
 use Prim.Native.Nat.{_+_, _*_, _-_, _≤_}
 use native.Mathlib.Nat.{le-antisymm}
@@ -7,8 +7,8 @@ use native.Mathlib.Omega.{arith}
 use lib.Dec.{leb}
 use lib.ListN.{getD}
 use Rattle.rules.specs.Range.{every}
-use Rattle.admission.proofs.pairs_marked.Statement.{statement}
-use Rattle.admission.proofs.pairs_marked.Tie as tie
+use Rattle.area.proofs.pairs_marked.Statement.{statement}
+use Rattle.area.proofs.pairs_marked.Tie as tie
 
 abbrev Inv-loop : tie.InvT-loop
 Inv-loop s at count m ok₀ i₀ ok i = (i ≤ count) × (every i (λ k. leb (getD s (at + 2 * k) 0) m) ≡ ok)

@@ -1,4 +1,4 @@
--- `admission::row_at_most` meets its contract.
+-- `threads::row_at_most` meets its contract.
 use mathlib.Core.Bool.{and-true}
 use mathlib.Core.Path.{refl}
 use Prim.Native.Nat.{_+_}
@@ -6,8 +6,8 @@ use lib.Dec.{leb}
 use lib.ListN.{getD}
 use borrow.Author.Needs.{needs}
 use denote.Ref.{now}
-use Rattle.admission.proofs.row_at_most.Statement.{statement}
-use Rattle.admission.proofs.row_at_most.Tie as tie
+use Rattle.threads.proofs.row_at_most.Statement.{statement}
+use Rattle.threads.proofs.row_at_most.Tie as tie
 
 add-last : tie.Need-add-last
 add-last c = search needs

@@ -1,13 +1,13 @@
--- `admission::consumer_in_range` meets its contract.
+-- `threads::consumer_in_range` meets its contract.
 use mathlib.Core.Path.{refl, _∙_}
 use native.Mathlib.Omega.{arith}
 use borrow.Author.Needs.{needs}
 use denote.Ref.{now}
 use Rattle.rules.specs.Range.{cursorSorts, rescanSorts, foundSorts, itemSorts, retiringSorts}
 use Rattle.store.specs.Shape.{sizes}
-use Rattle.admission.specs.Rows.{consumer-row, front-row, consumer-past, cursor-phase}
-use Rattle.admission.proofs.consumer_in_range.Statement.{statement}
-use Rattle.admission.proofs.consumer_in_range.Tie as tie
+use Rattle.threads.specs.Rows.{consumer-row, front-row, consumer-past, cursor-phase}
+use Rattle.threads.proofs.consumer_in_range.Statement.{statement}
+use Rattle.threads.proofs.consumer_in_range.Tie as tie
 
 cast-phase : tie.Need-cast-phase
 cast-phase c = search needs
