@@ -57,7 +57,7 @@ returns c =
     let q = c .before .before .before .before .before .before .before .before .before .before .before .before .before .before .before .before .before .before .before .before .before .before .before .before .before .before .before .before .before .before .read-contents in (
       omega (arith, q .ensures .starts),
       rw (c .before .before .put-producer5 .ensures, c .before .before .before .before .before .before .put-producer4 .ensures, c .before .before .before .before .before .before .before .before .before .before .put-producer3 .ensures, c .before .before .before .before .before .before .before .before .before .before .before .before .before .before .put-producer2 .ensures, c .before .before .before .before .before .before .before .before .before .before .before .before .before .before .before .before .before .before .put-producer .ensures, c .before .before .before .before .before .before .before .before .before .before .before .before .before .before .before .before .before .before .before .before .before .before .put-content2 .ensures, c .before .before .before .before .before .before .before .before .before .before .before .before .before .before .before .before .before .before .before .before .before .before .before .before .before .before .before .put-content .ensures)
-      (number-by-number (sizes (a .z)) (now (a .s)) (reader (sizes (a .z)) (now (a .s))) (a .t) (a .v) (omega (arith, q .ensures .starts)) (omega (arith, q .ensures .tail)) (omega arith) (omega (arith, q .ensures .starts)) (omega arith) (omega (arith, q .ensures .tail)) (omega arith)),
+          (number-by-number (sizes (a .z)) (now (a .s)) (reader (sizes (a .z)) (now (a .s))) (a .t) (a .v) (omega (arith, q .ensures .starts)) (omega (arith, q .ensures .tail)) (omega arith) (omega (arith, q .ensures .starts)) (omega arith) (omega (arith, q .ensures .tail)) (omega arith)),
     )
 
 pub place-call-spec : {M : Type 1} → statement M
