@@ -1,6 +1,4 @@
 pub mod Session
-pub mod Events
-pub mod EventLaws
 pub mod Turns
 pub mod TurnLaws
 pub mod LoopLaws

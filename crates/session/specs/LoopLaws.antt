@@ -16,7 +16,7 @@ use Rattle.protocol.specs.Printed.{printed, mostPrinted}
 use Rattle.session.specs.declared.Place.{Place}
 use Rattle.session.specs.declared.Next.the-variants.{Stop, On}
 use Rattle.session.specs.Session.{Session, begun, Turn, callOf, Run, after, runLine, runLines}
-use Rattle.session.specs.EventLaws.{none-recorded}
+use Rattle.events.specs.EventLaws.{none-recorded}
 use Rattle.session.specs.Turns.{Answered, Answers, Ended, Leaves}
 
 -- The first of the lines that are left, up to its end, and those after it.

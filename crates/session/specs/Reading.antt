@@ -14,8 +14,8 @@ use Rattle.history.specs.Event.{Event, History, isProducer, decode, enqueueStar
 use Rattle.history.specs.Calls.{calls}
 use Rattle.history.specs.Form.{follows, wellFormed, refused, history, readEvent, readEvents, read}
 use Rattle.criterion.specs.Explained.{Started, Explained}
-use Rattle.session.specs.Events.{encode, wordsOf}
-use Rattle.session.specs.EventLaws.{length-words}
+use Rattle.events.specs.Events.{encode, wordsOf}
+use Rattle.events.specs.EventLaws.{length-words}
 
 -- a producer's thread and a call number
 abbrev pub Names : (t n : ℕ) → Type 0

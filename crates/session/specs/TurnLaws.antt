@@ -14,9 +14,9 @@ use Rattle.text.specs.Wrote.{Wrote}
 use Rattle.protocol.specs.Printed.{printed}
 use Rattle.protocol.specs.Laws.{length-printed}
 use Rattle.session.specs.declared.Place.{Place}
-use Rattle.session.specs.declared.Noted.{Noted}
+use Rattle.events.specs.declared.Noted.{Noted}
 use Rattle.session.specs.Session.{Session, Turn, reopened, openTurn, callTurn, opening, calling}
-use Rattle.session.specs.Events.{Recorded, notedEvents, Records}
+use Rattle.events.specs.Events.{Recorded, notedEvents, Records}
 use Rattle.session.specs.Turns.{Stands, Turned}
 
 -- The events of a reply, and what is printed of it, do not go by the buffer; the events do not go by its count.

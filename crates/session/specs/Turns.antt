@@ -19,7 +19,7 @@ use Rattle.session.specs.declared.Place.{Place}
 use Rattle.session.specs.declared.Next.{Next}
 use Rattle.session.specs.declared.Next.the-variants.{Stop, On}
 use Rattle.session.specs.Session.{Session, begun, Turn, calling, callOf, Run, runLines}
-use Rattle.session.specs.Events.{Recorded}
+use Rattle.events.specs.Events.{Recorded}
 
 -- The buffers hold what stands, the history's first k events.
 pub record Stands (x : Session) (store history : List ℕ) (k : ℕ) : Type 0 where

@@ -1,6 +1,6 @@
 -- `session::reopen` meets its contract.
 use native.Mathlib.Omega.{arith}
-use Rattle.session.specs.EventLaws.{none-recorded}
+use Rattle.events.specs.EventLaws.{none-recorded}
 use borrow.Author.Needs.{needs}
 use Rattle.session.proofs.reopen.Statement.{statement}
 use Rattle.session.proofs.reopen.Tie as tie

@@ -1,10 +1,10 @@
--- `session::add_end` meets its contract: a found start is one of the events, and its words are repeated.
+-- `events::add_end` meets its contract: a found start is one of the events, and its words are repeated.
 use mathlib.Core.Path.{refl, sym, _∙_}
 use native.Mathlib.Omega.{arith}
-use Rattle.session.specs.EventLaws.{found-below, records-no-end, records-end}
+use Rattle.events.specs.EventLaws.{found-below, records-no-end, records-end}
 use borrow.Author.Needs.{needs}
-use Rattle.session.proofs.add_end.Statement.{statement}
-use Rattle.session.proofs.add_end.Tie as tie
+use Rattle.events.proofs.add_end.Statement.{statement}
+use Rattle.events.proofs.add_end.Tie as tie
 
 find-start-requires : tie.Need-find-start-requires
 find-start-requires c κs = search needs

@@ -1,7 +1,7 @@
--- `session::note` meets its contract: each case computes.
+-- `events::note` meets its contract: each case computes.
 use borrow.Author.Needs.{needs}
-use Rattle.session.proofs.note.Statement.{statement}
-use Rattle.session.proofs.note.Tie as tie
+use Rattle.events.proofs.note.Statement.{statement}
+use Rattle.events.proofs.note.Tie as tie
 
 enum-told : tie.Need-enum-told
 enum-told c = search needs

@@ -11,9 +11,9 @@ use lib.Seq.{sets, sets-eq, take-at, take-take, getD-take, getD-append-add, leng
 use borrow.Author.Tests.{eqb-true}
 use Rattle.history.specs.Event.{Event, History, enqueueStarted, enqueueEnded, dequeueStarted, gaveItem, gaveEmpty}
 use Rattle.rules.specs.Play.{endOfEnqueue}
-use Rattle.session.specs.declared.Found.{Found}
-use Rattle.session.specs.declared.Found.the-variants.{At, Missing}
-use Rattle.session.specs.Events.{encode, wordsOf, Recorded, startFound, Records}
+use Rattle.events.specs.declared.Found.{Found}
+use Rattle.events.specs.declared.Found.the-variants.{At, Missing}
+use Rattle.events.specs.Events.{encode, wordsOf, Recorded, startFound, Records}
 
 pub length-encode : (e : Event) → length (encode e) ≡ 4
 length-encode (enqueueStarted t n v) = refl

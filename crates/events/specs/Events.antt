@@ -7,10 +7,10 @@ use lib.Dec.{eqb}
 use lib.ListN.{length, take, getD}
 use Rattle.history.specs.Event.{Event, History, enqueueStarted, enqueueEnded, dequeueStarted, gaveItem, gaveEmpty}
 use Rattle.rules.specs.Play.{endOfEnqueue}
-use Rattle.session.specs.declared.Noted.{Noted}
-use Rattle.session.specs.declared.Noted.the-variants.{Nothing, Started, Ended, DequeueStarted, Item, Empty}
-use Rattle.session.specs.declared.Found.{Found}
-use Rattle.session.specs.declared.Found.the-variants.{At, Missing}
+use Rattle.events.specs.declared.Noted.{Noted}
+use Rattle.events.specs.declared.Noted.the-variants.{Nothing, Started, Ended, DequeueStarted, Item, Empty}
+use Rattle.events.specs.declared.Found.{Found}
+use Rattle.events.specs.declared.Found.the-variants.{At, Missing}
 
 -- An event is four words: kind, thread, call number, value.
 abbrev pub encode : Event → List ℕ

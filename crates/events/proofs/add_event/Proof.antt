@@ -1,12 +1,12 @@
--- `session::add_event` meets its contract: the four stores are one run of stores.
+-- `events::add_event` meets its contract: the four stores are one run of stores.
 use mathlib.Core.Path.{refl}
 use Prim.Native.Nat.{_*_}
 use native.Mathlib.Omega.{arith}
 use lib.ListN.{length-set}
-use Rattle.session.specs.EventLaws.{four-sets}
+use Rattle.events.specs.EventLaws.{four-sets}
 use borrow.Author.Needs.{needs}
-use Rattle.session.proofs.add_event.Statement.{statement}
-use Rattle.session.proofs.add_event.Tie as tie
+use Rattle.events.proofs.add_event.Statement.{statement}
+use Rattle.events.proofs.add_event.Tie as tie
 
 mul-at : tie.Need-mul-at
 mul-at c = search needs

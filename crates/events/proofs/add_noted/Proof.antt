@@ -1,9 +1,9 @@
--- `session::add_noted` meets its contract: in each case what the write of that case adds.
+-- `events::add_noted` meets its contract: in each case what the write of that case adds.
 use Rattle.history.specs.Event.{enqueueStarted, dequeueStarted, gaveItem, gaveEmpty}
-use Rattle.session.specs.EventLaws.{records-none, records-one}
+use Rattle.events.specs.EventLaws.{records-none, records-one}
 use borrow.Author.Needs.{needs}
-use Rattle.session.proofs.add_noted.Statement.{statement}
-use Rattle.session.proofs.add_noted.Tie as tie
+use Rattle.events.proofs.add_noted.Statement.{statement}
+use Rattle.events.proofs.add_noted.Tie as tie
 
 enum-told : tie.Need-enum-told
 enum-told c = search needs

@@ -1,11 +1,11 @@
--- `session::find_start` meets its contract. The loop's invariant: the last start among the first i events is the one looked for.
+-- `events::find_start` meets its contract. The loop's invariant: the last start among the first i events is the one looked for.
 use mathlib.Core.Path.{_≡_, refl, sym, _∙_}
 use Prim.Native.Nat.{_≤_}
 use native.Mathlib.Omega.{arith}
-use Rattle.session.specs.Events.{startFound}
-use Rattle.session.specs.EventLaws.{found-here, found-before}
-use Rattle.session.proofs.find_start.Statement.{statement}
-use Rattle.session.proofs.find_start.Tie as tie
+use Rattle.events.specs.Events.{startFound}
+use Rattle.events.specs.EventLaws.{found-here, found-before}
+use Rattle.events.proofs.find_start.Statement.{statement}
+use Rattle.events.proofs.find_start.Tie as tie
 
 abbrev Inv-loop : tie.InvT-loop
 Inv-loop history k t i₀ i = (i ≤ k) × (startFound history t i ≡ startFound history t k)
