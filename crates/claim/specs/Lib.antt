@@ -1,5 +1,2 @@
 pub mod Claim
-pub mod Keeping
-pub mod Kept
 pub mod Search
-pub mod Walk

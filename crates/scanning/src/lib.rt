@@ -1,18 +1,20 @@
-// The consumer's phases 3 and 4, the scan (document 01, "Calls"), and the fold of a record that it has read (document 02, U6). The words are
-// admitted. A phase that may end a drain is lent the buffer (document 02, U5).
+// The consumer's phases 3 and 4, the scan (document 01, "Calls"); what it has read it folds (document 02, U6). The words are admitted. A phase
+// that may end a drain is lent the buffer (document 02, U5).
 ghost use mathlib.Core.Path.{_≡_};
 ghost use mathlib.Core.Bool.{cond};
 ghost use mathlib.Core.List.{[], _∷_};
 ghost use Prim.Native.Nat.{_<_};
 ghost use lib.Dec.{eqb};
 ghost use Rattle.rules.specs.Cell.{reader, writes, _:=_, allHandled, cursorRecord, cursorPosition};
-ghost use Rattle.rules.specs.Consumer.{folded, isRead, scanCrosses, scan, readEntry};
+ghost use Rattle.rules.specs.Consumer.{scanCrosses, scan, readEntry};
 ghost use Rattle.store.specs.Shape.{sizes};
 ghost use Rattle.store.specs.Outcome.{left, does};
 ghost use Rattle.store.specs.Store.{Room, Admitted};
 use dequeue::Crossing;
 use dequeue::cross_from;
 use draining::end_empty;
+use folding::fold;
+use folding::is_read;
 use store::Reply;
 use store::Shape;
 use store::Slot;
@@ -24,43 +26,12 @@ use store::put_all_handled;
 use store::put_consumer;
 use store::put_cursor;
 use store::put_found;
-use store::put_part;
-use store::put_use;
 use store::read_consumer;
 use store::read_contents;
 use store::record_end;
 use store::slot_in;
 use store::state;
-use store::usage;
 use store::word;
-
-// Whether the scan has read all entries of record r as handled, and it is not the head record.
-fn is_read(s: &[u32], z: Shape, r: u32) -> bool
-    requires { ⌜ Admitted (sizes z) (now s) ⌝ }
-    requires { ⌜ r < z .records ⌝ }
-    ensures { λ b. ⌜ isRead (sizes z) (reader (sizes z) (now (s .entry))) r ≡ b ⌝ }
-{
-    if all_handled(s, z) != 1 {
-        return false;
-    }
-    if read_contents(s, z).head_record == r + 1 {
-        return false;
-    }
-    true
-}
-
-// Record r is folded: the records before and behind it are joined to each other, and it is retired. It keeps its own links.
-fn fold(s: &mut [u32], z: Shape, r: u32, before: u32, behind: u32)
-    requires { ⌜ Room (sizes z) (now s) ⌝ }
-    requires { ⌜ (r < z .records) × (before < z .records) × (behind < z .records) ⌝ }
-    ensures { λ _. ⌜ now (s .exit) ≡ writes (sizes z) (now (s .entry)) (folded (sizes z) (reader (sizes z) (now (s .entry))) r before behind) ⌝ }
-{
-    let next = behind + 1;
-    let prev = before + 1;
-    put_part(s, z, before, word::NEXT, next);
-    put_part(s, z, behind, word::PREV, prev);
-    put_use(s, z, r, usage::RETIRED);
-}
 
 // The scan enters the record of a link at its first entry.
 fn enter(s: &mut [u32], z: Shape, link: u32, position: u32)

@@ -1,4 +1,4 @@
--- `claim::places_below` meets its contract. The loop's invariant: the digits of the records from r on are gathered, and record r begins at `at`.
+-- `free_map::places_below` meets its contract. The loop's invariant: the digits of the records from r on are gathered, and record r begins at `at`.
 use mathlib.Core.Path.{_≡_, refl, _∙_}
 use Prim.Native.Nat.{_+_, _-_, _≤_}
 use native.Mathlib.Nat.{sub-zero}
@@ -9,10 +9,10 @@ use Rattle.rules.specs.Cell.{reader}
 use Rattle.store.specs.Shape.{sizes}
 use Rattle.bits.specs.Bitmap.{digit, bitmap}
 use Rattle.bits.specs.Laws.{bitmap-fits, digit-before}
-use Rattle.claim.specs.Keeping.{leastPlaces, placeBelow}
-use Rattle.claim.specs.Walk.{firstWord, one-back, two-back, words-there}
-use Rattle.claim.proofs.places_below.Statement.{statement}
-use Rattle.claim.proofs.places_below.Tie as tie
+use Rattle.free_map.specs.Keeping.{leastPlaces, placeBelow}
+use Rattle.free_map.specs.Walk.{firstWord, one-back, two-back, words-there}
+use Rattle.free_map.proofs.places_below.Statement.{statement}
+use Rattle.free_map.proofs.places_below.Tie as tie
 
 abbrev Inv-loop : tie.InvT-loop
 Inv-loop s z kept least words map₀ r₀ at₀ map r at =

@@ -1,4 +1,4 @@
--- `claim::kept_records` meets its contract.
+-- `free_map::kept_records` meets its contract.
 use mathlib.Core.Path.{refl}
 use Prim.Native.Nat.{_-_, _≤_}
 use native.Mathlib.Nat.{le-antisymm}
@@ -6,9 +6,9 @@ use native.Mathlib.Omega.{arith}
 use denote.Ref.{now}
 use Rattle.rules.specs.Cell.{reader}
 use Rattle.store.specs.Shape.{sizes}
-use Rattle.claim.specs.Kept.{Keeps, none-yet, keeps-more}
-use Rattle.claim.proofs.kept_records.Statement.{statement}
-use Rattle.claim.proofs.kept_records.Tie as tie
+use Rattle.free_map.specs.Kept.{Keeps, none-yet, keeps-more}
+use Rattle.free_map.proofs.kept_records.Statement.{statement}
+use Rattle.free_map.proofs.kept_records.Tie as tie
 
 abbrev Inv-loop : tie.InvT-loop
 Inv-loop s z kept₀ t₀ kept t = (t ≤ z .producers) × Keeps (sizes z) (reader (sizes z) s) t kept

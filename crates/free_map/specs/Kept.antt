@@ -16,8 +16,8 @@ use Rattle.rules.specs.InRange.{InRange}
 use Rattle.rules.specs.Free.{free}
 use Rattle.bits.specs.Bitmap.{bitmap}
 use Rattle.bits.specs.Laws.{bitmap-lt, same-digits, either-digits, turned-digits, all-digits, no-digit, single-digit}
-use Rattle.claim.specs.declared.Kept.{Kept}
-use Rattle.claim.specs.Keeping.{retiredPlace, greater, keptFrom, names, heldRetired, leastPlaces, placeBelow, free-is}
+use Rattle.free_map.specs.declared.Kept.{Kept}
+use Rattle.free_map.specs.Keeping.{retiredPlace, greater, keptFrom, names, heldRetired, leastPlaces, placeBelow, free-is}
 
 -- Of producers 1 to n.
 pub record Keeps (z : Sizes) (σ : Reader) (n : ℕ) (k : Kept) : Type 0 where

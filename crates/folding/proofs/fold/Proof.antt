@@ -1,9 +1,9 @@
--- `scanning::fold` meets its contract.
+-- `folding::fold` meets its contract.
 use native.Mathlib.Numerals.{add-one}
 use borrow.Author.Needs.{needs}
 use Rattle.rules.specs.Cell.{writes}
-use Rattle.scanning.proofs.fold.Statement.{statement}
-use Rattle.scanning.proofs.fold.Tie as tie
+use Rattle.folding.proofs.fold.Statement.{statement}
+use Rattle.folding.proofs.fold.Tie as tie
 
 add-next : tie.Need-add-next
 add-next c = search needs

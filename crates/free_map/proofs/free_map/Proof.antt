@@ -1,12 +1,12 @@
--- `claim::free_map` meets its contract.
+-- `free_map::free_map` meets its contract.
 use native.Mathlib.Omega.{arith}
 use borrow.Author.Needs.{needs}
 use denote.Ref.{now}
 use Rattle.rules.specs.Cell.{reader}
 use Rattle.store.specs.Shape.{sizes}
-use Rattle.claim.specs.Kept.{others-most, free-digits}
-use Rattle.claim.proofs.free_map.Statement.{statement}
-use Rattle.claim.proofs.free_map.Tie as tie
+use Rattle.free_map.specs.Kept.{others-most, free-digits}
+use Rattle.free_map.proofs.free_map.Statement.{statement}
+use Rattle.free_map.proofs.free_map.Tie as tie
 
 kept-records-requires : tie.Need-kept-records-requires
 kept-records-requires c κs = search needs

@@ -1,4 +1,4 @@
--- `claim::with_link` meets its contract.
+-- `free_map::with_link` meets its contract.
 use mathlib.Core.Path.{refl, _∙_}
 use Prim.Native.Nat.{_+_}
 use native.Mathlib.Omega.{arith}
@@ -7,10 +7,10 @@ use denote.Ref.{now}
 use Rattle.rules.specs.Cell.{reader}
 use Rattle.store.specs.Branches.{some}
 use Rattle.store.specs.Shape.{sizes}
-use Rattle.claim.specs.Kept.{none-named, none-retired, retired-named}
-use Rattle.claim.specs.Walk.{words-there, reads-use, reads-place}
-use Rattle.claim.proofs.with_link.Statement.{statement}
-use Rattle.claim.proofs.with_link.Tie as tie
+use Rattle.free_map.specs.Kept.{none-named, none-retired, retired-named}
+use Rattle.free_map.specs.Walk.{words-there, reads-use, reads-place}
+use Rattle.free_map.proofs.with_link.Statement.{statement}
+use Rattle.free_map.proofs.with_link.Tie as tie
 
 returns : tie.Need-returns
 returns c =

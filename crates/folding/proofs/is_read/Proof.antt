@@ -1,11 +1,11 @@
--- `scanning::is_read` meets its contract.
+-- `folding::is_read` meets its contract.
 use mathlib.Core.Path.{refl}
 use Prim.Native.Nat.{suc}
 use native.Mathlib.Omega.{arith}
 use borrow.Author.Needs.{needs}
 use borrow.Author.Tests.{eq-eqb, ne-eqb}
-use Rattle.scanning.proofs.is_read.Statement.{statement}
-use Rattle.scanning.proofs.is_read.Tie as tie
+use Rattle.folding.proofs.is_read.Statement.{statement}
+use Rattle.folding.proofs.is_read.Tie as tie
 
 all-handled-requires : tie.Need-all-handled-requires
 all-handled-requires c κs = search needs

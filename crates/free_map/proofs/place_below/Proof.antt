@@ -1,12 +1,12 @@
--- `claim::place_below` meets its contract.
+-- `free_map::place_below` meets its contract.
 use mathlib.Core.Path.{sym}
 use Prim.Native.Nat.{_+_}
 use native.Mathlib.Omega.{arith}
 use borrow.Author.Needs.{needs}
 use Rattle.rules.specs.Cell.{place, used}
-use Rattle.claim.specs.Walk.{words-there, reads-use, reads-place}
-use Rattle.claim.proofs.place_below.Statement.{statement}
-use Rattle.claim.proofs.place_below.Tie as tie
+use Rattle.free_map.specs.Walk.{words-there, reads-use, reads-place}
+use Rattle.free_map.proofs.place_below.Statement.{statement}
+use Rattle.free_map.proofs.place_below.Tie as tie
 
 cast-used : tie.Need-cast-used
 cast-used c = search needs
