@@ -1,4 +1,2 @@
-pub mod Export
 pub mod Answer
 pub mod Calls
-pub mod Delivery

@@ -17,7 +17,7 @@ use Rattle.ordering.specs.Demand.{Ordered}
 use Rattle.ordering.specs.Steps.{mostDrainSteps}
 use Rattle.ordering.specs.EnqueueEnds.{mostEnqueueSteps, fewerEnqueueSteps}
 use Rattle.store.specs.Outcome.{itemsAt}
-use Rattle.engine.specs.Export.{Returned, returned, Replied, replied, Stepped, stepped}
+use Rattle.delivery.specs.Export.{Returned, returned, Replied, replied, Stepped, stepped}
 
 -- A call with the buffer that it was lent, the response to it, and the words of the store and of the buffer after it.
 pub record Made : Type 0 where

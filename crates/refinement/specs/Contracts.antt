@@ -9,7 +9,7 @@ use borrow.Fn.Kinds.{PK, RK, Dens, resT, endedOf, Out}
 use Rattle.rules.specs.Request.{startEnqueue, startDequeue, startDrain, step, lending, Result, open-store}
 use Rattle.store.specs.Shape.{sizes}
 use Rattle.store.specs.Outcome.{response, responseIn}
-use Rattle.engine.specs.Export.{Returned, returned}
+use Rattle.delivery.specs.Export.{Returned, returned}
 use Rattle.opening.proofs.open_store.Kinds as open-store-kinds
 use Rattle.opening.proofs.open_store.Reads as open-store
 use Rattle.engine.proofs.start_enqueue.Kinds as start-enqueue-kinds

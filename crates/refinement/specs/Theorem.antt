@@ -22,7 +22,7 @@ use Rattle.ordering.specs.Steps.{openedPlay, limitAfter, mostDrainSteps}
 use Rattle.ordering.specs.EnqueueEnds.{mostEnqueueSteps, fewerEnqueueSteps}
 use Rattle.ordering.specs.Counting.{step-counts, drain-ends, enqueue-ends, enqueue-ends-sooner}
 use Rattle.ordering.specs.SameWords.{same-words}
-use Rattle.engine.specs.Export.{acceptedCode, code, replyWords, Returned, returned, Replied, Stepped}
+use Rattle.delivery.specs.Export.{acceptedCode, code, replyWords, Returned, returned, Replied, Stepped}
 use Rattle.store.specs.Outcome.{itemsAt}
 use Rattle.store.specs.Items.{items-at}
 use Rattle.refinement.specs.Calls.{Made, Meets, Chain, noted, recorded, fresh, Refines, Opens, Demand-3-Of-Calls, stepsIn, Step-Counts-Of-Calls, InTime, limitIn, Same-Dumps, Exchange, Exports, ExchangeChain, says, invocationOf, bufferOf, madeOf, Demand-3-For-C, Step-Counts-For-C}

@@ -1,6 +1,6 @@
 -- `engine::intake_open` meets its contract.
 use borrow.Author.Needs.{needs}
-use Rattle.engine.specs.Delivery.{returned-of}
+use Rattle.delivery.specs.Delivery.{returned-of}
 use Rattle.engine.proofs.intake_open.Statement.{statement}
 use Rattle.engine.proofs.intake_open.Tie as tie
 

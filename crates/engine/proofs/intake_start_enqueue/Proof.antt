@@ -3,7 +3,7 @@ use mathlib.Core.List.{[]}
 use borrow.Author.Needs.{needs}
 use denote.Ref.{now}
 use Rattle.store.specs.Items.{lent}
-use Rattle.engine.specs.Delivery.{replied-of}
+use Rattle.delivery.specs.Delivery.{replied-of}
 use Rattle.engine.proofs.intake_start_enqueue.Statement.{statement}
 use Rattle.engine.proofs.intake_start_enqueue.Tie as tie
 

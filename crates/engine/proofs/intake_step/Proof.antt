@@ -1,7 +1,7 @@
 -- `engine::intake_step` meets its contract.
 use borrow.Author.Needs.{needs}
 use denote.Ref.{now}
-use Rattle.engine.specs.Delivery.{stepped-of}
+use Rattle.delivery.specs.Delivery.{stepped-of}
 use Rattle.engine.proofs.intake_step.Statement.{statement}
 use Rattle.engine.proofs.intake_step.Tie as tie
 

@@ -1,10 +1,10 @@
--- `engine::deliver` meets its contract.
+-- `delivery::deliver` meets its contract.
 use mathlib.Core.List.{[]}
 use mathlib.Core.Path.{_∙_}
 use borrow.Author.Needs.{needs}
-use Rattle.engine.specs.Delivery.{same-code}
-use Rattle.engine.proofs.deliver.Statement.{statement}
-use Rattle.engine.proofs.deliver.Tie as tie
+use Rattle.delivery.specs.Delivery.{same-code}
+use Rattle.delivery.proofs.deliver.Statement.{statement}
+use Rattle.delivery.proofs.deliver.Tie as tie
 
 store-reply-requires : tie.Need-store-reply-requires
 store-reply-requires c κs = search needs

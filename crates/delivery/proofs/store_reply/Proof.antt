@@ -1,10 +1,10 @@
--- `engine::store_reply` meets its contract.
+-- `delivery::store_reply` meets its contract.
 use mathlib.Core.List.{[]}
 use mathlib.Core.Path.{refl}
 use borrow.Author.Needs.{needs}
 use Rattle.store.specs.Items.{length-items}
-use Rattle.engine.proofs.store_reply.Statement.{statement}
-use Rattle.engine.proofs.store_reply.Tie as tie
+use Rattle.delivery.proofs.store_reply.Statement.{statement}
+use Rattle.delivery.proofs.store_reply.Tie as tie
 
 enum-told : tie.Need-enum-told
 enum-told c = search needs

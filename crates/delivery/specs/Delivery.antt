@@ -9,7 +9,7 @@ use Rattle.store.specs.declared.Reply.{Reply}
 use Rattle.store.specs.declared.Reply.the-variants.{Refused, Ok, Started, Going, Ended, Empty, Item, Drained}
 use Rattle.store.specs.Items.{length-items}
 use Rattle.store.specs.Outcome.{response, responseIn, responseAfter, left, leftAfter}
-use Rattle.engine.specs.Export.{code, replyWords, Returned, returned, Replied, replied, Stepped, stepped}
+use Rattle.delivery.specs.Export.{code, replyWords, Returned, returned, Replied, replied, Stepped, stepped}
 
 -- The returned number tells neither the accepted steps nor the items.
 pub same-code : (b c : List ℕ) (i j k l : ℕ) (r : Reply) → code (responseIn b i k r) ≡ code (responseIn c j l r)

@@ -1,4 +1,4 @@
--- `starting::place_call` meets its contract.
+-- `placing::place_call` meets its contract.
 use mathlib.Core.Path.{_≡_, refl}
 use mathlib.Core.List.{List, [], _∷_}
 use Prim.Native.Nat.{ℕ, suc}
@@ -9,8 +9,8 @@ use Rattle.rules.specs.Sizes.{Sizes}
 use Rattle.rules.specs.Cell.{Reader, reader, writes, _:=_, starts, tail, phase, call, value, position, enqueueSteps}
 use Rattle.rules.specs.Request.{startWrites}
 use Rattle.store.specs.Shape.{sizes}
-use Rattle.starting.proofs.place_call.Statement.{statement}
-use Rattle.starting.proofs.place_call.Tie as tie
+use Rattle.placing.proofs.place_call.Statement.{statement}
+use Rattle.placing.proofs.place_call.Tie as tie
 
 -- the words of a start, number by number
 number-by-number : (z : Sizes) (m : List ℕ) (σ : Reader) (t v : ℕ) {a b p c x y k : ℕ} → a ≡ suc (σ starts) → b ≡ suc (σ tail) → p ≡ 2 → c ≡ suc (σ starts) → x ≡ v → y ≡ σ tail → k ≡ 1
