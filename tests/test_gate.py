@@ -21,8 +21,10 @@ ci)
 esac
 '''
 PYTHON = '''case $1 in -c) exit "${OLD:-0}" ;; esac
-echo 'tests: 1 of 1: test_one took 0 s, 2 passed, 0 failed'
-echo '2 passed, 0 failed'
+case $2 in model) passed=1 failed=${MODEL:-0} ;; *) passed=2 failed=0 ;; esac
+echo "tests: 1 of 1: test_one took 0 s, $passed passed, $failed failed"
+echo "$passed passed, $failed failed"
+exit "$failed"
 '''
 PASSING = {'EDIT': 'refused, as it must be', 'CI': '4 passed, 0 failed'}
 
@@ -46,7 +48,7 @@ class Gate(unittest.TestCase):
 
     def gate(self, **settings):
         """The gate's exit status and lines; the stand-ins hide the tools of the machine."""
-        for tool in ('bash', 'env', 'sh', 'mktemp', 'mkdir', 'rm', 'mv', 'grep', 'find', 'wc', 'tail', 'cut', 'nproc'):
+        for tool in ('bash', 'env', 'sh', 'mktemp', 'mkdir', 'rm', 'mv', 'grep', 'find', 'wc', 'tail', 'cut', 'nproc', 'nice', 'cat'):
             if not (self.tools / tool).exists():
                 (self.tools / tool).symlink_to(shutil.which(tool))
         done = subprocess.run([self.top / '.ci' / 'run'], env={'PATH': str(self.tools), **PASSING, **settings}, capture_output=True, text=True)
@@ -56,7 +58,7 @@ class Gate(unittest.TestCase):
     def test_passes(self):
         """A gate that counts wrongly, shows nothing on its way or loses what a part wrote."""
         status, lines = self.gate()
-        self.assertEqual((status, lines[-1]), (0, '9 passed, 0 failed'))
+        self.assertEqual((status, lines[-1]), (0, '10 passed, 0 failed'))
         self.assertIn('gate: crate 2 of 2: two proved (5 s)', lines)
         self.assertIn('gate: edit 1 of 2: one/wrong: refused, as it must be (first at src/lib.rt:1:1; 2 s)', lines)
         self.assertTrue(any(line.startswith('gate: proofs took ') for line in lines))
@@ -74,12 +76,15 @@ class Gate(unittest.TestCase):
     def test_a_part_fails(self):
         """A gate that is green although a part fails, with or without a tally of its own, or says not where to look."""
         status, lines = self.gate(HOST='1')
-        self.assertEqual((status, lines[-1]), (1, '8 passed, 1 failed'))
+        self.assertEqual((status, lines[-1]), (1, '9 passed, 1 failed'))
         self.assertTrue(any('host FAILED' in line and 'target/gate/host' in line for line in lines))
         status, lines = self.gate(EDIT='NOT REFUSED: the crate is still proved with this edit', CI='3 passed, 1 failed')
-        self.assertEqual((status, lines[-1]), (1, '8 passed, 1 failed'))
+        self.assertEqual((status, lines[-1]), (1, '9 passed, 1 failed'))
         self.assertIn('gate: edit 2 of 2: two/wrong: NOT REFUSED: the crate is still proved with this edit (2 s)', lines)
         self.assertTrue((self.top / 'target' / 'gate' / 'proofs').exists())
+        status, lines = self.gate(MODEL='1')
+        self.assertEqual((status, lines[-1]), (1, '10 passed, 1 failed'))
+        self.assertTrue(any('model FAILED' in line and 'target/gate/model' in line for line in lines))
 
 
 if __name__ == '__main__':
