@@ -21,6 +21,7 @@ pub mod Remaining
 pub mod Marks
 pub mod Judged
 pub mod Criterion
+pub mod Shown
 pub mod Late
 pub mod UnderWay
 pub mod LateFacts

@@ -1,12 +1,12 @@
 -- The order in which the calls of an explained history are linearized, as a function of the history and of the items that are
--- to be left. Enqueues stand in the order in which their items are taken, then those of the items left; each stands as early as
--- it may: before the first dequeue that did not end before it started, except that an item not taken before the next empty
--- answer waits until that answer.
-use mathlib.Core.Bool.{Bool, true, false, _&&_, _||_, cond}
+-- to be left. Enqueues stand in the order in which their items are taken, then those of the items left; each stands as late as
+-- it may: before the first dequeue that takes its item or that started after it, or an enqueue behind it, had ended.
+use mathlib.Core.Bool.{Bool, true, false, _&&_, _||_, not, cond}
 use mathlib.Core.List.{List, [], _∷_, _++_, map}
-use lib.Dec.{leb, eqb}
+use Prim.Native.Nat.{ℕ, suc}
+use lib.Dec.{eqb, ltb}
 use Rattle.history.specs.Event.{History}
-use Rattle.history.specs.Calls.{Answer, nothing, item, empty, Enqueue, Dequeue, Call, enq, deq, calls}
+use Rattle.history.specs.Calls.{Answer, nothing, item, empty, Enqueue, Dequeue, Call, enq, deq, startOf, calls}
 use Rattle.history.specs.Linearization.{Queue}
 use Rattle.history.specs.Form.{any}
 use Rattle.criterion.specs.Parts.{gather, itemOf, dequeuesOf, look, gives}
@@ -28,27 +28,41 @@ isItem nothing = false
 isItem (item n v) = true
 isItem empty = false
 
--- the dequeues take all of this queue before one of them answers empty
-abbrev pub clears : List Dequeue → List Enqueue → Bool
-clears [] q = true
-clears (d ∷ ds) [] = true
-clears (d ∷ ds) (x ∷ q) = isItem (d .answer) && clears ds q
+-- the enqueue had ended before event s; one of them had
+abbrev pub endedBefore : ℕ → Enqueue → Bool
+endedBefore s x = not (eqb (x .end) 0) && ltb (x .end) s
 
--- the queue after a dequeue
+abbrev pub anyEnded : ℕ → List Enqueue → Bool
+anyEnded s [] = false
+anyEnded s (x ∷ p) = endedBefore s x || anyEnded s p
+
+-- the queue is empty; the queue without its first; the queue after a dequeue, which takes the first if it gave an item
+abbrev pub isEmpty : List Enqueue → Bool
+isEmpty [] = true
+isEmpty (x ∷ q) = false
+
 abbrev pub behind : List Enqueue → List Enqueue
 behind [] = []
 behind (x ∷ q) = q
 
--- Dequeue d comes next, and ds after it: enqueues of p that may stand before it do. The queue is q.
-abbrev pub fill : Dequeue → List Dequeue → (List Enqueue → List Enqueue → List Call) → (q p : List Enqueue) → List Call
-fill d ds go q [] = deq d ∷ go (behind q) []
-fill d ds go q (x ∷ p) =
-    elim (leb (x .start) (d .end) && clears (d ∷ ds) (q ++ (x ∷ [])))
-    [ true ↦ enq x ∷ fill d ds go (q ++ (x ∷ [])) p | false ↦ deq d ∷ go (behind q) (x ∷ p) ]
+abbrev pub after : Answer → List Enqueue → List Enqueue
+after nothing q = q
+after (item n v) q = behind q
+after empty q = q
+
+-- With q in the queue, the first enqueue of p must stand before dequeue d.
+abbrev pub must : Dequeue → (q p : List Enqueue) → Bool
+must d q p = anyEnded (d .start) p || (isItem (d .answer) && isEmpty q)
+
+-- Dequeue d comes next, and what `go` gives after it: enqueues of p that must stand before it do. The queue is q.
+abbrev pub fill : Dequeue → (List Enqueue → List Enqueue → List Call) → (q p : List Enqueue) → List Call
+fill d go q [] = deq d ∷ go (after (d .answer) q) []
+fill d go q (x ∷ p) =
+    elim (must d q (x ∷ p)) [ true ↦ enq x ∷ fill d go (q ++ (x ∷ [])) p | false ↦ deq d ∷ go (after (d .answer) q) (x ∷ p) ]
 
 abbrev pub place : List Dequeue → (q p : List Enqueue) → List Call
 place [] q p = map enq p
-place (d ∷ ds) q p = fill d ds (place ds) q p
+place (d ∷ ds) q p = fill d (place ds) q p
 
 unfoldable pub order : History → Queue → List Call
 order h rest = let cs = calls h in let ds = dequeuesOf cs in place ds [] (taken cs ds ++ left cs rest)
@@ -63,3 +77,14 @@ remain cs = gather (ifLeft cs) cs
 
 unfoldable pub remaining : History → Queue
 remaining h = map itemOf (remain (calls h))
+
+-- The order that leaves those, and its starting numbers: a call's is the place of its start among those of the calls, from 1.
+unfoldable pub ordered : List Call → List Call
+ordered cs = place (dequeuesOf cs) [] (taken cs (dequeuesOf cs) ++ remain cs)
+
+abbrev pub startingNumber : List Call → Call → ℕ
+startingNumber [] c = 0
+startingNumber (b ∷ cs) c = cond (eqb (startOf b) (startOf c)) 1 (suc (startingNumber cs c))
+
+unfoldable pub orderNumbers : List Call → List ℕ
+orderNumbers cs = map (startingNumber cs) (ordered cs)

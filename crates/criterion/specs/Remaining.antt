@@ -77,6 +77,9 @@ module _ (h : History) (w : wellFormed h ≡ true) where
       let e = is-left (calls h) (r .0) x (r .2) in
       (subst (λ c. Member c (calls h)) (e .0) (r .1), e .1, λ t. true≢false (sym (taken-given h w (x .number) t) ∙ e .2))
 
+  pub remain-from : (x : Enqueue) → Member x lefts → Member (enq x) (calls h)
+  remain-from x m = lefts-from x m .0
+
   in-lefts : (x : Enqueue) → Member (enq x) (calls h) → x .end ≢ 0 → (Taken (x .number) h → ⊥) → Member x lefts
   in-lefts x m z f = in-gather (ifLeft (calls h)) (enq x) x (calls h) m (go (any (gives (x .number)) (calls h)) refl)
     where

@@ -23,7 +23,7 @@ use Rattle.criterion.specs.Fair.{TakenBefore, FairItem, Fair, Orderly}
 use Rattle.criterion.specs.Orderly.{answered-ended, item-not-nothing, gave-when, explained-is-orderly}
 use Rattle.criterion.specs.Order.{lookAnswer, taken, left, place, order}
 use Rattle.criterion.specs.Fits.{Fits, Among, Timely, Next, Sorted, fits-runs, fits-among, fits-enqueue, fits-dequeue, fits-timely}
-use Rattle.criterion.specs.Serve.{Lasts, Serve, Serves, InLine, clears-nothing, place-fits}
+use Rattle.criterion.specs.Serve.{Lasts, Serve, Serves, InLine, place-fits}
 use Rattle.criterion.specs.Found.{of-calls, answered-in, pairwise-dequeues, look-finds, look-is, TakenBy, taken-by, taken-has}
 
 -- whether an item has been taken
@@ -195,7 +195,7 @@ module _ (h : History) (w : wellFormed h ≡ true) where
           (z, dequeue-tells h w d (r .0) .forward z))
 
       fits : Fits dequeued [] line rests (place dequeued [] line)
-      fits = place-fits dequeued [] line rests (in-turn .1) has-ended in-line (serves dequeued in-turn) (clears-nothing dequeued)
+      fits = place-fits 0 dequeued [] line rests (in-turn .1) has-ended (all-of _ dequeued (λ d m. omega arith)) tt in-line (serves dequeued in-turn)
 
       sorted : Sorted dequeued line
       sorted =

@@ -3,3 +3,4 @@ pub mod Event
 pub mod Calls
 pub mod Form
 pub mod Linearization
+pub mod Shows
