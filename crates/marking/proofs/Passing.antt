@@ -8,7 +8,7 @@ use Prim.Native.Nat.{ℕ, zero, suc, _+_, _≤_, _<_, max, suc-le-suc}
 use native.Mathlib.Numerals.{add-one}
 use native.Mathlib.Omega.{arith}
 use lib.Dec.{eqb, leb}
-use lib.ListN.{getD, set, length-set, drop}
+use lib.ListN.{length, getD, set, length-set, drop}
 use lib.Seq.{getD-set-same, getD-set-other}
 use borrow.Author.Tests.{eq-eqb, ne-eqb}
 use Rattle.history.specs.Calls.{Answer, nothing, item, empty, Enqueue, Call, enq, deq}
@@ -21,8 +21,8 @@ use Rattle.marking.specs.declared.Marked.the-variants.{Fails, Mark}
 use Rattle.reading.specs.Build.{build}
 use Rattle.reading.specs.Table.{startAt, endAt, answerAt, threadAt, numberAt, valueAt, callOf, callAt, callsIn}
 use Rattle.marking.specs.Pass.{State, giveItem, answer, passCall, onward, passCalls, passed, lastTest}
-use Rattle.marking.specs.Marks.{Numbered, Found, Given, Flagged, hintOf, movedTo, stateAfter, Moves, marked, Marks}
-use Rattle.reading.proofs.Logic.{same-or-not}
+use Rattle.marking.specs.Marks.{Numbered, Found, Given, Flagged, Located, enqueueAt, hintOf, movedTo, stateAfter, Moves, marked, Marks}
+use Rattle.reading.proofs.Logic.{same-or-not, before-or-last}
 use Rattle.reading.proofs.Builds.{drop-build, drop-built}
 use Rattle.reading.proofs.Words
 
@@ -71,46 +71,64 @@ item-passes cs n v b zero a s t p d q = absurd (d refl)
 item-passes cs n v b (suc e) zero s t p d q = absurd (q refl)
 item-passes cs n v b (suc e) (suc a) s t p d q = rw p
 
--- enqueue i
-abbrev enqueueAt : List ℕ → ℕ → Enqueue
-enqueueAt m i =
-    record { thread = threadAt m i; number = numberAt m i; value = valueAt m i; start = startAt m i; end = endAt m i }
-
-an-enqueue : (t n v b e a : ℕ) → t ≢ 0 → callOf t n v b e a ≡ enq (record { thread = t; number = n; value = v; start = b; end = e })
+pub an-enqueue : (t n v b e a : ℕ) → t ≢ 0 → callOf t n v b e a ≡ enq (record { thread = t; number = n; value = v; start = b; end = e })
 an-enqueue zero n v b e a d = absurd (d refl)
 an-enqueue (suc t) n v b e a d = refl
 
 module _ (m : List ℕ) (c : ℕ) where
+  -- One call more: it gave no item, or its item was noted.
+  also-at :
+      {j : ℕ} (items : List ℕ) → Located m items c j → (threadAt m j ≡ 0 → endAt m j ≢ 0 → answerAt m j ≢ 0 → ⊥) → Located m items c (suc j)
+  also-at {j} items old idle h l t e a = elim (before-or-last h j l) [
+    | inl o ↦ old h o t e a
+    | inr q ↦ absurd (idle (rw q at t) (rw q at e) (rw q at a))
+  ]
+
+  noted-at :
+      (j i : ℕ) (items : List ℕ) → j < length items → i < c → numberAt m i ≡ answerAt m j → Located m items c j
+      → Located m (set items j i) c (suc j)
+  noted-at j i items room within is old h l t e a = elim (before-or-last h j l) [
+    | inl o ↦ (let k = getD-set-other items j h i 0 (omega arith) in rw k (old h o t e a))
+    | inr q ↦ (let k = getD-set-same items j i 0 room in rw (q, k) (within, is))
+  ]
+
   -- Ways on that change nothing but the mark.
   on-with :
-      (j mark mark′ hint : ℕ) (flags : List ℕ) → hint ≤ c
+      (j mark mark′ hint : ℕ) (flags items : List ℕ) → hint ≤ c
       → ((given : List ℕ) → stateAfter m c j mark given ≡ some (record { mark = mark′; given = given }))
-      → Moves m c j mark flags flags (To mark′ hint)
-  on-with j mark mark′ hint flags h e = record {
+      → (threadAt m j ≡ 0 → endAt m j ≢ 0 → answerAt m j ≢ 0 → ⊥) → Moves m c j mark flags flags items items (To mark′ hint)
+  on-with j mark mark′ hint flags items h e idle = record {
     hint-within = h;
     replies = λ given g. sym (ap (movedTo hint) (e given));
     flags-then = λ given g. rw (e given) g;
+    size-stays = refl;
+    located = λ x y r old. also-at items old idle;
   }
 
-  pub on-enqueue : (j mark hint : ℕ) (flags : List ℕ) → hint ≤ c → threadAt m j ≢ 0 → Moves m c j mark flags flags (To mark hint)
-  on-enqueue j mark hint flags h d =
-      on-with j mark mark hint flags h
+  pub on-enqueue :
+      (j mark hint : ℕ) (flags items : List ℕ) → hint ≤ c → threadAt m j ≢ 0 → Moves m c j mark flags flags items items (To mark hint)
+  on-enqueue j mark hint flags items h d =
+      on-with j mark mark hint flags items h
       (λ given. enqueue-passes (callsIn m c) (numberAt m j) (valueAt m j) (startAt m j) (endAt m j) (answerAt m j) _ (threadAt m j) d)
+      (λ t e a. d t)
 
   pub on-under-way :
-      (j mark hint : ℕ) (flags : List ℕ) → hint ≤ c → threadAt m j ≡ 0 → endAt m j ≡ 0 → Moves m c j mark flags flags (To mark hint)
-  on-under-way j mark hint flags h p q =
-      on-with j mark mark hint flags h
+      (j mark hint : ℕ) (flags items : List ℕ) → hint ≤ c → threadAt m j ≡ 0 → endAt m j ≡ 0
+      → Moves m c j mark flags flags items items (To mark hint)
+  on-under-way j mark hint flags items h p q =
+      on-with j mark mark hint flags items h
       (λ given. under-way-passes (callsIn m c) (numberAt m j) (valueAt m j) (startAt m j) (endAt m j) (answerAt m j) _ (threadAt m j) p q)
+      (λ t e a. e q)
 
   pub on-empty :
-      (j mark mark′ hint : ℕ) (flags : List ℕ) → hint ≤ c → threadAt m j ≡ 0 → endAt m j ≢ 0 → answerAt m j ≡ 0
-      → mark′ ≡ max mark (startAt m j) → Moves m c j mark flags flags (To mark′ hint)
-  on-empty j mark mark′ hint flags h p d q e =
-      on-with j mark mark′ hint flags h
+      (j mark mark′ hint : ℕ) (flags items : List ℕ) → hint ≤ c → threadAt m j ≡ 0 → endAt m j ≢ 0 → answerAt m j ≡ 0
+      → mark′ ≡ max mark (startAt m j) → Moves m c j mark flags flags items items (To mark′ hint)
+  on-empty j mark mark′ hint flags items h p d q e =
+      on-with j mark mark′ hint flags items h
       (λ given.
       empty-passes (callsIn m c) (numberAt m j) (valueAt m j) (startAt m j) (endAt m j) (answerAt m j) _ (threadAt m j) p d q
       ∙ ap (λ i. some (record { mark = i; given = given })) (sym e))
+      (λ t f a. a q)
 
   -- An item.
   module _ (numbered : Numbered m c) (j mark : ℕ) (p : threadAt m j ≡ 0) (d : endAt m j ≢ 0) (q : answerAt m j ≢ 0) where
@@ -123,24 +141,27 @@ module _ (m : List ℕ) (c : ℕ) where
     item-is given = item-passes (callsIn m c) (numberAt m j) (valueAt m j) (startAt m j) (endAt m j) n _ (threadAt m j) p d q
 
     stuck-at :
-        (flags flags′ : List ℕ) → ((given : List ℕ) → Given m c flags given → stateAfter m c j mark given ≡ none)
-        → Moves m c j mark flags flags′ Stuck
-    stuck-at flags flags′ f = record {
+        (flags items : List ℕ) → ((given : List ℕ) → Given m c flags given → stateAfter m c j mark given ≡ none)
+        → Moves m c j mark flags flags items items Stuck
+    stuck-at flags items f = record {
       hint-within = omega arith;
       replies = λ given g. sym (ap (movedTo 0) (f given g));
       flags-then = λ given g. rw (f given g) tt;
+      size-stays = refl;
+      located = λ x y r. absurd (let z : _≡_ {A = ℕ} 0 1 = cc in omega arith);
     }
 
-    pub not-found : (i : ℕ) (flags flags′ : List ℕ) → Found m c n i → c ≤ i → Moves m c j mark flags flags′ Stuck
-    not-found i flags flags′ f l =
+    pub not-found :
+        (i : ℕ) (flags items : List ℕ) → Found m c n i → c ≤ i → Moves m c j mark flags flags items items Stuck
+    not-found i flags items f l =
         let none =
         look-none n (callAt m) c
         (λ h o. Words.not-number (numberAt m h) (valueAt m h) (startAt m h) (endAt m h) (answerAt m h) (threadAt m h) n (f .is-nowhere l h o)) in
-        stuck-at flags flags′ (λ given g. item-is given ∙ ap (giveItem n (valueAt m j) (endAt m j) _) none)
+        stuck-at flags items (λ given g. item-is given ∙ ap (giveItem n (valueAt m j) (endAt m j) _) none)
 
     -- enqueue i is the one with the item's number
     module _ (i : ℕ) (within : i < c) (is : numberAt m i ≡ n) where
-      looked : look n (callsIn m c) ≡ enqueueAt m i ∷ []
+      pub looked : look n (callsIn m c) ≡ enqueueAt m i ∷ []
       looked =
           look-one n (callAt m) c i (enqueueAt m i) within
           (an-enqueue (threadAt m i) (numberAt m i) (valueAt m i) (startAt m i) (endAt m i) (answerAt m i)
@@ -164,9 +185,11 @@ module _ (m : List ℕ) (c : ℕ) where
           let e = subst (λ x. has x given ≡ eqb (getD flags i 0) 1) is (g .flagged i within) in
           item-is given ∙ ap (giveItem n (valueAt m j) (endAt m j) _) looked ∙ ap (λ b. cond (test b) (some (then given)) none) e
 
-      pub unfair : (flags flags′ : List ℕ) (r : Bool) → r ≡ test (eqb (getD flags i 0) 1) → r ≡ false → Moves m c j mark flags flags′ Stuck
-      unfair flags flags′ r e f =
-          stuck-at flags flags′ (λ given g. tested flags given g ∙ ap (λ b. cond b (some (then given)) none) (sym e ∙ f))
+      pub unfair :
+          (flags items : List ℕ) (r : Bool) → r ≡ test (eqb (getD flags i 0) 1) → r ≡ false
+          → Moves m c j mark flags flags items items Stuck
+      unfair flags items r e f =
+          stuck-at flags items (λ given g. tested flags given g ∙ ap (λ b. cond b (some (then given)) none) (sym e ∙ f))
 
       flag-on : (flags given : List ℕ) → c ≤ 4096 → Given m c flags given → Given m c (set flags i 1) (n ∷ given)
       flag-on flags given room g = record {
@@ -185,28 +208,31 @@ module _ (m : List ℕ) (c : ℕ) where
               rw (a, b) (g .flagged h l)
 
       pub is-fair :
-          (flags : List ℕ) (r : Bool) (mark′ hint : ℕ) → c ≤ 4096 → r ≡ test (eqb (getD flags i 0) 1) → r ≡ true → mark′ ≡ max mark (startAt m i)
-          → hint ≤ c → Moves m c j mark flags (set flags i 1) (To mark′ hint)
-      is-fair flags r mark′ hint room e f top few = record {
+          (flags items : List ℕ) (r : Bool) (mark′ hint : ℕ) → c ≤ 4096 → j < length items → r ≡ test (eqb (getD flags i 0) 1) → r ≡ true
+          → mark′ ≡ max mark (startAt m i) → hint ≤ c → Moves m c j mark flags (set flags i 1) items (set items j i) (To mark′ hint)
+      is-fair flags items r mark′ hint room noted e f top few = record {
         hint-within = few;
         replies = λ given g. rw (goes given g, top);
         flags-then = λ given g. rw (goes given g) (flag-on flags given room g);
+        size-stays = length-set items j i;
+        located = λ x y z old. noted-at j i items noted within is old;
       }
         where
           goes : (given : List ℕ) → Given m c flags given → stateAfter m c j mark given ≡ some (then given)
           goes given g = tested flags given g ∙ ap (λ b. cond b (some (then given)) none) (sym e ∙ f)
 
 -- The pass after j calls.
-pub record Passed (m : List ℕ) (c : ℕ) (flags : List ℕ) (mark j : ℕ) : Type 0 where
+pub record Passed (m : List ℕ) (c : ℕ) (flags items : List ℕ) (mark j : ℕ) : Type 0 where
   pub given : List ℕ
   pub are-given : Given m c flags given
+  pub located : Located m items c j
   pub is-same : passed (callsIn m c) ≡ passCalls (callsIn m c) (drop j (callsIn m c)) (record { mark = mark; given = given })
 
-pub none-passed : (m : List ℕ) (c : ℕ) (flags : List ℕ) → Given m c flags [] → Passed m c flags 0 0
-none-passed m c flags g = record { given = []; are-given = g; is-same = refl }
+pub none-passed : (m : List ℕ) (c : ℕ) (flags items : List ℕ) → Given m c flags [] → Passed m c flags items 0 0
+none-passed m c flags items g = record { given = []; are-given = g; located = λ h l. absurd (omega arith); is-same = refl }
 
-module _ (m : List ℕ) (c : ℕ) (flags : List ℕ) (mark j : ℕ) (p : Passed m c flags mark j) (more : j < c) (flags′ : List ℕ) (r : Moved)
-    (moves : Moves m c j mark flags flags′ r) where
+module _ (m : List ℕ) (c : ℕ) (flags items : List ℕ) (mark j : ℕ) (p : Passed m c flags items mark j) (more : j < c) (flags′ items′ : List ℕ)
+    (r : Moved) (moves : Moves m c j mark flags flags′ items items′ r) where
   abbrev after : Option State
   after = stateAfter m c j mark (p .given)
 
@@ -216,17 +242,22 @@ module _ (m : List ℕ) (c : ℕ) (flags : List ℕ) (mark j : ℕ) (p : Passed 
       ∙ ap (λ l. passCalls (callsIn m c) l (record { mark = mark; given = p .given })) (drop-build (callAt m) c j more)
       ∙ ap (λ x. onward x (passCalls (callsIn m c) (drop (suc j) (callsIn m c)))) e
 
-  pub call-passed : (mark′ hint : ℕ) → r ≡ To mark′ hint → (hint ≤ c) × Passed m c flags′ mark′ (j + 1)
+  pub call-passed : (mark′ hint : ℕ) → r ≡ To mark′ hint → (hint ≤ c) × Passed m c flags′ items′ mark′ (j + 1)
   call-passed mark′ hint e =
       let w = moves .hint-within in
       let h : hintOf r ≡ hint = ap hintOf e in
       (omega arith, go after refl (moves .replies (p .given) (p .are-given)) (moves .flags-then (p .given) (p .are-given)))
     where
-      go : (o : Option State) → after ≡ o → r ≡ movedTo (hintOf r) o → Flagged m c flags′ o → Passed m c flags′ mark′ (j + 1)
+      go : (o : Option State) → after ≡ o → r ≡ movedTo (hintOf r) o → Flagged m c flags′ o → Passed m c flags′ items′ mark′ (j + 1)
       go none f a g = absurd (let z : _≡_ {A = ℕ} 0 1 = cc in omega arith)
       go (some s) f a g =
           let z : s .mark ≡ mark′ = cc in
-          record { given = s .given; are-given = g; is-same = rw (add-one j, ← z) (next (some s) f) }
+          record {
+            given = s .given;
+            are-given = g;
+            located = rw (add-one j) (moves .located mark′ hint e (p .located));
+            is-same = rw (add-one j, ← z) (next (some s) f);
+          }
 
   pub call-stuck : r ≡ Stuck → passed (callsIn m c) ≡ none
   call-stuck e = go after refl (moves .replies (p .given) (p .are-given))
@@ -235,15 +266,20 @@ module _ (m : List ℕ) (c : ℕ) (flags : List ℕ) (mark j : ℕ) (p : Passed 
       go none f a = next none f
       go (some s) f a = absurd (let z : _≡_ {A = ℕ} 0 1 = cc in omega arith)
 
-pub pass-fails : (m : List ℕ) (c : ℕ) (flags : List ℕ) → passed (callsIn m c) ≡ none → Marks m c flags Fails
-pass-fails m c flags e = record { replies = sym (ap marked e); flags-then = rw e tt }
+pub pass-fails : (m : List ℕ) (c : ℕ) (flags items : List ℕ) → passed (callsIn m c) ≡ none → Marks m c flags items Fails
+pass-fails m c flags items e = record {
+  replies = sym (ap marked e);
+  flags-then = rw e tt;
+  located = λ x r. absurd (let z : _≡_ {A = ℕ} 0 1 = cc in omega arith);
+}
 
-pub all-passed : (m : List ℕ) (c : ℕ) (flags : List ℕ) (mark j : ℕ) → Passed m c flags mark j → j ≡ c → Marks m c flags (Mark mark)
-all-passed m c flags mark j p e =
+pub all-passed :
+    (m : List ℕ) (c : ℕ) (flags items : List ℕ) (mark j : ℕ) → Passed m c flags items mark j → j ≡ c → Marks m c flags items (Mark mark)
+all-passed m c flags items mark j p e =
     let s : State = record { mark = mark; given = p .given } in
     let z : passed (callsIn m c) ≡ some s =
     p .is-same ∙ ap (λ l. passCalls (callsIn m c) l s) (ap (λ i. drop i (callsIn m c)) e ∙ drop-built (callAt m) c) in
-    record { replies = sym (ap marked z); flags-then = rw z (p .are-given) }
+    record { replies = sym (ap marked z); flags-then = rw z (p .are-given); located = λ x r. rw e at (p .located) }
 
 -- The pass with the last test is the verdict's.
 give-and : (cs l : List Call) (t : State) (b : Bool) → passes cs l (t .mark) (t .given) ≡ lastTest cs (passCalls cs l t)

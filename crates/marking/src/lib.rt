@@ -1,4 +1,5 @@
-// The verdict's pass over the calls of a history: whether each dequeue's answer was in order, the mark that is left, and the items given.
+// The verdict's pass over the calls of a history: whether each dequeue's answer was in order, the mark that is left, the items given,
+// and where each was found.
 use reading::ANSWER;
 use reading::END;
 use reading::MEMORY;
@@ -12,6 +13,7 @@ ghost use mathlib.Core.Path.{_≡_};
 ghost use mathlib.Core.Logic.{_≢_};
 ghost use mathlib.Core.List.{[]};
 ghost use Prim.Native.Nat.{_+_, _≤_, _<_};
+ghost use lib.ListN.{length};
 ghost use Rattle.history.specs.Form.{mostEvents};
 ghost use Rattle.reading.specs.Table.{threadAt, endAt, answerAt};
 ghost use Rattle.marking.specs.Marks.{Numbered, Found, Given, fairAt, Moves, Marks};
@@ -73,17 +75,18 @@ fn first_left(m: &[u32; MEMORY], flags: &[u32; MOST_EVENTS], hint: usize, c: usi
     c
 }
 
-// Dequeue j gives an item: its enqueue's start moves the mark.
+// Dequeue j gives an item: its enqueue's start moves the mark, and its enqueue is noted.
 fn give(
     m: &[u32; MEMORY],
     flags: &mut [u32; MOST_EVENTS],
+    items: &mut [u32; MOST_EVENTS],
     c: usize,
     mark: u32,
     hint: usize,
     j: usize,
 ) -> Moved
-    requires { ⌜ Numbered (now m) c × (c ≤ mostEvents) × (hint ≤ c) × (j < c) × (threadAt (now m) j ≡ 0) × (endAt (now m) j ≢ 0) × (answerAt (now m) j ≢ 0) ⌝ }
-    ensures { λ r. ⌜ Moves (now (m .entry)) c j mark (now (flags .entry)) (now (flags .exit)) r ⌝ }
+    requires { ⌜ Numbered (now m) c × (c ≤ mostEvents) × (hint ≤ c) × (j < c) × (length (now items) ≡ mostEvents) × (threadAt (now m) j ≡ 0) × (endAt (now m) j ≢ 0) × (answerAt (now m) j ≢ 0) ⌝ }
+    ensures { λ r. ⌜ Moves (now (m .entry)) c j mark (now (flags .entry)) (now (flags .exit)) (now (items .entry)) (now (items .exit)) r ⌝ }
 {
     let i = position(m, hint, c, m[ANSWER + j]);
     if c <= i {
@@ -93,6 +96,7 @@ fn give(
         return Moved::Stuck;
     }
     flags[i] = 1;
+    items[j] = i as u32;
     let next = larger(mark, m[START + i]);
     let first = first_left(m, flags, hint, c);
     Moved::To {
@@ -105,13 +109,14 @@ fn give(
 fn pass(
     m: &[u32; MEMORY],
     flags: &mut [u32; MOST_EVENTS],
+    items: &mut [u32; MOST_EVENTS],
     c: usize,
     mark: u32,
     hint: usize,
     j: usize,
 ) -> Moved
-    requires { ⌜ Numbered (now m) c × (c ≤ mostEvents) × (hint ≤ c) × (j < c) ⌝ }
-    ensures { λ r. ⌜ Moves (now (m .entry)) c j mark (now (flags .entry)) (now (flags .exit)) r ⌝ }
+    requires { ⌜ Numbered (now m) c × (c ≤ mostEvents) × (hint ≤ c) × (j < c) × (length (now items) ≡ mostEvents) ⌝ }
+    ensures { λ r. ⌜ Moves (now (m .entry)) c j mark (now (flags .entry)) (now (flags .exit)) (now (items .entry)) (now (items .exit)) r ⌝ }
 {
     if m[THREAD + j] != 0 {
         return Moved::To { mark, hint };
@@ -123,19 +128,25 @@ fn pass(
         let next = larger(mark, m[START + j]);
         return Moved::To { mark: next, hint };
     }
-    give(m, flags, c, mark, hint, j)
+    give(m, flags, items, c, mark, hint, j)
 }
 
-// The pass over all calls, in starting order; it flags the enqueues whose items were given.
-pub fn marks(m: &[u32; MEMORY], flags: &mut [u32; MOST_EVENTS], c: usize) -> Marked
-    requires { ⌜ Numbered (now m) c × (c ≤ mostEvents) × Given (now m) c (now flags) [] ⌝ }
-    ensures { λ r. ⌜ Marks (now (m .entry)) c (now (flags .exit)) r ⌝ }
+// The pass over all calls, in starting order; it flags the enqueues whose items were given, and notes at each dequeue where its
+// item was found.
+pub fn marks(
+    m: &[u32; MEMORY],
+    flags: &mut [u32; MOST_EVENTS],
+    items: &mut [u32; MOST_EVENTS],
+    c: usize,
+) -> Marked
+    requires { ⌜ Numbered (now m) c × (c ≤ mostEvents) × Given (now m) c (now flags) [] × (length (now items) ≡ mostEvents) ⌝ }
+    ensures { λ r. ⌜ Marks (now (m .entry)) c (now (flags .exit)) (now (items .exit)) r ⌝ }
 {
     let mut mark = 0;
     let mut hint = 0;
     let mut j = 0;
     while j < c {
-        let moved = pass(m, flags, c, mark, hint, j);
+        let moved = pass(m, flags, items, c, mark, hint, j);
         match moved {
             Moved::Stuck => {
                 return Marked::Fails;

@@ -3,6 +3,7 @@ pub mod Builds
 pub mod Cells
 pub mod Logic
 pub mod Words
+pub mod Zeros
 pub mod Starting
 pub mod Ending
 pub mod Stepping

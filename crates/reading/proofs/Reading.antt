@@ -56,7 +56,7 @@ same-refusal n m e = cc
 same-history : (g h : History) → history g ≡ history h → g ≡ h
 same-history g h e = cc
 
-refused-not-read : (n : ℕ) (h : History) → refused n ≡ history h → ⊥
+pub refused-not-read : (n : ℕ) (h : History) → refused n ≡ history h → ⊥
 refused-not-read n h e = let z : _≡_ {A = ℕ} 0 1 = cc in omega arith
 
 -- an event that was taken in

@@ -1,3 +1,4 @@
 pub mod Build
 pub mod Table
 pub mod Steps
+pub mod Admitted

@@ -27,7 +27,7 @@ pub const ANSWER: usize = 3 * MOST_EVENTS;
 
 pub const THREAD: usize = 4 * MOST_EVENTS;
 
-const NUMBER: usize = 5 * MOST_EVENTS;
+pub const NUMBER: usize = 5 * MOST_EVENTS;
 
 pub const VALUE: usize = 6 * MOST_EVENTS;
 

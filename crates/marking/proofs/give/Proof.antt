@@ -20,7 +20,7 @@ position-requires c κs = search needs
 returns : tie.Need-returns
 returns c =
     let p = c .before .before .before .pre in
-    not-found _ _ (p .0) _ _ (p .4) (p .5) (p .6) _ _ _ (c .before .position .ensures) (c .if1 .taken)
+    not-found _ _ (p .0) _ _ (p .5) (p .6) (p .7) _ _ _ (c .before .position .ensures) (c .if1 .taken)
 
 fair-requires : tie.Need-fair-requires
 fair-requires c κs = search needs
@@ -28,7 +28,7 @@ fair-requires c κs = search needs
 returns-2 : tie.Need-returns-2
 returns-2 c =
     let p = c .before .before .before .before .before .before .pre in
-    unfair _ _ (p .0) _ _ (p .4) (p .5) (p .6) _ (c .before .before .before .if1 .left) (c .before .before .before .before .position .ensures .is-there (c .before .before .before .if1 .left)) _ _ _
+    unfair _ _ (p .0) _ _ (p .5) (p .6) (p .7) _ (c .before .before .before .if1 .left) (c .before .before .before .before .position .ensures .is-there (c .before .before .before .if1 .left)) _ _ _
     (c .before .fair .ensures) (not-true _ (c .if2 .taken))
 
 mul-flags : tie.Need-mul-flags
@@ -36,6 +36,15 @@ mul-flags c = search needs
 
 element-write-flags : tie.Need-element-write-flags
 element-write-flags c = search needs
+
+cast-items : tie.Need-cast-items
+cast-items c = search needs
+
+mul-items : tie.Need-mul-items
+mul-items c = search needs
+
+element-write-items : tie.Need-element-write-items
+element-write-items c = search needs
 
 add-larger : tie.Need-add-larger
 add-larger c = search needs
@@ -55,8 +64,8 @@ first-left-requires c κs = search needs
 returns-3 : tie.Need-returns-3
 returns-3 c =
     let p = c .before .before .before .before .before .before .before .before .before .before .pre in
-    is-fair _ _ (p .0) _ _ (p .4) (p .5) (p .6) _ (c .before .before .before .before .before .before .before .if1 .left) (c .before .before .before .before .before .before .before .before .position .ensures .is-there (c .before .before .before .before .before .before .before .if1 .left)) _ _ _ _
-    (p .1) (c .before .before .before .before .before .fair .ensures) (not-false _ (c .before .before .before .before .if2 .left)) (c .before .before .larger .ensures) (c .first-left .ensures)
+    is-fair _ _ (p .0) _ _ (p .5) (p .6) (p .7) _ (c .before .before .before .before .before .before .before .if1 .left) (c .before .before .before .before .before .before .before .before .position .ensures .is-there (c .before .before .before .before .before .before .before .if1 .left)) _ _ _ _ _
+    (p .1) (search needs) (c .before .before .before .before .before .fair .ensures) (not-false _ (c .before .before .before .before .if2 .left)) (c .before .before .larger .ensures) (c .first-left .ensures)
 
 pub give-spec : {M : Type 1} → statement M
 give-spec =
@@ -71,6 +80,9 @@ give-spec =
     returns-2
     mul-flags
     element-write-flags
+    cast-items
+    mul-items
+    element-write-items
     add-larger
     mul-larger
     element-copy-out-larger

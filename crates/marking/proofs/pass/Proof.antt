@@ -14,7 +14,7 @@ element-copy-out-if1 : tie.Need-element-copy-out-if1
 element-copy-out-if1 c = search needs
 
 returns : tie.Need-returns
-returns c = on-enqueue _ _ _ _ _ _ (c .before .before .pre .2) (c .if1 .taken)
+returns c = on-enqueue _ _ _ _ _ _ _ (c .before .before .pre .2) (c .if1 .taken)
 
 add-if2 : tie.Need-add-if2
 add-if2 c = search needs
@@ -26,7 +26,7 @@ element-copy-out-if2 : tie.Need-element-copy-out-if2
 element-copy-out-if2 c = search needs
 
 returns-2 : tie.Need-returns-2
-returns-2 c = on-under-way _ _ _ _ _ _ (c .before .before .before .before .pre .2) (c .before .before .if1 .left) (c .if2 .taken)
+returns-2 c = on-under-way _ _ _ _ _ _ _ (c .before .before .before .before .pre .2) (c .before .before .if1 .left) (c .if2 .taken)
 
 add-if3 : tie.Need-add-if3
 add-if3 c = search needs
@@ -51,7 +51,7 @@ larger-requires c κs = search needs
 
 returns-3 : tie.Need-returns-3
 returns-3 c =
-    on-empty _ _ _ _ _ _ _ (c .before .before .before .before .before .before .before .before .pre .2) (c .before .before .before .before .before .before .if1 .left) (c .before .before .before .before .if2 .left) (c .before .before .if3 .taken) (c .larger .ensures)
+    on-empty _ _ _ _ _ _ _ _ (c .before .before .before .before .before .before .before .before .pre .2) (c .before .before .before .before .before .before .if1 .left) (c .before .before .before .before .if2 .left) (c .before .before .if3 .taken) (c .larger .ensures)
 
 give-requires : tie.Need-give-requires
 give-requires c κs = search needs
