@@ -1,0 +1,5 @@
+pub mod Answering
+pub mod Prefixes
+pub mod Performing
+pub mod Walking
+pub mod Keeping
