@@ -1,131 +1,185 @@
--- What the judge's parts give together: the calls that were read go into the table, the pass over them and the last test decide.
+-- What the judge's parts give together: the calls that were found go into the table, the pass over them and the last test decide, and
+-- where they are explained their order may be laid.
 use mathlib.Core.Path.{_≡_, refl, ap, sym, _∙_}
-use mathlib.Core.Bool.{Bool, true, false, _&&_, _||_, not, cond}
+use mathlib.Core.Bool.{Bool, true, _&&_, false≢true}
 use mathlib.Core.List.{List, [], _++_, map}
 use mathlib.Core.Option.{Option, none, some}
-use Prim.Native.Nat.{ℕ, _/_, _%_, _≤_}
-use native.Mathlib.Nat.{le-trans}
+use Prim.Native.Nat.{ℕ, zero, suc, _≤_, _<_}
 use native.Mathlib.Omega.{arith}
-use lib.Dec.{eqb, ltb}
-use lib.ListN.{length, drop, replicate, length-map}
-use borrow.Author.Tests.{ltb-false}
+use lib.ListN.{length, drop, length-map}
+use borrow.Author.Tests.{ne-eqb}
+use Rattle.history.specs.Lists.{All, Pairwise}
 use Rattle.history.specs.Event.{History}
-use Rattle.history.specs.Calls.{calls, row, rows}
-use Rattle.history.specs.Form.{Reading, refused, history, read}
+use Rattle.history.specs.Calls.{startOf, calls, row, rows}
+use Rattle.history.specs.Form.{Reading, refused, history}
 use Rattle.criterion.specs.Pass.{explains}
-use Rattle.reading.specs.declared.Entered.{Entered}
+use Rattle.criterion.specs.Apart.{starts-rise}
+use Rattle.criterion.specs.Order.{orderNumbers}
+use Rattle.criterion.specs.Shown.{order-fits}
 use Rattle.reading.specs.Build.{build}
-use Rattle.reading.specs.Table.{callAt, callsIn}
-use Rattle.reading.specs.Steps.{entered, Read}
+use Rattle.reading.specs.Table.{startAt, endAt, answerAt, threadAt, numberAt, valueAt, callOf, callAt, callsIn}
 use Rattle.reading.proofs.Builds.{map-build}
-use Rattle.reading.proofs.Logic.{neither}
 use Rattle.marking.specs.declared.Marked.{Marked}
 use Rattle.marking.specs.declared.Marked.the-variants.{Fails, Mark}
 use Rattle.marking.specs.Pass.{State, atFirst, passed, lastTest}
-use Rattle.marking.specs.Marks.{Numbered, Given, Flagged, marked, Marks}
+use Rattle.marking.specs.Marks.{Flagged, marked, Located}
 use Rattle.marking.proofs.Passing.{passes-is}
-use Rattle.marking.proofs.Zeros.{no-flags}
 use Rattle.judge.specs.declared.Call.{Call}
+use Rattle.judge.specs.declared.Findings.{Findings}
 use Rattle.judge.specs.declared.Verdict.{Verdict}
-use Rattle.judge.specs.declared.Verdict.the-variants.{Explained, Unexplained}
-use Rattle.judge.specs.Contract.{entry, written, Judges}
-use Rattle.judge.specs.Working.{callsOf, markOf, testedOf, goesThrough, verdictOf, entryIn, filled, allStay}
+use Rattle.judge.specs.Contract.{judged, entry, written, Judges}
+use Rattle.judge.specs.Admitted.{judged-admitted, judged-refusal}
+use Rattle.judge.specs.Working.{foundBy, FindsIn, Finds, Concludes, MayLay, entryIn, filled, allStay}
 use Rattle.judge.proofs.Filling.{length-filled}
 use Rattle.judge.proofs.Staying.{all-stay-as}
 
--- a history that is read has at most so many events
-refused-not-read : (n : ℕ) (h : History) → refused n ≡ history h → ⊥
-refused-not-read n h e = let z : _≡_ {A = ℕ} 0 1 = cc in omega arith
+-- The starts of the calls in the memory rise with those of the history.
+start-of : (t n v s e a : ℕ) → startOf (callOf t n v s e a) ≡ s
+start-of zero n v s e a = refl
+start-of (suc t) n v s e a = refl
 
-admitted-by : (a b : Bool) (x : Reading) (h : History) → cond a (refused 10) (cond b (refused 11) x) ≡ history h → (a ≡ false) × (b ≡ false)
-admitted-by true b x h e = absurd (refused-not-read 10 h e)
-admitted-by false true x h e = absurd (refused-not-read 11 h e)
-admitted-by false false x h e = (refl, refl)
+module _ {A : Type 0} where
+  all-built : (P : A → Type 0) (f : ℕ → A) (c j : ℕ) → j < c → All P (build f c) → P (f j)
+  all-built P f zero j l p = absurd (omega arith)
+  all-built P f (suc c) zero l p = p .0
+  all-built P f (suc c) (suc j) l p = all-built P (λ k. f (suc k)) c j (omega arith) (p .1)
 
-admitted : (entries : ℕ) (ws : List ℕ) (h : History) → read entries ws ≡ history h → (length ws / 4 ≤ 4096) × (length ws / 4 ≤ entries)
-unfolding read
-admitted entries ws h e =
-    let a = admitted-by (not (eqb (length ws % 4) 0) || ltb 4096 (length ws / 4)) (ltb entries (length ws / 4)) _ h e in
-    let b = neither (not (eqb (length ws % 4) 0)) (ltb 4096 (length ws / 4)) (a .0) in
-    (ltb-false 4096 (length ws / 4) (b .1), ltb-false entries (length ws / 4) (a .1))
+  pairwise-built : (R : A → A → Type 0) (f : ℕ → A) (c i j : ℕ) → i < j → j < c → Pairwise R (build f c) → R (f i) (f j)
+  pairwise-built R f zero i j k l p = absurd (omega arith)
+  pairwise-built R f (suc c) i zero k l p = absurd (omega arith)
+  pairwise-built R f (suc c) zero (suc j) k l p = all-built (R (f 0)) (λ n. f (suc n)) c j (omega arith) (p .0)
+  pairwise-built R f (suc c) (suc i) (suc j) k l p = pairwise-built R (λ n. f (suc n)) c i j (omega arith) (omega arith) (p .1)
 
--- The words were read, with the memory m and the reply e, and n calls were started.
-module _ (words : List ℕ) (before : List Call) (m : List ℕ) (e : Entered) (n : ℕ)
-    (reads : Read (read (length before) words) (length words / 4) m e) (count : n ≡ callsOf e) where
+starts-in : (m : List ℕ) (j : ℕ) → startOf (callAt m j) ≡ startAt m j
+starts-in m j = start-of (threadAt m j) (numberAt m j) (valueAt m j) (startAt m j) (endAt m j) (answerAt m j)
+
+starts-rising :
+    (m : List ℕ) (c : ℕ) → Pairwise (λ a b. startOf a < startOf b) (callsIn m c) → (i j : ℕ) → i < j → j < c → startAt m i < startAt m j
+starts-rising m c p i j k l = omega (arith, pairwise-built (λ a b. startOf a < startOf b) (callAt m) c i j k l p, starts-in m i, starts-in m j)
+
+-- The look over the words left the memory, the flags and the items so, and found this.
+module _ (words : List ℕ) (table : List Call) (order m flags items : List ℕ) (f : Findings)
+    (found : Finds (judged (length table) (length order) words) (length table) (length order) m flags items f) where
   abbrev reading : Reading
-  reading = read (length before) words
+  reading = judged (length table) (length order) words
 
-  count-is : (x : Reading) → reading ≡ x → n ≡ callsOf (entered x)
-  count-is x i = count ∙ ap callsOf (reads .replies) ∙ ap (λ y. callsOf (entered y)) i
+  calls-found : (c : ℕ) (k : Marked) → foundBy c k .calls ≡ c
+  calls-found c Fails = refl
+  calls-found c (Mark mark) = refl
 
-  pub few : (n ≤ length before) × (n ≤ 4096)
+  count-is : (h : History) → reading ≡ history h → f .calls ≡ length (calls h)
+  count-is h i = let r = found .finds h i in ap (λ (y : Findings). y .calls) (r .found) ∙ calls-found (length (calls h)) (r .marked)
+
+  unrefused : (h : History) → reading ≡ history h → f .refusal ≡ 0
+  unrefused h i = let r = found .finds h i in ap (λ (y : Findings). y .refusal) (r .found) ∙ none-found (length (calls h)) (r .marked)
+    where
+      none-found : (c : ℕ) (k : Marked) → foundBy c k .refusal ≡ 0
+      none-found c Fails = refl
+      none-found c (Mark mark) = refl
+
+  pub few : (f .calls ≤ length table) × (f .calls ≤ 4096)
   few = go reading refl
     where
-      go : (x : Reading) → reading ≡ x → (n ≤ length before) × (n ≤ 4096)
-      go (refused k) i = let z : n ≡ 0 = count-is (refused k) i in (omega arith, omega arith)
-      go (history h) i =
-          let z : n ≡ length (calls h) = count-is (history h) i in
-          let a = admitted (length before) words h i in
-          let f = reads .holds h i .few in
-          (rw z (le-trans f (a .1)), rw z (le-trans f (a .0)))
+      go : (x : Reading) → reading ≡ x → (f .calls ≤ length table) × (f .calls ≤ 4096)
+      go (refused n) i = let z = ap (λ (y : Findings). y .calls) (found .refuses n i) in (omega arith, omega arith)
+      go (history h) i = let r = found .finds h i in (omega (arith, count-is h i, r .enough-entries), omega (arith, count-is h i, r .few))
 
-  -- so they may be marked, with flags of zeros
-  pub may-mark : (flags : List ℕ) → flags ≡ replicate 4096 0 → Numbered m n × (n ≤ 4096) × Given m n flags []
-  may-mark flags z = (go reading refl, few .1, rw z (no-flags m n 4096 refl))
-    where
-      go : (x : Reading) → reading ≡ x → Numbered m n
-      go (refused k) i = let z : n ≡ 0 = count-is (refused k) i in record { plain = λ j l. absurd (omega arith); distinct = λ i j l. absurd (omega arith) }
-      go (history h) i = rw (count-is (history h) i) (let t = reads .holds h i .table in record { plain = t .plain; distinct = t .distinct })
+  module _ (table′ : List Call) (fills : table′ ≡ filled m (f .calls) table) where
+    pub tested-few : (f .tested ≤ length table′) × (f .tested ≤ 4096)
+    tested-few =
+        let l = ap length fills ∙ length-filled m table (f .calls) (few .0) in
+        let t = tested reading refl in
+        (omega (arith, few .0, l, t), omega (arith, few .1, t))
+      where
+        tested-found : (c : ℕ) (k : Marked) → foundBy c k .tested ≤ foundBy c k .calls
+        tested-found c Fails = omega arith
+        tested-found c (Mark mark) = omega arith
 
-  module _ (flags : List ℕ) (r : Marked) (pass : Marks m n flags r) (after : List Call) (fills : after ≡ filled m n before) where
-    -- on a history
-    module _ (h : History) (is-read : reading ≡ history h) where
-      are-calls : callsIn m n ≡ calls h
-      are-calls = rw (count-is (history h) is-read) (reads .holds h is-read .are-calls)
+        tested : (x : Reading) → reading ≡ x → f .tested ≤ f .calls
+        tested (refused n) i = rw (found .refuses n i) (omega arith)
+        tested (history h) i = let r = found .finds h i in rw (r .found) (tested-found (length (calls h)) (r .marked))
 
-      entries-are : build (entryIn m) n ≡ map entry (rows h)
-      entries-are =
-          sym (map-build entry (λ j. row (callAt m j)) n)
-          ∙ ap (map entry) (sym (map-build row (callAt m) n))
-          ∙ ap (λ cs. map entry (map row cs)) are-calls
+    module _ (stays : Bool) (test : stays ≡ allStay table′ flags (f .mark) (f .tested)) where
+      -- on a history
+      module _ (h : History) (is-read : reading ≡ history h) where
+        abbrev c : ℕ
+        c = length (calls h)
 
-      rows-count : n ≡ length (rows h)
-      rows-count = count-is (history h) is-read ∙ sym (length-map (calls h) row)
+        finds : FindsIn h (length table) (length order) m flags items f
+        finds = found .finds h is-read
 
-      table-written : after ≡ written (history h) before
-      table-written = fills ∙ ap (λ l. l ++ drop n before) entries-are ∙ ap (λ i. map entry (rows h) ++ drop i before) rows-count
+        filled-as : table′ ≡ filled m c table
+        filled-as = fills ∙ ap (λ (n : ℕ). filled m n table) (count-is h is-read)
 
-      explains-as : explains h ≡ lastTest (calls h) (passed (calls h))
-      unfolding explains
-      explains-as = passes-is (calls h) (calls h) atFirst
+        entries-are : build (entryIn m) c ≡ map entry (rows h)
+        entries-are =
+            sym (map-build entry (λ j. row (callAt m j)) c)
+            ∙ ap (map entry) (sym (map-build row (callAt m) c))
+            ∙ ap (λ cs. map entry (map row cs)) (finds .are-calls)
 
-      -- the pass and the last test together are the verdict's
-      decided : (stays : Bool) → stays ≡ allStay after flags (markOf r) (testedOf r n) → (goesThrough r && stays) ≡ explains h
-      decided stays e = go (passed (callsIn m n)) refl (pass .replies) (pass .flags-then) ∙ ap (λ cs. lastTest cs (passed cs)) are-calls ∙ sym explains-as
+        table-written : table′ ≡ written (history h) table
+        table-written =
+            filled-as ∙ ap (λ l. l ++ drop c table) entries-are ∙ ap (λ (i : ℕ). map entry (rows h) ++ drop i table) (sym (length-map (calls h) row))
+
+        -- the pass and the last test together are the verdict's
+        explains-as : explains h ≡ lastTest (calls h) (passed (calls h))
+        unfolding explains
+        explains-as = passes-is (calls h) (calls h) atFirst
+
+        decided : (f .passes && stays) ≡ explains h
+        decided = go (passed (callsIn m c)) refl (finds .marks .replies) (finds .marks .flags-then) ∙ ap (λ cs. lastTest cs (passed cs)) (finds .are-calls) ∙ sym explains-as
+          where
+            go :
+                (o : Option State) → passed (callsIn m c) ≡ o → finds .marked ≡ marked o → Flagged m c flags o
+                → (f .passes && stays) ≡ lastTest (callsIn m c) (passed (callsIn m c))
+            go none p q g = rw (finds .found, q, p)
+            go (some s) p q g = rw (p, finds .found, q) (test ∙ rw (finds .found, q, filled-as) (all-stay-as m c flags (s .given) g (s .mark) table c (omega arith)))
+
+        order-is : orderNumbers (callsIn m (f .calls)) ≡ orderNumbers (calls h)
+        order-is = ap (λ (n : ℕ). orderNumbers (callsIn m n)) (count-is h is-read) ∙ ap orderNumbers (finds .are-calls)
+
+        -- an explained history's order may be laid
+        located : (k : Marked) → finds .marked ≡ k → (f .passes && stays) ≡ true → Located m items c c
+        located Fails q holds = absurd (false≢true (rw (finds .found, q) at holds))
+        located (Mark mark) q holds = finds .marks .located mark q
+
+        lays : (f .passes && stays) ≡ true → MayLay m items (f .calls) (length order)
+        lays holds =
+            let formed = judged-admitted (length table) (length order) words h is-read .formed in
+            let fits = order-fits h formed (sym decided ∙ holds) in
+            rw (count-is h is-read) (record {
+              laying = record {
+                few = finds .few;
+                numbered = finds .numbered;
+                located = located (finds .marked) refl holds;
+                rising = starts-rising m c (rw (finds .are-calls) (starts-rise h formed));
+                fits = rw (finds .are-calls) (omega (arith, fits, finds .enough-room));
+              };
+              short = rw (finds .are-calls) (omega (arith, fits, finds .few));
+            })
+
+      pub may-lay : (f .passes && stays) ≡ true → MayLay m items (f .calls) (length order)
+      may-lay holds = go reading refl
         where
-          go : (o : Option State) → passed (callsIn m n) ≡ o → r ≡ marked o → Flagged m n flags o → (goesThrough r && stays) ≡ lastTest (callsIn m n) (passed (callsIn m n))
-          go none p q g = rw (q, p)
-          go (some s) p q g =
-              rw (q, p)
-              (e ∙ rw (q, fills) (all-stay-as m n flags (s .given) g (s .mark) before n (omega arith)))
+          go : (x : Reading) → reading ≡ x → MayLay m items (f .calls) (length order)
+          go (refused n) i = absurd (false≢true (rw (found .refuses n i) at holds))
+          go (history h) i = lays h i holds
 
-    pub tested-few : (i : ℕ) → i ≡ testedOf r n → (i ≤ length after) × (i ≤ 4096)
-    tested-few i z = go r z
-      where
-        go : (x : Marked) → i ≡ testedOf x n → (i ≤ length after) × (i ≤ 4096)
-        go Fails z = (omega arith, omega arith)
-        go (Mark k) z = let f = few in let l = ap length fills ∙ length-filled m before n (f .0) in (omega arith, omega arith)
-
-    pub concludes :
-        (i k : ℕ) (stays : Bool) (v : Verdict) → i ≡ testedOf r n → k ≡ markOf r → stays ≡ allStay after flags k i → v ≡ verdictOf e r stays
-        → Judges words before after v
-    concludes i k stays v tested-is mark-is test-is verdict-is = go reading refl
-      where
-        go : (x : Reading) → reading ≡ x → Judges words before after v
-        go (refused j) read-as =
-            let z : n ≡ 0 = count-is (refused j) read-as in
-            record { replies = verdict-is ∙ rw (reads .replies, read-as); fills = fills ∙ rw (z, read-as) }
-        go (history h) read-as = record {
-          replies = verdict-is ∙ rw (reads .replies, read-as) (ap (λ b. cond b Explained Unexplained) (decided h read-as stays (test-is ∙ rw (mark-is, tested-is))));
-          fills = table-written h read-as ∙ sym (ap (λ x. written x before) read-as);
-        }
+      pub concludes :
+          (order′ : List ℕ) (r : Verdict) → Concludes (callsIn m (f .calls)) f stays order order′ r → Judges words table table′ order order′ r
+      concludes order′ r end = go reading refl
+        where
+          go : (x : Reading) → reading ≡ x → Judges words table table′ order order′ r
+          go (refused n) i =
+              let by = found .refuses n i in
+              let z = ne-eqb n 0 (judged-refusal (length table) (length order) words n i) in
+              record {
+                replies = end .replies ∙ rw (by, i, z);
+                fills = fills ∙ rw (by, i);
+                orders = end .orders ∙ rw (by, i);
+              }
+          go (history h) i = record {
+            replies = end .replies ∙ rw (decided h i, order-is h i, unrefused h i, i);
+            fills = table-written h i ∙ sym (ap (λ x. written x table) i);
+            orders = end .orders ∙ rw (decided h i, order-is h i, i);
+          }

@@ -1,5 +1,5 @@
--- The functions that take a history and a table and pass the table on for good (`judge`, and `judge_history` of judge_c): what is had of
--- the two at exit, how a walk ends, and how it becomes the function's theorem. ρ is the type of what they return.
+-- A function that takes a history, a table and an order buffer, and passes the two that it may write on for good (`judge`): what is had
+-- of the three at exit, how a walk ends, and how it becomes the function's theorem. ρ is the type of what it returns.
 use mathlib.Core.Path.{_≡_, refl}
 use mathlib.Core.List.{List, [], _∷_}
 use Prim.Native.Nat.{ℕ}
@@ -29,37 +29,48 @@ use denote.Exit.{yes}
 use Rattle.judge.specs.declared.Call.{Call}
 use Rattle.judge.proofs.MirWalks.{Entry, Code, proves}
 
-abbrev words : Slot 2
+abbrev words : Slot 3
 words = shrSliceOf (0 ∷ []) tt (plain (λ _. u32))
 
-abbrev entries : Slot 2
+abbrev entries : Slot 3
 entries = mutSliceOf (1 ∷ []) tt (plain (λ _. Entry))
+
+abbrev orders : Slot 3
+orders = mutSliceOf (2 ∷ []) tt (plain (λ _. u32))
 
 module _ (ρ : RattleType) where
   abbrev pub taken : Ended
-  taken = record { signature = record { lifetimes = 2; outlives = []; params = words ∷ entries ∷ []; result = plain (λ _. ρ) }; kept = (yes, (yes, tt)) }
+  taken = record { signature = record { lifetimes = 3; outlives = []; params = words ∷ entries ∷ orders ∷ []; result = plain (λ _. ρ) }; kept = (yes, (yes, (yes, tt))) }
 
   abbrev stayed : Stays (taken .signature .params) (taken .kept)
-  stayed = (stay-dropped words yes, (gave-slice (1 ∷ []) tt (plain (λ _. Entry)), tt))
+  stayed = (stay-dropped words yes, (gave-slice (1 ∷ []) tt (plain (λ _. Entry)), (gave-slice (2 ∷ []) tt (plain (λ _. u32)), tt)))
 
--- what a walk starts from: the tokens, and what the two slices own
-abbrev pub Given-both : {M : Type 1} {𝓤 : URA M} (κ κ′ : Lft) (q q′ : Share) (h : RefT (List ℕ)) (x : RefT (List Call)) → List (Item 𝓤)
-Given-both κ κ′ q q′ h x = (‵ (flft κ q) ⊛ ‵ (flft κ′ q′) ⊛ ‵ ftrue) ∷ ‵ (owns (ShrSlice (named 0) κ u32 ∷ MutSlice (named 1) κ′ Entry ∷ []) (h, (x, tt)) (slice-vals h, (slice-vals x, tt))) ∷ []
+-- what a walk starts from: the tokens, and what the three slices own
+module _ (κ κ′ κ″ : Lft) (q q′ q″ : Share) (h : RefT (List ℕ)) (x : RefT (List Call)) (o : RefT (List ℕ)) where
+  abbrev pub Given-all : {M : Type 1} {𝓤 : URA M} → List (Item 𝓤)
+  Given-all =
+      (‵ (flft κ q) ⊛ ‵ (flft κ′ q′) ⊛ ‵ (flft κ″ q″) ⊛ ‵ ftrue)
+      ∷ ‵ (owns (ShrSlice (named 0) κ u32 ∷ MutSlice (named 1) κ′ Entry ∷ MutSlice (named 2) κ″ u32 ∷ []) (h, (x, (o, tt))) (slice-vals h, (slice-vals x, (slice-vals o, tt))))
+      ∷ []
 
-module _ {M : Type 1} (𝓤 : URA M) (H : Heap 𝓤) (A : Atoms 𝓤) (W : Given 𝓤 H A) (ρ : RattleType) (c : Clauses 𝓤 (taken ρ)) where
-  module _ (κ κ′ : Lft) (q q′ : Share) (h : RefT (List ℕ)) (x : RefT (List Call)) (g : c (κ, (κ′, tt)) (h, (x, tt)) .ghost) where
+  module _ {M : Type 1} (𝓤 : URA M) (H : Heap 𝓤) (A : Atoms 𝓤) (W : Given 𝓤 H A) (ρ : RattleType) (c : Clauses 𝓤 (taken ρ)) (g : c (κ, (κ′, (κ″, tt))) (h, (x, (o, tt))) .ghost) where
     abbrev pub After : Val → SProp 𝓤
-    After = walkOf 𝓤 H A (taken ρ) (stayed ρ) c .post (((κ, (κ′, tt)), (q, (q′, tt)), tt, (h, (x, tt)), (slice-vals h, (slice-vals x, tt))), g)
+    After = walkOf 𝓤 H A (taken ρ) (stayed ρ) c .post (((κ, (κ′, (κ″, tt))), (q, (q′, (q″, tt))), tt, (h, (x, (o, tt))), (slice-vals h, (slice-vals x, (slice-vals o, tt)))), g)
 
-    -- a walk ends with the result, the table's last entries, and the tokens, where the contract holds of those
-    pub exits : (r : ρ .Denot) (v : Val) (zs : List Call) → length zs ≡ length (now x) → ent 𝓤 (emp 𝓤) (c (κ, (κ′, tt)) (h, (x, tt)) .ensures g r (h, (at-last x zs, tt)))
-        → ent 𝓤 (⋆ 𝓤 H A (‵ (ρ .own r (v ∷ [])) ∷ ‵ (finally Entry (name x) zs) ∷ ‵ (flft κ q) ∷ ‵ (flft κ′ q′) ∷ [])) (After v)
-    exits r v zs e holds =
-        qed W (‵ (ρ .own r (v ∷ [])) ∷ ‵ (finally Entry (name x) zs) ∷ ‵ (flft κ q) ∷ ‵ (flft κ′ q′) ∷ []) ∵
-        suffices ! _ (ends-at 𝓤 H A (taken ρ) (stayed ρ) c W (((κ, (κ′, tt)), (q, (q′, tt)), tt, (h, (x, tt)), (slice-vals h, (slice-vals x, tt))), g) v r (tt, (zs, tt)) (tt, (e, tt))) $
-        nothing ! $ move ! (4 ∷ 0 ∷ []) $ join ! $ move ! (3 ∷ 0 ∷ []) $ join ! $
-        nothing ! $ move ! (3 ∷ 0 ∷ []) $ fjoin ! $ nothing ! $ fjoin ! $ move ! (0 ∷ 2 ∷ []) $ join ! $ move ! (1 ∷ 0 ∷ []) $ join ! $
-        use0 W (raw (c (κ, (κ′, tt)) (h, (x, tt)) .ensures g r (h, (at-last x zs, tt)))) holds $ move ! (1 ∷ 0 ∷ []) $ done !
+    -- a walk ends with the result, the last entries of the table, the last words of the buffer, and the tokens, where the contract
+    -- holds of those
+    module _ (r : ρ .Denot) (v : Val) (zs : List Call) (ns : List ℕ) where
+      abbrev pub Left : List (Item 𝓤)
+      Left = ‵ (ρ .own r (v ∷ [])) ∷ ‵ (finally Entry (name x) zs) ∷ ‵ (finally u32 (name o) ns) ∷ ‵ (flft κ q) ∷ ‵ (flft κ′ q′) ∷ ‵ (flft κ″ q″) ∷ []
+
+      pub exits : length zs ≡ length (now x) → length ns ≡ length (now o)
+          → ent 𝓤 (emp 𝓤) (c (κ, (κ′, (κ″, tt))) (h, (x, (o, tt))) .ensures g r (h, (at-last x zs, (at-last o ns, tt)))) → ent 𝓤 (⋆ 𝓤 H A Left) (After v)
+      exits e e′ holds =
+          qed W Left ∵
+          suffices ! _ (ends-at 𝓤 H A (taken ρ) (stayed ρ) c W (((κ, (κ′, (κ″, tt))), (q, (q′, (q″, tt))), tt, (h, (x, (o, tt))), (slice-vals h, (slice-vals x, (slice-vals o, tt)))), g) v r (tt, (zs, (ns, tt))) (tt, (e, (e′, tt)))) $
+          nothing ! $ move ! (6 ∷ 0 ∷ []) $ join ! $ move ! (5 ∷ 0 ∷ []) $ join ! $ move ! (4 ∷ 0 ∷ []) $ join ! $
+          nothing ! $ move ! (4 ∷ 0 ∷ []) $ fjoin ! $ move ! (3 ∷ 0 ∷ []) $ fjoin ! $ nothing ! $ fjoin ! $ move ! (0 ∷ 2 ∷ []) $ join ! $ move ! (1 ∷ 0 ∷ []) $ join ! $
+          use0 W (raw (c (κ, (κ′, (κ″, tt))) (h, (x, (o, tt))) .ensures g r (h, (at-last x zs, (at-last o ns, tt))))) holds $ move ! (1 ∷ 0 ∷ []) $ done !
 
 -- a walk for all that may be passed shows that the function meets its contract
 module _ {M : Type 1} (𝓤 : URA M) (H : Heap 𝓤) (𝓜 : Model 𝓤 H) (𝓖 : GhostRules 𝓤 H) (𝓡 : Running 𝓤 H 𝓜) (ρ : RattleType) (c : Clauses 𝓤 (taken ρ)) (γ : Meanings) (k : Name) (f : Fn)
@@ -70,10 +81,14 @@ module _ {M : Type 1} (𝓤 : URA M) (H : Heap 𝓤) (𝓜 : Model 𝓤 H) (𝓖
   abbrev code : Fun 𝓤
   code = Code 𝓤 H 𝓜 𝓖 𝓡 (taken ρ) c γ k f unfolded
 
-  pub meets : ((κ κ′ : Lft) (q q′ : Share) (h : RefT (List ℕ)) (x : RefT (List Call)) (g : c (κ, (κ′, tt)) (h, (x, tt)) .ghost) → Room u32 (length (now h)) → Room Entry (length (now x))
-      → ent 𝓤 (⋆ 𝓤 H (𝓖 .A) (Given-both κ κ′ q q′ h x)) (code (sliceVal (ptr h) (length (now h)) ∷ sliceVal (ptr x) (length (now x)) ∷ []) (After 𝓤 H (𝓖 .A) W ρ c κ κ′ q q′ h x g)))
+  pub meets : ((κ κ′ κ″ : Lft) (q q′ q″ : Share) (h : RefT (List ℕ)) (x : RefT (List Call)) (o : RefT (List ℕ)) (g : c (κ, (κ′, (κ″, tt))) (h, (x, (o, tt))) .ghost)
+      → Room u32 (length (now h)) → Room Entry (length (now x)) → Room u32 (length (now o))
+      → ent 𝓤 (⋆ 𝓤 H (𝓖 .A) (Given-all κ κ′ κ″ q q′ q″ h x o)) (code (sliceVal (ptr h) (length (now h)) ∷ sliceVal (ptr x) (length (now x)) ∷ sliceVal (ptr o) (length (now o)) ∷ []) (After κ κ′ κ″ q q′ q″ h x o 𝓤 H (𝓖 .A) W ρ c g)))
       → Meets 𝓤 H (𝓖 .A) (taken ρ .signature) (tables 𝓤 H 𝓜 𝓡 γ .C k) (closing 𝓤 H (𝓖 .A) (taken ρ) c)
   meets walk =
-      proves 𝓤 H 𝓜 𝓖 𝓡 (taken ρ) c γ k f unfolded (stayed ρ) (goes-dropped 𝓤 H (𝓖 .A) W 2 words yes (λ κs x f. refl), (goes-gave-slice 𝓤 H (𝓖 .A) W 2 1 tt (plain (λ _. Entry)), tt))
-      (walked 𝓤 H (𝓖 .A) (taken ρ) (stayed ρ) c code (λ κs. (slice-vals, (slice-vals, tt))) (λ κs. (shr-slice-tells (named 0) (κs .0) u32, (mut-slice-tells (named 1) (κs .1 .0) Entry, tt)))
-      (λ κs qs bounds a g are. via 𝓤 _ (fst∗ 𝓤 _ (c κs a .requires g)) (walk (κs .0) (κs .1 .0) (qs .0) (qs .1 .0) (a .0) (a .1 .0) g (are .0 .0 .1) (are .1 .0 .0 .1))))
+      proves 𝓤 H 𝓜 𝓖 𝓡 (taken ρ) c γ k f unfolded (stayed ρ)
+      (goes-dropped 𝓤 H (𝓖 .A) W 3 words yes (λ κs x f. refl), (goes-gave-slice 𝓤 H (𝓖 .A) W 3 1 tt (plain (λ _. Entry)), (goes-gave-slice 𝓤 H (𝓖 .A) W 3 2 tt (plain (λ _. u32)), tt)))
+      (walked 𝓤 H (𝓖 .A) (taken ρ) (stayed ρ) c code (λ κs. (slice-vals, (slice-vals, (slice-vals, tt))))
+      (λ κs. (shr-slice-tells (named 0) (κs .0) u32, (mut-slice-tells (named 1) (κs .1 .0) Entry, (mut-slice-tells (named 2) (κs .1 .1 .0) u32, tt))))
+      (λ κs qs bounds a g are. via 𝓤 _ (fst∗ 𝓤 _ (c κs a .requires g))
+      (walk (κs .0) (κs .1 .0) (κs .1 .1 .0) (qs .0) (qs .1 .0) (qs .1 .1 .0) (a .0) (a .1 .0) (a .1 .1 .0) g (are .0 .0 .1) (are .1 .0 .0 .1) (are .1 .1 .0 .0 .1))))

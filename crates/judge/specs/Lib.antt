@@ -1,3 +1,5 @@
 pub mod Contract
+pub mod Runs
+pub mod Admitted
 pub mod Decides
 pub mod Working

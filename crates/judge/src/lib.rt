@@ -1,4 +1,6 @@
-// The judge: whether a history of events is explained by a first-in first-out queue (document 01, "Judge").
+// The judge: whether a history of events is explained by a first-in first-out queue (document 01, "Judge"), and by which order of its
+// calls (document 02, U9).
+use laying::lay;
 use marking::Marked;
 use marking::marks;
 use reading::ANSWER;
@@ -10,18 +12,19 @@ use reading::START;
 use reading::THREAD;
 use reading::read;
 ghost use mathlib.Core.Path.{_≡_};
+ghost use mathlib.Core.Bool.{true, _&&_};
 ghost use Prim.Native.Nat.{_+_, _≤_, _<_};
-ghost use lib.ListN.{length, getD};
+ghost use lib.ListN.{length, getD, replicate};
 ghost use Rattle.history.specs.Calls.{row};
-ghost use Rattle.history.specs.Form.{mostEvents, read};
-ghost use Rattle.reading.specs.Table.{callAt};
-ghost use Rattle.judge.specs.Contract.{reply, Judges};
-ghost use Rattle.judge.specs.Working.{callsOf, markOf, testedOf, goesThrough, verdictOf, entryIn, filled, staysAt, allStay};
+ghost use Rattle.history.specs.Form.{mostEvents};
+ghost use Rattle.reading.specs.Table.{Table, callAt, callsIn};
+ghost use Rattle.judge.specs.Contract.{judged, Judges, JudgesAlone};
+ghost use Rattle.judge.specs.Working.{refusedBy, foundBy, Finds, MayLay, Concludes, entryIn, filled, staysAt, allStay};
 
-// The judge's reply: a refusal's number, or whether the history is explained (specs/Contract.antt).
+// The judge's reply: a refusal's number, or whether the history is explained, and by how many words of order (specs/Contract.antt).
 pub enum Verdict {
     Refused(u32),
-    Explained,
+    Explained(u32),
     Unexplained,
 }
 
@@ -34,61 +37,98 @@ pub struct Call {
     pub answer: u32,
 }
 
-// How many entries of the working table are filled; none where the history is refused.
-fn calls_of(entered: Entered) -> usize
-    ensures { λ r. ⌜ r ≡ callsOf entered ⌝ }
+// What reading and the verdict's pass find: the refusal's number or 0, the calls started, how many entries the last test looks at, the
+// mark that the pass leaves, and whether it goes through.
+struct Findings {
+    refusal: u32,
+    calls: usize,
+    tested: usize,
+    mark: u32,
+    passes: bool,
+}
+
+// The words are refused.
+fn refused_by(refusal: u32) -> Findings
+    ensures { λ r. ⌜ r ≡ refusedBy refusal ⌝ }
 {
+    Findings {
+        refusal,
+        calls: 0,
+        tested: 0,
+        mark: 0,
+        passes: false,
+    }
+}
+
+// The pass over the calls has ended. Where it failed the last test looks at no entry, since nothing hangs on them.
+fn found_by(calls: usize, marked: Marked) -> Findings
+    ensures { λ r. ⌜ r ≡ foundBy calls marked ⌝ }
+{
+    match marked {
+        Marked::Fails => Findings {
+            refusal: 0,
+            calls,
+            tested: 0,
+            mark: 0,
+            passes: false,
+        },
+        Marked::Mark(mark) => Findings {
+            refusal: 0,
+            calls,
+            tested: calls,
+            mark,
+            passes: true,
+        },
+    }
+}
+
+// Reads the words into the memory, looks whether the order buffer has a word for each call, and goes over the calls.
+fn look_over(
+    history: &[u32],
+    entries: usize,
+    room: usize,
+    m: &mut [u32; MEMORY],
+    flags: &mut [u32; MOST_EVENTS],
+    items: &mut [u32; MOST_EVENTS],
+) -> Findings
+    requires { ⌜ Table (now m) 0 × (now flags ≡ replicate mostEvents 0) × (length (now items) ≡ mostEvents) ⌝ }
+    ensures { λ r. ⌜ Finds (judged entries room (now (history .entry))) entries room (now (m .exit)) (now (flags .exit)) (now (items .exit)) r ⌝ }
+{
+    let entered = read(history, entries, m);
     match entered {
-        Entered::Refused(_) => 0,
-        Entered::Calls(calls) => calls,
-    }
-}
-
-// The mark that the verdict's pass leaves.
-fn mark_of(marked: Marked) -> u32
-    ensures { λ r. ⌜ r ≡ markOf marked ⌝ }
-{
-    match marked {
-        Marked::Fails => 0,
-        Marked::Mark(mark) => mark,
-    }
-}
-
-// How many entries the last test looks at: where the pass failed none, since nothing hangs on them.
-fn tested_of(marked: Marked, calls: usize) -> usize
-    ensures { λ r. ⌜ r ≡ testedOf marked calls ⌝ }
-{
-    match marked {
-        Marked::Fails => 0,
-        Marked::Mark(_) => calls,
-    }
-}
-
-// Whether the verdict's pass goes through.
-fn goes_through(marked: Marked) -> bool
-    ensures { λ r. ⌜ r ≡ goesThrough marked ⌝ }
-{
-    match marked {
-        Marked::Fails => false,
-        Marked::Mark(_) => true,
-    }
-}
-
-// The reply, from what reading, the verdict's pass and the last test found.
-fn verdict_of(entered: Entered, marked: Marked, stays: bool) -> Verdict
-    ensures { λ r. ⌜ r ≡ verdictOf entered marked stays ⌝ }
-{
-    match entered {
-        Entered::Refused(n) => {
-            return Verdict::Refused(n);
+        Entered::Refused(number) => {
+            return refused_by(number);
         }
-        Entered::Calls(_) => {
-            if goes_through(marked) & stays {
-                return Verdict::Explained;
+        Entered::Calls(calls) => {
+            if room < calls {
+                return refused_by(16);
             }
-            return Verdict::Unexplained;
+            let marked = marks(m, flags, items, calls);
+            return found_by(calls, marked);
         }
     }
+}
+
+// The reply, from what was found and the last test. Where the calls are explained their order goes into the buffer.
+fn conclude(
+    m: &[u32; MEMORY],
+    items: &[u32; MOST_EVENTS],
+    findings: Findings,
+    stays: bool,
+    order: &mut [u32],
+) -> Verdict
+    requires { ⌜ ((findings .passes && stays) ≡ true → MayLay (now m) (now items) (findings .calls) (length (now order))) ⌝ }
+    ensures { λ r. ⌜ Concludes (callsIn (now (m .entry)) (findings .calls)) findings stays (now (order .entry)) (now (order .exit)) r ⌝ }
+{
+    if findings.passes & stays {
+        let laid = lay(m, items, findings.calls, order);
+        let count = laid as u32;
+        return Verdict::Explained(count);
+    }
+    if findings.refusal == 0 {
+        return Verdict::Unexplained;
+    }
+    Verdict::Refused(findings.refusal)
 }
 
 // The fields of call j in the working table.
@@ -163,24 +203,30 @@ fn all_stay(table: &[Call], flags: &[u32; MOST_EVENTS], n: usize, mark: u32) -> 
     all
 }
 
-// The judge (document 01, "Judge"): its reply on a history, and one record for each started call in the working table. A refusal,
-// 10 to 13, leaves the table as it was.
-pub fn judge(history: &[u32], table: &mut [Call]) -> Verdict
-    ensures { λ r. ⌜ Judges (now (history .entry)) (now (table .entry)) (now (table .exit)) r ⌝ }
+// The judge (document 01, "Judge"; document 02, U9): its reply on a history, one record for each started call in the working table, and
+// where the history is explained its order in the buffer. A refusal, 10 to 13 or 16, leaves both as they were.
+pub fn judge(history: &[u32], table: &mut [Call], order: &mut [u32]) -> Verdict
+    ensures { λ r. ⌜ Judges (now (history .entry)) (now (table .entry)) (now (table .exit)) (now (order .entry)) (now (order .exit)) r ⌝ }
 {
     let mut m = [0u32; MEMORY];
-    let entered = read(history, table.len(), &mut m);
-    let calls = calls_of(entered);
     let mut flags = [0u32; MOST_EVENTS];
-    let marked = marks(&m, &mut flags, calls);
-    fill_calls(table, &m, calls);
-    let stays = all_stay(table, &flags, tested_of(marked, calls), mark_of(marked));
-    verdict_of(entered, marked, stays)
+    let mut items = [0u32; MOST_EVENTS];
+    let findings = look_over(
+        history,
+        table.len(),
+        order.len(),
+        &mut m,
+        &mut flags,
+        &mut items,
+    );
+    fill_calls(table, &m, findings.calls);
+    let stays = all_stay(table, &flags, findings.tested, findings.mark);
+    conclude(&m, &items, findings, stays, order)
 }
 
 // The judge with a working table of its own, which has an entry for each of 4,096 events.
-pub fn judge_alone(history: &[u32]) -> Verdict
-    ensures { λ r. ⌜ r ≡ reply (read mostEvents (now (history .entry))) ⌝ }
+pub fn judge_alone(history: &[u32], order: &mut [u32]) -> Verdict
+    ensures { λ r. ⌜ JudgesAlone (now (history .entry)) (now (order .entry)) (now (order .exit)) r ⌝ }
 {
     let mut table = [Call {
         kind: 0,
@@ -188,5 +234,5 @@ pub fn judge_alone(history: &[u32]) -> Verdict
         end: 0,
         answer: 0,
     }; MOST_EVENTS];
-    judge(history, &mut table)
+    judge(history, &mut table, order)
 }
