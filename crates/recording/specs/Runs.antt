@@ -5,10 +5,11 @@ use Prim.Native.Nat.{ℕ}
 use Rattle.history.specs.Event.{decode}
 use Rattle.history.specs.Form.{read}
 use Rattle.criterion.specs.Pass.{explains}
+use Rattle.criterion.specs.Order.{ordered, orderNumbers}
 use Rattle.text.specs.Decimal.{digitsFrom, numberAt, digits}
 use Rattle.lines.specs.Lines.{numbersFrom}
 use Rattle.protocol.specs.Words.{space, newline, refusedWord, explainedLine, unexplainedLine}
-use Rattle.recording.specs.Report.{badLineWord, reported}
+use Rattle.recording.specs.Report.{orderWord, badLineWord, reported}
 
 pub record Sample : Type 0 where
   pub text : List ℕ
@@ -38,12 +39,21 @@ givesEmpty = event 53 48 48 48
 abbrev pub bad : ℕ → List ℕ
 bad digit = badLineWord ++ (digit ∷ newline ∷ [])
 
+-- "order", the bytes of its numbers, and a newline
+abbrev pub order : List ℕ → List ℕ
+order numbers = orderWord ++ (numbers ++ (newline ∷ []))
+
 abbrev pub samples : List Sample
 samples =
     -- no event; an item of an enqueue that is under way; empty after an enqueue has ended
-    record { text = []; printed = explainedLine }
-    ∷ record { text = enqueueStarts ++ dequeueStarts ++ givesItem; printed = explainedLine }
+    record { text = []; printed = explainedLine ++ order [] }
+    ∷ record { text = enqueueStarts ++ dequeueStarts ++ givesItem; printed = explainedLine ++ order (space ∷ 49 ∷ space ∷ 50 ∷ []) }
     ∷ record { text = enqueueStarts ++ enqueueEnds ++ dequeueStarts ++ givesEmpty; printed = unexplainedLine }
+    -- enqueues 1 and 2 at one time, then a dequeue gives item 2: the second enqueue, the first, the dequeue
+    ∷ record {
+      text = enqueueStarts ++ event 49 50 50 56 ++ enqueueEnds ++ event 50 50 50 56 ++ dequeueStarts ++ event 52 48 50 56;
+      printed = explainedLine ++ order (space ∷ 50 ∷ space ∷ 49 ∷ space ∷ 51 ∷ []);
+    }
     -- kind 6; an end without its start
     ∷ record { text = event 54 48 48 48; printed = refusedWord ++ (49 ∷ 50 ∷ newline ∷ []) }
     ∷ record { text = enqueueEnds; printed = refusedWord ++ (49 ∷ 51 ∷ newline ∷ []) }
@@ -58,5 +68,5 @@ samples =
 
 -- Every recording of the table prints what the table says.
 pub runs-as-written : map (λ x. reported (x .text)) samples ≡ map (λ x. x .printed) samples
-unfolding reported numbersFrom digitsFrom numberAt digits read decode explains
+unfolding reported numbersFrom digitsFrom numberAt digits read decode explains ordered orderNumbers
 runs-as-written = refl

@@ -1,4 +1,5 @@
-// Reads a history from standard input, one event a line, and prints the judge's word on it.
+// Reads a history from standard input, one event a line, and prints the judge's word on it and its order.
+use recording::MOST_REPORT;
 use stdio::Input;
 
 fn main() {
@@ -8,7 +9,7 @@ fn main() {
         stdio::print_unreadable();
         return;
     };
-    let mut out = [0u8; 20];
+    let mut out = [0u8; MOST_REPORT];
     let printed = recording::report(&text[..n], &mut out);
     stdio::print(&out[..printed]);
 }

@@ -1,77 +1,33 @@
--- `recording::print_verdict` meets its contract: in each case the word for the judge's reply.
+-- `recording::print_verdict` meets its contract: the word for the judge's reply is the judge's word.
+use Prim.Native.Nat.{ℕ}
+use native.Mathlib.Omega.{arith}
+use lib.ListN.{length-replicate}
 use Rattle.recording.specs.Laws.{judges-word}
 use borrow.Author.Needs.{needs}
 use Rattle.recording.proofs.print_verdict.Statement.{statement}
 use Rattle.recording.proofs.print_verdict.Tie as tie
 
+slice-aggregate-judge-alone : tie.Need-slice-aggregate-judge-alone
+slice-aggregate-judge-alone c = search needs
+
 judge-alone-requires : tie.Need-judge-alone-requires
 judge-alone-requires c κs = search needs
 
-enum-known-verdict : tie.Need-enum-known-verdict
-enum-known-verdict c = search needs
-
-slice-aggregate-print-numbered : tie.Need-slice-aggregate-print-numbered
-slice-aggregate-print-numbered c = search needs
-
-print-numbered-requires : tie.Need-print-numbered-requires
-print-numbered-requires c κs = search needs
+print-word-requires : tie.Need-print-word-requires
+print-word-requires c κs = search needs
 
 same-length : tie.Need-same-length
 same-length c = search needs
 
 returns : tie.Need-returns
-returns c =
-    rw (judges-word (c .before .before .before .before .before .before .before .before .before .before .before .args .words .now) (c .before .before .before .before .before .before .before .before .judge-alone .ensures) (c .before .before .before .before .before .before .verdict .given .1)) (c .before .before .print-numbered .ensures)
-
-enum-told : tie.Need-enum-told
-enum-told c = search needs
-
-slice-aggregate-write-bytes : tie.Need-slice-aggregate-write-bytes
-slice-aggregate-write-bytes c = search needs
-
-write-bytes-requires : tie.Need-write-bytes-requires
-write-bytes-requires c κs = search needs
-
-same-length-2 : tie.Need-same-length-2
-same-length-2 c = search needs
-
-returns-2 : tie.Need-returns-2
-returns-2 c =
-    rw (judges-word (c .before .before .before .before .before .before .before .before .before .before .args .words .now) (c .before .before .before .before .before .before .before .judge-alone .ensures) (c .before .before .before .before .before .enum-told .given .1)) (c .before .before .write-bytes .ensures)
-
-enum-told-2 : tie.Need-enum-told-2
-enum-told-2 c = search needs
-
-slice-aggregate-write-bytes-2 : tie.Need-slice-aggregate-write-bytes-2
-slice-aggregate-write-bytes-2 c = search needs
-
-write-bytes-requires-2 : tie.Need-write-bytes-requires-2
-write-bytes-requires-2 c κs = search needs
-
-same-length-3 : tie.Need-same-length-3
-same-length-3 c = search needs
-
-returns-3 : tie.Need-returns-3
-returns-3 c =
-    rw (judges-word (c .before .before .before .before .before .before .before .before .before .before .args .words .now) (c .before .before .before .before .before .before .before .judge-alone .ensures) (c .before .before .before .before .before .enum-told2 .given .1)) (c .before .before .write-bytes2 .ensures)
+returns c = rw (judges-word (omega (arith, length-replicate {A = ℕ} 4096 0)) (c .before .before .before .before .before .judge-alone .ensures)) (c .before .before .print-word .ensures)
 
 pub print-verdict-spec : {M : Type 1} → statement M
 print-verdict-spec =
     tie.close
     (tie.spec
+    slice-aggregate-judge-alone
     judge-alone-requires
-    enum-known-verdict
-    slice-aggregate-print-numbered
-    print-numbered-requires
+    print-word-requires
     same-length
-    returns
-    enum-told
-    slice-aggregate-write-bytes
-    write-bytes-requires
-    same-length-2
-    returns-2
-    enum-told-2
-    slice-aggregate-write-bytes-2
-    write-bytes-requires-2
-    same-length-3
-    returns-3)
+    returns)

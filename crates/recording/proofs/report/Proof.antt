@@ -52,16 +52,16 @@ enum-known-parsed-2 c = search needs
 array-share-prefix-numbers : tie.Need-array-share-prefix-numbers
 array-share-prefix-numbers c = numbers-within (c .before .before .before .before .parse .ensures) (c .before .parsed2 .given .1)
 
-slice-aggregate-print-verdict : tie.Need-slice-aggregate-print-verdict
-slice-aggregate-print-verdict c =
+slice-aggregate-print-judged : tie.Need-slice-aggregate-print-judged
+slice-aggregate-print-judged c =
     sym (length-take-le _ _ (numbers-within (c .before .before .before .before .before .parse .ensures) (c .before .before .parsed2 .given .1)))
 
-print-verdict-requires : tie.Need-print-verdict-requires
-print-verdict-requires c κs = search needs
+print-judged-requires : tie.Need-print-judged-requires
+print-judged-requires c κs = search needs
 
 returns-3 : tie.Need-returns-3
 returns-3 c =
-    rw (reported-numbers (length-replicate {A = ℕ} 32768 0) (c .before .before .before .before .before .before .before .parse .ensures) (c .before .before .before .before .parsed2 .given .1)) (c .print-verdict .ensures)
+    rw (reported-numbers (length-replicate {A = ℕ} 32768 0) (c .before .before .before .before .before .before .before .parse .ensures) (c .before .before .before .before .parsed2 .given .1)) (c .print-judged .ensures)
 
 pub report-spec : {M : Type 1} → statement M
 report-spec =
@@ -80,6 +80,6 @@ report-spec =
     returns-2
     enum-known-parsed-2
     array-share-prefix-numbers
-    slice-aggregate-print-verdict
-    print-verdict-requires
+    slice-aggregate-print-judged
+    print-judged-requires
     returns-3)

@@ -37,7 +37,7 @@ report-requires : tie.Need-report-requires
 report-requires c κs = search needs
 
 array-share-prefix-out : tie.Need-array-share-prefix-out
-array-share-prefix-out c = wrote-within (c .report .ensures) (length-replicate {A = ℕ} 20 0) (length-reported _)
+array-share-prefix-out c = wrote-within (c .report .ensures) (length-replicate {A = ℕ} 45082 0) (length-reported _)
 
 slice-aggregate-print : tie.Need-slice-aggregate-print
 slice-aggregate-print c = sym (length-take-le _ _ (array-share-prefix-out (c .before)))
