@@ -1,86 +1,73 @@
-"""The proved judge beside a plain pass in C over the same words, in one run. Ratios, not absolute times: the table is
-filled by each call and never cleared, and each figure is the best of five rounds."""
+"""The proved judge, which writes the order, and the check of that order, beside a plain pass in C over the same words, in one run. Ratios,
+not absolute times: the table is filled by each call and never cleared, and each figure is the best of five rounds.
+
+    python3 tests/bench_judge.py [ARCHIVE]
+
+ARCHIVE is a libjudge_c.a of before document 02's U9, whose judge writes no order; it is timed in the same rounds."""
 
 import ctypes
 import pathlib
-import random
+import sys
 
 import judge_library as jl
-from judge_model import flatten
+from histories import SHAPES, engine_like
+from judge_model import MAX_EVENTS, flatten
 
-DEQ, EMPTY = (3, 0, 0, 0), (5, 0, 0, 0)
-
-
-def engine_like(events, producers=4):
-    """Numbers rise and items are taken nearly in order, as the engine's histories have it."""
-    rng, history, running, waiting, number = random.Random(events), [], {}, [], 0
-    while len(history) < events:
-        thread = rng.randrange(producers + 1)
-        if thread and thread not in running:
-            number += 1
-            running[thread] = (number, number * 7)
-            history.append((1, thread, *running[thread]))
-        elif thread:
-            waiting.append(running.pop(thread))
-            history.append((2, thread, *waiting[-1]))
-        elif 0 not in running:
-            running[0] = bool(waiting)
-            history.append(DEQ)
-        else:
-            history.append((4, 0, *waiting.pop(0)) if running.pop(0) and waiting else EMPTY)
-    return history
+TURNS, ROUNDS = 200, 5
 
 
-def falling_numbers(n):
-    """Every start has a lower number than those before."""
-    return [event for k in range(n // 2, 0, -1) for event in ((1, 1, k, 7), (2, 1, k, 7))]
+class Lent(ctypes.Structure):
+    """What the judge and the check are lent."""
 
-
-def items_in_reverse(n):
-    """All enqueues overlap in sixteens and are taken in reverse: each look-up starts at the wrong end."""
-    history, items = [], []
-    for first in range(1, n // 4 + 1, 16):
-        calls = range(first, min(first + 16, n // 4 + 1))
-        history += [(1, k - first + 1, k, 7) for k in calls] + [(2, k - first + 1, k, 7) for k in calls]
-        items += reversed(calls)
-    return history + [event for k in items for event in (DEQ, (4, 0, k, 7))]
-
-
-def falling_then_in_order(n):
-    """Falling numbers, then their items in starting order."""
-    return falling_numbers(n // 2) + [event for k in range(n // 4, 0, -1) for event in (DEQ, (4, 0, k, 7))]
-
-
-def empties(n):
-    return [DEQ, EMPTY] * (n // 2)
-
-
-def main():
-    archive = jl.archive('judge_c')
-    library = jl.shared([pathlib.Path(__file__).with_suffix('.c'), archive], 'bench', '-O2')
-    library.time_judge.restype = library.time_pass.restype = ctypes.c_double
-    cases = [(f'engine-like {n}', engine_like(n)) for n in (512, 1024, 2048, 4096)]
-    cases += [
-        ('falling numbers 4096', falling_numbers(4096)),
-        ('items in reverse 4096', items_in_reverse(4096)),
-        ('falling, then in order 4096', falling_then_in_order(4096)),
-        ('empties 4096', empties(4096)),
-        ('no events', []),
+    _fields_ = [
+        ('history', jl.Words), ('words', ctypes.c_size_t), ('table', ctypes.POINTER(jl.Call)), ('entries', ctypes.c_size_t),
+        ('order', jl.Words), ('order_words', ctypes.c_size_t),
     ]
-    print(f'{"history":30}{"reply":>14}{"judge":>12}{"ns/event":>10}{"C pass":>12}{"ratio":>8}')
+
+
+def loaded(archive, *flags):
+    library = jl.shared([pathlib.Path(__file__).with_suffix('.c'), archive], 'bench', '-O2', *flags)
+    for name in ('time_judge', 'time_pass') + ('time_check',) * (not flags):
+        getattr(library, name).restype = ctypes.c_double
+    return library
+
+
+def timed(function, lent, turns, answer):
+    """The nanoseconds of a call; its answer."""
+    return function(ctypes.byref(lent), turns, answer), answer[0]
+
+
+def figures(library, before, history):
+    """The judge's reply, and the best nanoseconds of the judge, of the judge before, of the check and of the pass."""
+    words = jl.array(flatten(history))
+    table, order = (jl.Call * MAX_EVENTS)(), (ctypes.c_uint32 * MAX_EVENTS)()
+    lent = Lent(words, len(words), table, MAX_EVENTS, order, MAX_EVENTS)
+    answer, rounds = (ctypes.c_uint32 * 2)(), []
+    for _ in range(ROUNDS):
+        judged, reply = timed(library.time_judge, lent, TURNS, answer)
+        older, _ = timed(before.time_judge, lent, TURNS, (ctypes.c_uint32 * 2)()) if before else (0.0, 0)
+        checked, yes = timed(library.time_check, lent, TURNS, answer)
+        passed, _ = timed(library.time_pass, lent, TURNS * 5, answer)
+        if reply == 0 and yes != 0:
+            sys.exit('bench_judge: an order that the check turns down')
+        rounds.append((judged, older, checked, passed))
+    return (reply, *map(min, zip(*rounds)))
+
+
+def main(*archives):
+    library = loaded(jl.archive('judge_c'))
+    before = loaded(pathlib.Path(archives[0]), '-DBEFORE') if archives else None
+    cases = [(f'engine like {n}', engine_like(n)) for n in (512, 1024, 2048)]
+    cases += [(f'{shape.__name__.replace("_", " ")} {MAX_EVENTS}', shape(MAX_EVENTS)) for shape in SHAPES] + [('no events', [])]
+    print(f'{"history":28}{"reply":>12}{"with order":>13}{"ns/event":>10}{"before":>13}{"check alone":>14}{"ns/event":>10}{"C pass":>12}'
+          f'{"judge / C":>11}{"check / C":>11}')
     for name, history in cases:
-        words = jl.array(flatten(history))
-        table, reply, total = (jl.Call * 4096)(), ctypes.c_uint32(), ctypes.c_uint32()
-        turns = 200
-        judged = min(
-            library.time_judge(words, ctypes.c_size_t(len(words)), table, ctypes.c_size_t(4096), turns, ctypes.byref(reply))
-            for _ in range(5)
-        )
-        passed = min(library.time_pass(words, ctypes.c_size_t(len(words)), turns * 5, ctypes.byref(total)) for _ in range(5))
-        word = jl.WORDS.get(reply.value, f'refused {reply.value}')
-        each, ratio = judged / max(len(history), 1), judged / max(passed, 1)
-        print(f'{name:30}{word:>14}{judged / 1000:9.1f} µs{each:10.1f}{passed / 1000:9.1f} µs{ratio:8.1f}')
+        reply, judged, older, checked, passed = figures(library, before, history)
+        word, events = jl.WORDS.get(reply, f'refused {reply}'), max(len(history), 1)
+        older = f'{older / 1000:10.1f} µs' if before else f'{"":13}'
+        print(f'{name:28}{word:>12}{judged / 1000:10.1f} µs{judged / events:10.1f}{older}{checked / 1000:11.1f} µs{checked / events:10.1f}'
+              f'{passed / 1000:9.1f} µs{judged / max(passed, 1):11.1f}{checked / max(passed, 1):11.1f}')
 
 
 if __name__ == '__main__':
-    main()
+    main(*sys.argv[1:])

@@ -1,17 +1,12 @@
-/* What test_c_interface.py calls: the header's guards and macros, and how much stack the proved calls take. */
+/* What test_c_interface.py calls: the headers' guards and macros, and how much stack the proved calls take. */
 #include <pthread.h>
 #include <stdlib.h>
 #include <string.h>
 
 #include "../include/intake.h"
+#include "../include/judge.h"
 
-enum { WORDS = INTAKE_MOST_WORDS, EVENTS = 4096, STACK = 4 << 20, PAINT = 0xA5 };
-
-struct call {
-    uint32_t kind, start, end, answer;
-};
-
-uint32_t judge_history(const uint32_t *history, size_t words, struct call *table, size_t entries);
+enum { WORDS = INTAKE_MOST_WORDS, EVENTS = JUDGE_MOST_EVENTS, STACK = 4 << 20, PAINT = 0xA5 };
 
 int has_room(const uint32_t *store) { return intake_has_room(store); }
 int in_the_way(const uint32_t *store, uint32_t producer) { return intake_in_the_way(store, producer); }
@@ -40,26 +35,30 @@ static void engine(void) {
     intake_step(store, WORDS, 0, buffer, INTAKE_MOST_BUFFER, 0, reply);
 }
 
+static uint32_t history[4 * EVENTS], order[EVENTS], judged[4];
+
 /* 4,096 events: an enqueue and the dequeue of its item, again and again */
 static void judge(void) {
-    static uint32_t history[4 * EVENTS];
-    static struct call table[EVENTS];
+    static struct judge_call table[EVENTS];
     for (uint32_t k = 0; k < EVENTS / 4; k++) {
         const uint32_t n = k + 1, events[16] = {1, 1, n, n, 2, 1, n, n, 3, 0, 0, 0, 4, 0, n, n};
         memcpy(history + 16 * k, events, sizeof events);
     }
-    judge_history(history, 4 * EVENTS, table, EVENTS);
+    judge_history(history, 4 * EVENTS, table, EVENTS, order, EVENTS, judged);
 }
+
+/* the order of that */
+static void check(void) { order_check(history, 4 * EVENTS, order, judged[0]); }
 
 static void nothing(void) {}
 
 static void *run(void *which) {
-    static void (*const runs[])(void) = {nothing, engine, judge};
+    static void (*const runs[])(void) = {nothing, engine, judge, check};
     runs[*(int *)which]();
     return NULL;
 }
 
-/* The bytes of a painted stack that a thread has written: 0 by doing nothing, 1 by the engine, 2 by the judge. */
+/* The bytes of a painted stack that a thread has written: 0 by doing nothing, 1 by the engine, 2 by the judge, 3 by the check. */
 size_t stack_used(int which) {
     unsigned char *stack = aligned_alloc(4096, STACK);
     pthread_attr_t attributes;

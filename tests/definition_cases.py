@@ -1,4 +1,4 @@
-"""Cases for the definitions of crates/history, crates/rules and crates/criterion, and their tables in antt.
+"""Cases for the definitions of crates/history, crates/rules, crates/criterion and crates/order_check, and their tables in antt.
 
 The cases are generated here and what they must give comes from `intake_model` and `judge_model` alone. Each case
 becomes one statement `name : follow given ≡ expected`, which the checker proves by computing the left side.
@@ -16,14 +16,16 @@ import fold_stores
 import intake_model as im
 import judge_model as jm
 import leaving_stores
+import order_cases as oc
 import step_counts
 import test_judge
+from table_terms import another, changed_at, event_term, item_term, listed, numbers, record_term
 
 CRATES = Path(__file__).resolve().parent.parent / 'crates'
 BIG = (2**16, 2**31, im.U32 - 1, im.U32)
-TYPES = {'schedule': 'Schedule', 'count': 'Schedule', 'single': 'Single', 'claim': 'List ℕ', 'history': 'Words'}
-ANSWERS = {'schedule': 'Outcome', 'count': 'List ℕ', 'single': 'Result', 'claim': 'ℕ', 'history': 'Verdict'}
-FUNCTIONS = {'schedule': 'follow', 'count': 'count', 'single': 'call', 'claim': 'next', 'history': 'judge'}
+TYPES = {'schedule': 'Schedule', 'count': 'Schedule', 'single': 'Single', 'claim': 'List ℕ', 'history': 'Words', **oc.TYPES}
+ANSWERS = {'schedule': 'Outcome', 'count': 'List ℕ', 'single': 'Result', 'claim': 'ℕ', 'history': 'Verdict', **oc.ANSWERS}
+FUNCTIONS = {'schedule': 'follow', 'count': 'count', 'single': 'call', 'claim': 'next', 'history': 'judge', **oc.FUNCTIONS}
 # what is computed in place of the function, and proved to be the same
 QUICKER = {'schedule': 'quickFollow', 'count': 'quickCount', 'single': 'quickCall'}
 
@@ -621,14 +623,6 @@ def histories(seed, count):
 # Cases that are wrong in one value.
 
 
-def another(word):
-    return word + 1 if word < im.U32 else 0
-
-
-def changed_at(items, k, change):
-    return [change(item) if j == k else item for j, item in enumerate(items)]
-
-
 def another_reply(rng, reply):
     """A reply with another number, be it the number of steps or not; if it has none, another reply. Of a drain, with another
     item, or one more."""
@@ -675,6 +669,8 @@ def with_one_wrong_value(rng, case):
         return case._replace(expected=(reply, changed_at(words, rng.randrange(len(words)), another), buffer))
     if isinstance(case, Claim):
         return case._replace(expected=another(case.expected))
+    if isinstance(case, oc.KINDS):
+        return case.wrong(rng)
     verdict = case.expected
     if verdict[0] == 'refused':
         return case._replace(expected=another_reply(rng, verdict))
@@ -691,7 +687,7 @@ def twins(seed, cases):
     `wrong-K`."""
     rng = random.Random(seed)
     modules = {}
-    for kind in (Schedule, Count, Single, Claim, History):
+    for kind in (Schedule, Count, Single, Claim, History, *oc.KINDS):
         numbered = [(k, case) for k, case in enumerate(cases) if isinstance(case, kind)]
         pairs = [(f'right-{k}', case) for k, case in numbered]
         pairs += [(f'wrong-{k}', with_one_wrong_value(rng, case)) for k, case in numbered]
@@ -734,21 +730,6 @@ def reached(cases):
 # Tables in antt.
 
 
-def listed(terms):
-    return ' ∷ '.join([*terms, '[]'])
-
-
-def numbers(words):
-    """A list of words; a long row of zeros in it, such as a drain area's, is `zeros`."""
-    return ' '.join(part for row, same in itertools.groupby(words, bool) for part in row_term(row, list(same))) + ' []'
-
-
-def row_term(row, words):
-    if not row and len(words) >= 16:
-        return [f'zeros {len(words)} ++']
-    return [f'{word} ∷' for word in words]
-
-
 def request_term(call):
     if call[0] == 'd':
         return 'startDequeue'
@@ -777,28 +758,8 @@ def response_term(reply):
     return f'accepted {"ended" if kind == "end" else kind} {numbers[0]}'
 
 
-def item_term(item):
-    return record_term(number=item[0], value=item[1])
-
-
-def event_term(event):
-    """An event of four words."""
-    kind, thread, call, value = event
-    return (
-        f'enqueueStarted {thread} {call} {value}',
-        f'enqueueEnded {thread} {call} {value}',
-        'dequeueStarted',
-        f'gaveItem {call} {value}',
-        'gaveEmpty',
-    )[kind - 1]
-
-
 def sizes_term(sizes):
     return 'record { B = %d; N = %d; P = %d; M = %d }' % tuple(sizes)
-
-
-def record_term(**fields):
-    return 'record { ' + '; '.join(f'{name} = {term}' for name, term in fields.items()) + ' }'
 
 
 def schedule_term(case):
@@ -824,6 +785,8 @@ def terms(case):
         return record_term(words=numbers(case.words), made=made), expected
     if isinstance(case, Claim):
         return numbers(case.words), case.expected
+    if isinstance(case, oc.KINDS):
+        return case.terms()
     verdict = case.expected
     given = record_term(entries=case.entries, words=numbers(case.words))
     if verdict[0] == 'refused':
@@ -1009,7 +972,7 @@ judge w = verdict (read (w .entries) (w .words))
 
 def module(cases, names):
     """A module of cases of one kind."""
-    head = HISTORY_HEAD if isinstance(cases[0], History) else STORE_HEAD
+    head = HISTORY_HEAD if isinstance(cases[0], History) else oc.HEAD if isinstance(cases[0], oc.KINDS) else STORE_HEAD
     return head + ''.join(statement(name, case) for name, case in zip(names, cases))
 
 
@@ -1034,13 +997,16 @@ def write_crate(folder, name, modules):
 
 
 def write_repository(folder, crates):
-    """The three crates of definitions, the crate `tables` that puts them together, and these crates of tables."""
+    """The three crates of definitions and the definitions of a fourth, the crate `tables` that puts them together, and these crates of
+    tables."""
     folder = Path(folder)
-    lines = ['history:', 'criterion: history', 'rules: history', 'tables: history criterion rules']
+    lines = ['history:', 'criterion: history', 'rules: history', 'order_check: history', 'tables: history criterion rules order_check']
     for name in ('history', 'criterion', 'rules'):
         shutil.copytree(CRATES / name, folder / 'crates' / name, ignore=shutil.ignore_patterns('must-fail'))
-    write_crate(folder, 'tables', {'Store': STORE, 'Judge': JUDGE})
+    check = (CRATES / 'order_check' / 'specs' / 'Check.antt').read_text(encoding='utf-8')
+    write_crate(folder, 'order_check', {'Check': oc.check_alone(check)})
+    write_crate(folder, 'tables', {'Store': STORE, 'Judge': JUDGE, 'Order': oc.ORDER})
     for name, modules in crates.items():
         write_crate(folder, name, modules)
-        lines.append(f'{name}: history criterion rules tables')
+        lines.append(f'{name}: history criterion rules order_check tables')
     (folder / 'crates.txt').write_text('\n'.join(lines) + '\n')

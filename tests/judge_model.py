@@ -1,10 +1,12 @@
 """An independent judge, written by hand from document 01.
 
-`linearizations` tries all orders and knows no criterion; it serves small histories. `explained_in_time` and
-`explained_by_mark` are two polynomial checks for long ones, tested against it. A history is a list of events, each
-(kind, thread, call number, value).
+`linearizations` and `orders` try all orders and know no criterion; they serve small histories. `explained_in_time`
+and `explained_by_mark` are two polynomial checks for long ones, and `is_order` looks at one order; all are tested
+against them. A history is a list of events, each (kind, thread, call number, value); an order is a list of starting
+numbers: the call that started first has number 1.
 """
 
+import bisect
 from typing import NamedTuple
 
 MAX_EVENTS = 4_096
@@ -62,27 +64,56 @@ def put_through(call, queue):
     return queue[1:] if queue and queue[0] == call.item else None
 
 
-def linearizations(history):
-    """Yield the queue that each linearization leaves. Two orders of the same calls that meet in one queue are
-    followed once."""
-    calls = calls_of(history)
-    ended = sum(1 << k for k, call in enumerate(calls) if call.end)
-    earlier = [sum(1 << k for k, other in enumerate(calls) if 0 < other.end < call.start) for call in calls]
-    seen, stack = set(), [(0, ())]
-    while stack:
-        state = stack.pop()
-        if state in seen:
-            continue
-        seen.add(state)
-        ordered, queue = state
-        if not ended & ~ordered:
-            yield queue
-        for k, call in enumerate(calls):
-            if ordered >> k & 1 or earlier[k] & ~ordered:
+class Beginnings:
+    """The beginnings of linearizations: each the set of its calls, as bits, and the queue after them."""
+
+    FIRST = (0, ())
+
+    def __init__(self, history):
+        self.calls = calls_of(history)
+        self.ended = sum(1 << k for k, call in enumerate(self.calls) if call.end)
+        self.earlier = [sum(1 << k for k, other in enumerate(self.calls) if 0 < other.end < call.start) for call in self.calls]
+
+    def is_whole(self, beginning):
+        """Whether it has all ended calls."""
+        return not self.ended & ~beginning[0]
+
+    def longer(self, beginning):
+        """Each that has one more call, after the starting number of that call."""
+        ordered, queue = beginning
+        for k, call in enumerate(self.calls):
+            if ordered >> k & 1 or self.earlier[k] & ~ordered:
                 continue
             after = put_through(call, queue)
             if after is not None:
-                stack.append((ordered | 1 << k, after))
+                yield k + 1, (ordered | 1 << k, after)
+
+
+def linearizations(history):
+    """Yield the queue that each linearization leaves. Two orders of the same calls that meet in one queue are
+    followed once."""
+    beginnings = Beginnings(history)
+    seen, stack = set(), [Beginnings.FIRST]
+    while stack:
+        beginning = stack.pop()
+        if beginning in seen:
+            continue
+        seen.add(beginning)
+        if beginnings.is_whole(beginning):
+            yield beginning[1]
+        stack += [longer for _, longer in beginnings.longer(beginning)]
+
+
+def orders(history):
+    """The set of all linearizations, as starting numbers."""
+    beginnings = Beginnings(history)
+    found, stack = set(), [((), Beginnings.FIRST)]
+    while stack:
+        numbers, beginning = stack.pop()
+        if beginnings.is_whole(beginning):
+            found.add(numbers)
+        stack += [((*numbers, number), longer) for number, longer in beginnings.longer(beginning)]
+    return found
 
 
 def linearizations_leaving(history):
@@ -164,6 +195,53 @@ def leaves(history, rest):
     return True
 
 
+# One order.
+
+
+def is_order(history, numbers):
+    """Whether some numbers are the starting numbers of a linearization of a valid history."""
+    calls, kept = calls_of(history), set(numbers)
+    if not all(1 <= number <= len(calls) for number in numbers) or len(kept) < len(numbers):
+        return False
+    if any(call.end and number not in kept for number, call in enumerate(calls, 1)):
+        return False
+    latest_start, queue = 0, ()
+    for call in (calls[number - 1] for number in numbers):
+        queue = put_through(call, queue)
+        if queue is None or 0 < call.end < latest_start:
+            return False
+        latest_start = max(latest_start, call.start)
+    return True
+
+
+def late_order(history):
+    """The linearization of an explained history in which each enqueue stands as late as it may. Kept are the dequeues
+    that have ended, in starting order, and the enqueues whose items they took, in that order, then the other ended ones by
+    their starts. An enqueue is due before the dequeue that takes its item, before the first that started after it had
+    ended, and no later than those behind it."""
+    calls = list(enumerate(calls_of(history), 1))
+    dequeues = [(number, call) for number, call in calls if call.kind == DEQUEUE and call.end]
+    takers = {call.item: k for k, (_, call) in enumerate(dequeues) if call.item}
+    starts, last = [call.start for _, call in dequeues], len(dequeues)
+    enqueues = [(takers.get(call.item, last), number, call) for number, call in calls if call.kind == ENQUEUE]
+    line = sorted(enqueue for enqueue in enqueues if enqueue[0] < last or enqueue[2].end)
+    places = [(k, 1, 0, number) for k, (number, _) in enumerate(dequeues)]
+    due = last
+    for at, (taker, number, call) in reversed(list(enumerate(line))):
+        due = min(due, taker, bisect.bisect(starts, call.end) if call.end else last)
+        places.append((due, 0, at, number))
+    return [number for *_, number in sorted(places)]
+
+
+def queue_lengths(history, numbers):
+    """How long the queue is after each call of an order."""
+    calls, queue, lengths = calls_of(history), (), []
+    for number in numbers:
+        queue = put_through(calls[number - 1], queue)
+        lengths.append(len(queue))
+    return lengths
+
+
 # The judge.
 
 
@@ -195,7 +273,7 @@ def refusal(history):
     return 0
 
 
-def judge(words, table_len, decide=explained_by_all_orders):
+def judge(words, table_len, decide=explained_by_all_orders, order_len=MAX_EVENTS):
     """('refused', number), or ('explained', rows) or ('unexplained', rows) with the rows of the working table."""
     if len(words) % 4 or len(words) // 4 > MAX_EVENTS:
         return ('refused', 10)
@@ -206,4 +284,14 @@ def judge(words, table_len, decide=explained_by_all_orders):
     if number:
         return ('refused', number)
     rows = [call.row() for call in calls_of(history)]
+    if order_len < len(rows):
+        return ('refused', 16)
     return ('explained' if decide(history) else 'unexplained', rows)
+
+
+def check(words, numbers):
+    """('refused', number), or 'yes' or 'no': the reply to a history and an order."""
+    reply = judge(words, MAX_EVENTS, lambda history: True)
+    if reply[0] == 'refused':
+        return reply
+    return 'yes' if is_order(events_of(words), numbers) else 'no'

@@ -1,4 +1,4 @@
-"""What a C host rests on: the header's names, sizes and guards, what the archive exports, and how much stack the calls and programs take."""
+"""What a C host rests on: the headers' names, sizes and guards, what the archives export, and how much stack the calls and programs take."""
 
 import collections
 import ctypes
@@ -21,7 +21,7 @@ from intake_model import USE_LINKED
 from longest_enqueue import Run
 
 HERE = pathlib.Path(__file__).resolve().parent
-HEADER = ROOT / 'include' / 'intake.h'
+HEADERS = {'engine': ROOT / 'include' / 'intake.h', 'judge_c': ROOT / 'include' / 'judge.h'}
 
 # the papers' table, and what the reply words are to C
 NUMBERS = {
@@ -47,6 +47,15 @@ NUMBERS = {
     'INTAKE_PRODUCERS': 2,
     'INTAKE_TAIL': 6,
     'INTAKE_HEAD': 9,
+    'JUDGE_EXPLAINED': 0,
+    'JUDGE_UNEXPLAINED': 1,
+    'JUDGE_REFUSED_LENGTH': 10,
+    'JUDGE_REFUSED_TABLE': 11,
+    'JUDGE_REFUSED_FORM': 12,
+    'JUDGE_REFUSED_FOLLOWS': 13,
+    'JUDGE_REFUSED_ORDER': 16,
+    'ORDER_YES': 0,
+    'ORDER_NO': 1,
 }
 
 
@@ -57,6 +66,7 @@ MACROS = {
     'INTAKE_DRAIN_WORDS': 130,
     'INTAKE_MOST_DRAINED': 64,
     'INTAKE_MOST_BUFFER': 128,
+    'JUDGE_MOST_EVENTS': 4_096,
 }
 
 
@@ -74,15 +84,16 @@ class Header(unittest.TestCase):
             source = pathlib.Path(folder) / 'header.c'
             numbers = NUMBERS | MACROS
             names = '\n'.join(f'static_assert({name} == {number}, "");' for name, number in numbers.items())
-            source.write_text(f'#include <assert.h>\n#include "intake.h"\n{names}\nint main(void) {{ return 0; }}\n')
-            strict = ['-Wall', '-Wextra', '-Wpedantic', '-Wconversion', '-Werror', f'-I{HEADER.parent}']
+            headers = ''.join(f'#include "{header}"\n' for header in HEADERS.values())
+            source.write_text(f'#include <assert.h>\n{headers}{names}\nint main(void) {{ return 0; }}\n')
+            strict = ['-Wall', '-Wextra', '-Wpedantic', '-Wconversion', '-Werror']
             subprocess.run([compiler, *flags, *strict, '-c', str(source), '-o', str(source.with_suffix('.o'))], check=True)
 
     def test_names(self):
         """A name whose number is not the paper's; a header that C does not take as it is."""
         self.compile('gcc', '-std=c11')
-        named = set(re.findall(r'\b(INTAKE_[A-Z_]+) = \d+', HEADER.read_text(encoding='utf-8')))
-        self.assertEqual(named, set(NUMBERS))
+        named = [re.findall(r'\b([A-Z_]+) = \d+', header.read_text(encoding='utf-8')) for header in HEADERS.values()]
+        self.assertEqual(sorted(itertools.chain(*named)), sorted(NUMBERS))
 
     @unittest.skipUnless(shutil.which('g++'), 'no C++ compiler')
     def test_names_in_cpp(self):
@@ -90,10 +101,11 @@ class Header(unittest.TestCase):
         self.compile('g++', '-std=c++11', '-xc++')
 
     def test_declares_what_is_exported(self):
-        """A function that the header declares and the archive lacks, or the other way round."""
-        symbols = subprocess.run(['nm', '-g', '--defined-only', archive('engine')], capture_output=True, text=True, check=True).stdout
-        declared = re.findall(r'^uint32_t (\w+)\(', HEADER.read_text(encoding='utf-8'), re.M)
-        self.assertEqual(sorted(declared), sorted(re.findall(r' T (\w+)', symbols)))
+        """A function that a header declares and its archive lacks, or the other way round."""
+        for name, header in HEADERS.items():
+            symbols = subprocess.run(['nm', '-g', '--defined-only', archive(name)], capture_output=True, text=True, check=True).stdout
+            declared = re.findall(r'^uint32_t (\w+)\(', header.read_text(encoding='utf-8'), re.M)
+            self.assertEqual(sorted(declared), sorted(re.findall(r' T (\w+)', symbols)), name)
 
     def test_words(self):
         """A store's size that is not the paper's."""
@@ -262,7 +274,7 @@ class Stack(unittest.TestCase):
         """A call from C that takes more stack than is said."""
         library = compiled()
         itself = library.stack_used(0)
-        for which, name in ((1, 'intake_step'), (2, 'judge_history')):
+        for which, name in ((1, 'intake_step'), (2, 'judge_history'), (3, 'order_check')):
             used = library.stack_used(which)
             self.assertGreater(used, itself, name)
             self.assertLess(used - itself, self.most[name], name)
@@ -272,7 +284,7 @@ class Stack(unittest.TestCase):
         calls = 'open 64 64 16 1000000\n' + ''.join(f'e {k} 7\n' for k in range(1, 17)) + 's 1\ns 2\n' * 900 + 'd\n'
         recording = ''.join(f'1 1 {k} {k}\n2 1 {k} {k}\n3 0 0 0\n4 0 {k} {k}\n' for k in range(1, 1025))
         for name, text in (('intake', calls), ('verdict', recording)):
-            self.assertEqual(self.run_with(name, text, self.most[name]).stdout.split()[-1], 'explained')
+            self.assertIn('explained', self.run_with(name, text, self.most[name]).stdout.split())
             self.assertLess(self.run_with(name, text, self.too_little[name]).returncode, 0)
 
     def run_with(self, name, text, stack):

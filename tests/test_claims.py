@@ -14,15 +14,15 @@ import unittest
 from antt_files import ROOT, declared, is_definition, rests_on, source
 
 PAGES = ('README.md', 'docs/CLAIMS.md', 'docs/DECISIONS.md', 'docs/PROOF.md', 'docs/STEPS.md', 'docs/LAYOUT.md', 'docs/CHANGES.md')
-TOP = ('crates', 'tests', 'docs', 'include', 'host')
+TOP = ('crates', 'tests', 'docs', 'include', 'host', 'tools')
 BESIDE = re.compile(r',? (?:and |or |of |in |\()?')
 # what is quoted and is no name: commands, what the tools and the programs print, words of the language, libraries
 QUOTED = re.compile(
-    r'(?:rt|wc|make)(?: .*)?|\.ci/run|rattle-kit-.*|[\w-]+=\S+|requires|main|memset|io|libc|libc::\w+|[≡<]|length|take'
-    r'|(?:bad line|too long|unreadable|explained|unexplained|refused|going|end|empty|item|ok)(?: \w+)*'
+    r'(?:rt|wc|make|python3)(?: .*)?|\.ci/run|rattle-kit-.*|[\w-]+=\S+|requires|main|memset|io|libc|libc::\w+|[≡<]|length|take'
+    r'|(?:bad line|too long|unreadable|explained|unexplained|refused|going|end|empty|item|ok)(?: \w+)*|order(?: \d+)+'
 )
-# a computation that a theorem on the page shows to be a definition that is listed: `verdict`
-SHOWN = frozenset({'explains'})
+# computations of which theorems on the page say all that is asked, in definitions that are listed: `verdict`, `order-shows`, `is-order-exactly-when-shows`
+SHOWN = frozenset({'explains', 'orderNumbers', 'isOrder'})
 BELIEVED, ASSUMED, REFUSED = '## What must be believed', '## What is assumed and not proved', '## Wrong programs that are refused'
 
 

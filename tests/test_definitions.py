@@ -10,16 +10,19 @@ import unittest
 
 import definition_cases as dc
 import intake_model as im
+import judge_model as jm
+import order_cases as oc
 import test_model
 
 
 def setUpModule():
-    global SCHEDULES, COUNTS, SINGLES, CLAIMS, HISTORIES
+    global SCHEDULES, COUNTS, SINGLES, CLAIMS, HISTORIES, LISTINGS, LATES, CHECKS
     SCHEDULES = dc.schedules(1, 3_200)
     COUNTS = [dc.counted(case, 30 + k) for k, case in enumerate(SCHEDULES)]
     SINGLES = dc.singles(8, [store for case in SCHEDULES for store in dc.snapshots(case)], 2_600)
     CLAIMS = dc.claims(7, 90)
     HISTORIES = dc.histories(3, 1_600)
+    LISTINGS, LATES, CHECKS = oc.listings(9, 200), oc.lates(10, 400), oc.checks(11, 800)
 
 
 def errors(output):
@@ -36,16 +39,20 @@ class Tables(unittest.TestCase):
         cls.addClassCleanup(cls.folder.cleanup)
         short = [dc.play(case.lent, case.sizes, case.calls[:9]) for case in SCHEDULES[:8]]
         cls.sample = short + [dc.counted(case, 9) for case in short[:4]] + SINGLES[::85] + CLAIMS[::67] + HISTORIES[10::53]
+        cls.sample += LISTINGS[::17] + LATES[::31] + CHECKS[::53]
         crates = {
             'schedules': dc.split('schedule', SCHEDULES, 10),
             'counts': dc.split('count', COUNTS, 10),
             'singles': dc.split('single', SINGLES, 100),
             'claims': dc.split('claim', CLAIMS, 200),
             'histories': dc.split('history', HISTORIES, 200),
+            'listings': dc.split('listing', LISTINGS, 200),
+            'lates': dc.split('late', LATES, 200),
+            'checks': dc.split('check', CHECKS, 200),
             'twins': dc.twins(4, cls.sample),
         }
         dc.write_repository(cls.folder.name, crates)
-        cls.ended, cls.output = cls.check('schedules', 'counts', 'singles', 'claims', 'histories')
+        cls.ended, cls.output = cls.check(*(name for name in crates if name != 'twins'))
 
     @classmethod
     def check(cls, *names):
@@ -77,6 +84,18 @@ class Tables(unittest.TestCase):
     def test_histories(self):
         """A form, an order of refusals, a row or a verdict, wrong on words that are a history or nearly one."""
         self.assert_proved('histories')
+
+    def test_listings(self):
+        """A starting number counted from 0, or by something else than the starts; another call or field than the one listed."""
+        self.assert_proved('listings')
+
+    def test_late_orders(self):
+        """A judge's order that is another linearization than its definition says in words, or is none."""
+        self.assert_proved('lates')
+
+    def test_checks_of_orders(self):
+        """An order that is no linearization and is said to be one, or the other way round."""
+        self.assert_proved('checks')
 
     def test_all_is_proved(self):
         """A crate of definitions that is not proved by itself."""
@@ -286,6 +305,37 @@ class Reach(unittest.TestCase):
         verdicts = [case.expected[:1] if case.expected[0] != 'refused' else case.expected for case in HISTORIES]
         for verdict in [('explained',), ('unexplained',)] + [('refused', number) for number in range(10, 14)]:
             self.assertGreater(verdicts.count(verdict), 60, verdict)
+
+
+    def test_orders(self):
+        """Too few orders that are right, that are wrong in the calls that they keep, in time or in the queue alone, or that have a number
+        out of range or twice; late orders in which no enqueue waits for a dequeue, is due for one behind it, or is under way; listings past
+        the calls."""
+        faults = [fault(case) for case in CHECKS]
+        for kind in ('none', 'range', 'twice', 'ended', 'time', 'queue'):
+            self.assertGreater(faults.count(kind), 20, kind)
+        self.assertGreater(sum(case.expected != sorted(case.expected) for case in LATES), 150)
+        self.assertGreater(sum(oc.due_for_another(case.history, case.expected) for case in LATES), 100)
+        kept = [[jm.calls_of(case.history)[number - 1].end for number in case.expected] for case in LATES]
+        self.assertGreater(sum(0 in ends for ends in kept), 30)
+        self.assertGreater(sum(('deq', 0, 0, ()) in case.expected for case in LISTINGS), 30)
+        self.assertGreater(len({str(case) for case in LATES}), 300)
+        self.assertGreater(len({str(case) for case in CHECKS}), 700)
+
+
+def fault(case):
+    """What is wrong with an order: the first of these that is."""
+    calls = jm.calls_of(case.history)
+    if not set(case.numbers) <= set(range(1, len(calls) + 1)):
+        return 'range'
+    if len(set(case.numbers)) < len(case.numbers):
+        return 'twice'
+    if any(call.end and number not in case.numbers for number, call in enumerate(calls, 1)):
+        return 'ended'
+    order = [calls[number - 1] for number in case.numbers]
+    if any(0 < b.end < a.start for k, a in enumerate(order) for b in order[k + 1 :]):
+        return 'time'
+    return 'none' if case.expected else 'queue'
 
 
 def stored_steps(case):

@@ -384,7 +384,8 @@ class Drains(Both, unittest.TestCase):
         self.assertGreater(min(seen[True], seen[False]), 300)
 
     def test_histories(self):
-        """A history with drains, by the words before and after each call, that the compiled judge does not find explained."""
+        """A history with drains, by the words before and after each call, that the compiled judge does not find explained, or finds so
+        by an order that the compiled check turns down."""
         library, rng, met = judge_library.load(), random.Random(20), collections.Counter()
         for _ in range(18):
             beside, history = self.opened(2, rng.randint(2, 4), 3, 60), model.History()
@@ -397,7 +398,9 @@ class Drains(Both, unittest.TestCase):
                 reply = beside.call(call)
                 history = model.told(history, call, reply, before, beside.engine.words())
                 words = judge_model.flatten(history)
-                self.assertEqual(judge_library.judge(library, words, [judge_library.Call()] * len(history), len(history))[0], 'explained')
+                judged = judge_library.judge_with_room(library, words)
+                self.assertEqual(judged.word, 'explained')
+                self.assertEqual(judge_library.check(library, words, judged.numbers()), 'yes')
                 met[reply[0]] += 1
         self.assertGreater(min(met['drained'], met['item'], met['empty']), 30)
 

@@ -6,22 +6,8 @@ import unittest
 
 import intake_model as im
 import judge_model as jm
+from histories import DEQ, EMPTY, done, enq, item
 from judge_model import flatten, judge
-
-
-def enq(call, thread=1, value=7):
-    return (1, thread, call, value)
-
-
-def done(call, thread=1, value=7):
-    return (2, thread, call, value)
-
-
-DEQ, EMPTY = (3, 0, 0, 0), (5, 0, 0, 0)
-
-
-def item(call, value=7):
-    return (4, 0, call, value)
 
 
 def word(history):
@@ -87,7 +73,7 @@ class Runs(unittest.TestCase):
 
 
 class Refusals(unittest.TestCase):
-    """10 to 13, in order."""
+    """10 to 13 and 16, in order."""
 
     def refusal(self, history, table=None):
         reply = judge(flatten(history), len(history) if table is None else table)
@@ -122,6 +108,14 @@ class Refusals(unittest.TestCase):
         bad += [[enq(1), enq(1, 2)], [enq(1), done(1), enq(1)], [DEQ, EMPTY, EMPTY]]
         for history in bad:
             self.assertEqual(self.refusal(history), 13, history)
+
+    def test_16_comes_after_13(self):
+        """An order's buffer with fewer words than started calls, whatever the verdict; more are not needed."""
+        for history, number in (([DEQ, EMPTY, DEQ], 16), ([enq(1), done(1), DEQ, EMPTY], 16), ([DEQ, DEQ], 13), ([DEQ, EMPTY, enq(0)], 12)):
+            self.assertEqual(judge(flatten(history), 4, order_len=1), ('refused', number), history)
+            self.assertEqual(judge(flatten(history), 1, order_len=1), ('refused', 11), history)
+        self.assertEqual(judge(flatten([DEQ, EMPTY]), 2, order_len=1)[0], 'explained')
+        self.assertEqual(judge([], 0, order_len=0)[0], 'explained')
 
     def test_each_event_in_turn(self):
         """All forms checked before all orders, instead of event by event."""
