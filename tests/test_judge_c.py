@@ -73,6 +73,34 @@ class Differential(Library):
         self.assertGreater(seen['explained'], 20, seen)
         self.assertGreater(seen['unexplained'], 20, seen)
 
+    def test_numbers_of_one_remainder(self):
+        """A number that is taken for another of its remainder, or missed because of one, be it by the number of the marks, 4,078, or by
+        another divisor near it or near 2^32: each is started, ended and taken, and the last start has a new number or one of those before."""
+        most, seen = 2**32 - 1, {}
+        for step in (1, 2, 2039, 4077, 4078, 4079, 4096, 2**16, 2**31 - 1):
+            for first in (1, 2, 4077, 4078, 4079, 2**31, most - step, most - 2 * step, most):
+                near = {first + k * step for k in range(-3, 4)} | {first % 4078, first % 4078 + 4078, most - most % 4078, most}
+                numbers = sorted(number for number in near if 0 < number <= most)
+                for last in numbers:
+                    others = [number for number in numbers if number != last]
+                    for before in (others, others[::-1], [last, *others], [*reversed(others), last]):
+                        history = [*(event for k in before for event in (enq(k), done(k), DEQ, item(k))), enq(last)]
+                        word = self.hold(flatten(history), len(history), len(history), jm.explained_by_mark)
+                        self.assertEqual(word, ('refused', 13) if last in before else 'explained')
+                        seen[word] = seen.get(word, 0) + 1
+        self.assertGreater(min(seen.values()), 500, seen)
+
+    def test_one_of_many_started_twice(self):
+        """A mark that goes missing among many: 1,000 numbers in a row or from all words, shuffled, and one more, new or one of them."""
+        rng = random.Random(5)
+        for numbers in (range(1, 4079), range(3000, 7078), range(2**32 - 4078, 2**32), range(1, 2**32)):
+            for _ in range(10):
+                *before, new = rng.sample(numbers, 1001)
+                calls = [event for k in before for event in (enq(k), done(k))]
+                for last, word in ((new, 'explained'), (rng.choice(before), ('refused', 13)), (before[0], ('refused', 13))):
+                    history = [*calls, enq(last)]
+                    self.assertEqual(self.hold(flatten(history), len(history), len(history), jm.explained_by_mark), word)
+
     def test_longest_histories(self):
         """4,096 events of each shape that a search could stumble over, and 4,097."""
         shapes = {

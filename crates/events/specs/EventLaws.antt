@@ -13,19 +13,9 @@ use Rattle.history.specs.Event.{Event, History, enqueueStarted, enqueueEnded, d
 use Rattle.rules.specs.Play.{endOfEnqueue}
 use Rattle.events.specs.declared.Found.{Found}
 use Rattle.events.specs.declared.Found.the-variants.{At, Missing}
-use Rattle.events.specs.Events.{encode, wordsOf, Recorded, startFound, Records}
-
-pub length-encode : (e : Event) → length (encode e) ≡ 4
-length-encode (enqueueStarted t n v) = refl
-length-encode (enqueueEnded t n v) = refl
-length-encode dequeueStarted = refl
-length-encode (gaveItem n v) = refl
-length-encode gaveEmpty = refl
-
-pub length-words : (h : History) → length (wordsOf h) ≡ length h * 4
-unfolding wordsOf
-length-words [] = refl
-length-words (e ∷ h) = rw length-append (omega (arith, length-encode e, length-words h))
+use Rattle.history.specs.Words.{encode, wordsOf}
+use Rattle.history.specs.WordLaws.{length-encode, length-words}
+use Rattle.events.specs.Events.{Recorded, startFound, Records}
 
 -- no event
 pub none-recorded : (b : List ℕ) → Recorded b 0 []

@@ -1,29 +1,17 @@
--- A history as words, and the events that a call adds to it (document 01, "Judge" and "What demand 3 speaks of").
+-- A history as words in a buffer, and the events that a call adds to it (document 01, "Judge" and "What demand 3 speaks of").
 use mathlib.Core.Path.{_≡_}
 use mathlib.Core.Bool.{_&&_, cond}
 use mathlib.Core.List.{List, [], _∷_, _++_}
 use Prim.Native.Nat.{ℕ, zero, suc, _+_, _*_, _≤_}
 use lib.Dec.{eqb}
 use lib.ListN.{length, take, getD}
-use Rattle.history.specs.Event.{Event, History, enqueueStarted, enqueueEnded, dequeueStarted, gaveItem, gaveEmpty}
+use Rattle.history.specs.Event.{History, enqueueStarted, dequeueStarted, gaveItem, gaveEmpty}
+use Rattle.history.specs.Words.{wordsOf}
 use Rattle.rules.specs.Play.{endOfEnqueue}
 use Rattle.events.specs.declared.Noted.{Noted}
 use Rattle.events.specs.declared.Noted.the-variants.{Nothing, Started, Ended, DequeueStarted, Item, Empty}
 use Rattle.events.specs.declared.Found.{Found}
 use Rattle.events.specs.declared.Found.the-variants.{At, Missing}
-
--- An event is four words: kind, thread, call number, value.
-abbrev pub encode : Event → List ℕ
-encode (enqueueStarted t n v) = 1 ∷ t ∷ n ∷ v ∷ []
-encode (enqueueEnded t n v) = 2 ∷ t ∷ n ∷ v ∷ []
-encode dequeueStarted = 3 ∷ 0 ∷ 0 ∷ 0 ∷ []
-encode (gaveItem n v) = 4 ∷ 0 ∷ n ∷ v ∷ []
-encode gaveEmpty = 5 ∷ 0 ∷ 0 ∷ 0 ∷ []
-
--- The words of a history, the oldest event first.
-unfoldable pub wordsOf : History → List ℕ
-wordsOf [] = []
-wordsOf (e ∷ h) = wordsOf h ++ encode e
 
 -- The buffer begins with the words of the k events of h.
 pub record Recorded (buffer : List ℕ) (k : ℕ) (h : History) : Type 0 where

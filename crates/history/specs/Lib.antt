@@ -1,6 +1,9 @@
 pub mod Lists
 pub mod Event
+pub mod Words
+pub mod WordLaws
 pub mod Calls
 pub mod Form
 pub mod Linearization
 pub mod Shows
+pub mod Starts

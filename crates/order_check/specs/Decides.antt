@@ -4,9 +4,8 @@ use mathlib.Core.Path.{_≡_, refl, sym, ap, subst, _∙_}
 use mathlib.Core.Logic.{_⊎_, inl, inr, _≢_, _↔_}
 use mathlib.Core.Bool.{Bool, true, false, _||_, not, cond}
 use mathlib.Core.List.{List, [], _∷_}
-use Prim.Native.Nat.{ℕ, suc, _+_, _-_, _<_, _≤_, _/_}
+use Prim.Native.Nat.{ℕ, suc, _+_, _-_, _<_, _≤_}
 use native.Mathlib.Omega.{arith}
-use native.Mathlib.Decide.{decLe}
 use lib.Dec.{eqb}
 use lib.ListN.{length, getD}
 use borrow.Author.Tests.{eqb-true, eqb-false, eq-eqb}
@@ -15,11 +14,11 @@ use Rattle.history.specs.Event.{History}
 use Rattle.history.specs.Calls.{Call, startOf, endOf, calls}
 use Rattle.history.specs.Form.{mostEvents, Reading, refused, history, read}
 use Rattle.history.specs.Linearization.{Precedes, run, Linearizable}
-use Rattle.reading.specs.Admitted.{read-lets-through}
+use Rattle.reading.specs.Admitted.{Refusal, refused-by-10-12-or-13}
 use Rattle.history.specs.Shows.{noCall, numbered, listed, Numbers, Shows}
 use Rattle.order_check.specs.declared.Checked.the-variants.{Refused, Yes, No}
 use Rattle.order_check.specs.Check.{every, everyTwo, isSome, has, isNumber, precedes, orderly, keeps, isOrder, checked}
-use Rattle.order_check.specs.Starts.{start-tells-number}
+use Rattle.history.specs.Starts.{start-tells-number}
 use Rattle.order_check.specs.Tests.{both, and-true, either, not-then, then-not, every-all, all-every, every-two-pairwise, pairwise-every-two, is-some, all-at, in-map, from-map, all-map, has-member, member-has, is-number, number-is, numbered-member, precedes-true, true-precedes}
 
 -- what the tests of `orderly` say, one by one
@@ -182,20 +181,5 @@ refused-exactly-when-reading-refuses words order n = (only (read mostEvents word
     only (history h) e = absurd (no-refusal (isOrder h order) n e)
 
 -- The numbers that it refuses with: 11 is about a table, which it is not lent.
-abbrev pub Refusal : ℕ → Type 0
-Refusal n = (n ≡ 10) ⊎ ((n ≡ 12) ⊎ (n ≡ 13))
-
 pub refusals-are-10-12-or-13 : (words order : List ℕ) (n : ℕ) → checked (read mostEvents words) order ≡ Refused n → Refusal n
-refusals-are-10-12-or-13 words order n e = go (decLe n 10) (decLe n 11) (decLe n 12)
-  where
-    refuses : read mostEvents words ≡ refused n
-    refuses = refused-exactly-when-reading-refuses words order n .0 e
-
-    bounds : (10 ≤ n) × (n ≤ 13) × (n ≡ 11 → (mostEvents < length words / 4) × (length words / 4 ≤ mostEvents))
-    bounds = rw refuses at (read-lets-through mostEvents words)
-
-    go : Dec (n ≤ 10) → Dec (n ≤ 11) → Dec (n ≤ 12) → Refusal n
-    go (yes l) c d = let low = bounds .0 in inl (omega arith)
-    go (no f) (yes l) d = absurd (let k = bounds .2 (omega arith) in omega arith)
-    go (no f) (no g) (yes l) = inr (inl (omega arith))
-    go (no f) (no g) (no k) = let high = bounds .1 in inr (inr (omega arith))
+refusals-are-10-12-or-13 words order n e = refused-by-10-12-or-13 words n (refused-exactly-when-reading-refuses words order n .0 e)

@@ -1,5 +1,4 @@
 pub mod Check
-pub mod Starts
 pub mod Tests
 pub mod Walk
 pub mod Decides

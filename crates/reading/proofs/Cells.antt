@@ -8,7 +8,7 @@ use native.Mathlib.Numerals.{add-one}
 use lib.ListN.{length, getD, set, drop, length-set}
 use lib.Seq.{getD-set-same, getD-set-other}
 use Rattle.history.specs.Lists.{All}
-use Rattle.reading.specs.Table.{cell, startAt, endAt, answerAt, threadAt, numberAt, valueAt, busyAt, topOf}
+use Rattle.reading.specs.Table.{cell, startAt, endAt, answerAt, threadAt, numberAt, valueAt, busyAt, topOf, markOf}
 use Rattle.reading.specs.Steps.{begun, ended}
 
 -- a word and what is written to it
@@ -51,11 +51,13 @@ pub record Begun (m m′ : List ℕ) (c k t n v : ℕ) : Type 0 where
   pub busy-is : busyAt m′ t ≡ suc c
   pub others : (u : ℕ) → u ≤ 16 → u ≢ t → busyAt m′ u ≡ busyAt m u
   pub top-is : topOf m′ ≡ max (topOf m) n
+  pub mark-is : getD m′ (markOf n) 0 ≡ 1
+  pub marks : (a : ℕ) → 18 ≤ a → a < 4096 → a ≢ markOf n → getD m′ a 0 ≡ getD m a 0
 
 module _ (m : List ℕ) (c k t n v : ℕ) (size : length m ≡ 28672) (room : c < 4096) (thread : t ≤ 16) where
   abbrev beginning : List Write
   beginning =
-      (4096 + c, k) ∷ (8192 + c, 0) ∷ (12288 + c, 0) ∷ (16384 + c, t) ∷ (20480 + c, n) ∷ (24576 + c, v) ∷ (t, c + 1) ∷ (17, max (topOf m) n) ∷ []
+      (4096 + c, k) ∷ (8192 + c, 0) ∷ (12288 + c, 0) ∷ (16384 + c, t) ∷ (20480 + c, n) ∷ (24576 + c, v) ∷ (t, c + 1) ∷ (17, max (topOf m) n) ∷ (markOf n, 1) ∷ []
 
   pub begun-is : Begun m (begun m c k t n v) c k t n v
   unfolding begun
@@ -70,7 +72,9 @@ module _ (m : List ℕ) (c k t n v : ℕ) (size : length m ≡ 28672) (room : c 
     value-is = wrote m beginning 5 (omega arith) (omega arith) (omega arith);
     busy-is = wrote m beginning 6 (omega arith) (omega arith) (omega arith) ∙ add-one c;
     others = λ u a d. kept m beginning u (omega arith);
-    top-is = wrote m beginning 7 (omega arith) (omega arith) tt;
+    top-is = wrote m beginning 7 (omega arith) (omega arith) (omega arith);
+    mark-is = wrote m beginning 8 (omega arith) (omega arith) tt;
+    marks = λ a l u d. kept m beginning a (omega arith);
   }
 
 -- The columns with call i ended: only its end, answer and value have changed.
@@ -85,7 +89,7 @@ pub record Ended (m m′ : List ℕ) (i k t n v : ℕ) : Type 0 where
   pub value-is : valueAt m′ i ≡ v
   pub busy-is : busyAt m′ t ≡ 0
   pub others : (u : ℕ) → u ≤ 16 → u ≢ t → busyAt m′ u ≡ busyAt m u
-  pub top-is : topOf m′ ≡ topOf m
+  pub top-and-marks : (a : ℕ) → 17 ≤ a → a < 4096 → getD m′ a 0 ≡ getD m a 0
 
 module _ (m : List ℕ) (i k t n v : ℕ) (size : length m ≡ 28672) (room : i < 4096) (thread : t ≤ 16) where
   abbrev ending : List Write
@@ -103,5 +107,5 @@ module _ (m : List ℕ) (i k t n v : ℕ) (size : length m ≡ 28672) (room : i 
     value-is = wrote m ending 2 (omega arith) (omega arith) (omega arith);
     busy-is = wrote m ending 3 (omega arith) (omega arith) tt;
     others = λ u a d. kept m ending u (omega arith);
-    top-is = kept m ending 17 (omega arith);
+    top-and-marks = λ a l u. kept m ending a (omega arith);
   }

@@ -9,7 +9,7 @@ use lib.Dec.{lit≤, eqb, eqb·suc-zero}
 use borrow.Author.Tests.{eqb-true}
 use Rattle.history.specs.Calls.{Call, endEnqueue, endDequeue, enter}
 use Rattle.history.specs.Form.{enqueuesItem, follows}
-use Rattle.reading.specs.Table.{startAt, endAt, answerAt, threadAt, numberAt, valueAt, busyAt, answerOf, callOf, callAt, callsIn, Table}
+use Rattle.reading.specs.Table.{startAt, endAt, answerAt, threadAt, numberAt, valueAt, busyAt, markOf, answerOf, callOf, callAt, callsIn, Table}
 use Rattle.reading.specs.Steps.{endEvent, ended, repeatsAt, Enters}
 use Rattle.reading.proofs.Logic.{same-or-not, true-not-false, both}
 use Rattle.reading.proofs.Builds.{build-same, map-build, none-of, one-of}
@@ -122,12 +122,15 @@ module _ (m m′ : List ℕ) (c i k t n v : ℕ) (b : Ended m m′ i k t n v) (t
     known = λ u j x l p q. known-on late u j x l p q (same-or-not j i);
     under-way = λ u j x e. under-way-on u j x e (same-or-not u t);
     plain = λ j l p. b .number-is j (omega arith) ∙ table .plain j l (sym (b .thread-is j (omega arith)) ∙ p);
-    highest = λ j l. omega (arith, b .number-is j (omega arith), table .highest j l, b .top-is);
+    highest = λ j l. omega (arith, b .number-is j (omega arith), table .highest j l, b .top-and-marks 17 (lit≤ tt) (lit≤ tt));
     distinct =
         λ h j l o e z.
         let x = b .number-is h (omega arith) in
         let y = b .number-is j (omega arith) in
         table .distinct h j l o (sym x ∙ e ∙ y) (λ w. z (x ∙ w));
+    marked =
+        λ j l.
+        rw (b .number-is j (omega arith), b .top-and-marks (markOf (numberAt m j)) (omega arith) (omega arith)) (table .marked j l);
   }
 
 -- where the call under way stands

@@ -9,10 +9,11 @@ use native.Mathlib.Nat.{le-max-left, le-max-right}
 use native.Mathlib.Numerals.{add-one}
 use native.Mathlib.Omega.{arith}
 use lib.Dec.{lit≤}
+use lib.ListN.{getD}
 use Rattle.history.specs.Event.{Event}
 use Rattle.history.specs.Calls.{Call, enter}
 use Rattle.history.specs.Form.{any, enqueues, dequeues, hasNumber, follows}
-use Rattle.reading.specs.Table.{startAt, endAt, answerAt, threadAt, numberAt, valueAt, busyAt, topOf, callOf, callAt, callsIn, Table}
+use Rattle.reading.specs.Table.{startAt, endAt, answerAt, threadAt, numberAt, valueAt, busyAt, topOf, markOf, callOf, callAt, callsIn, Table}
 use Rattle.reading.specs.Steps.{startEvent, Starts, begun, Fresh, Enters}
 use Rattle.reading.proofs.Logic.{false-not-true, same-or-not, before-or-last, and-right-false}
 use Rattle.reading.proofs.Builds.{build-same, build-snoc, none-of, one-of}
@@ -58,6 +59,10 @@ module _ (m : List ℕ) (c : ℕ) (table : Table m c) where
 
   new-number : (n : ℕ) → ((j : ℕ) → j < c → numberAt m j ≢ n) → any (hasNumber n) (callsIn m c) ≡ false
   new-number n f = none-of (hasNumber n) (callAt m) c (λ j l. Words.not-number (numberAt m j) (valueAt m j) (startAt m j) (endAt m j) (answerAt m j) (threadAt m j) n (f j l))
+
+  -- a number whose mark is not set
+  pub unmarked : (n a : ℕ) → a ≡ markOf n → getD m a 0 ≡ 0 → (j : ℕ) → j < c → numberAt m j ≢ n
+  unmarked n a e z j l p = table .marked j l (ap (λ x. getD m (markOf x) 0) p ∙ ap (λ x. getD m x 0) (sym e) ∙ z)
 
   pub busy-start : (t n v : ℕ) → t ≤ 16 → busyAt m t ≢ 0 → follows (startEvent t n v) (callsIn m c) ≡ false
   busy-start t n v a b = go t a (busyAt m t) refl b
@@ -144,6 +149,18 @@ module _ (m m′ : List ℕ) (c k t n v : ℕ) (b : Begun m m′ c k t n v) wher
         absurd (new (λ w. z (x ∙ w)) j p (sym y ∙ sym e ∙ x))
     distinct-on i j e z (inr o) (inr p) = o ∙ sym p
 
+    -- no mark is taken back
+    still-marked : (a : ℕ) → 18 ≤ a → a < 4096 → getD m a 0 ≢ 0 → (a ≡ markOf n) ⊎ (a ≢ markOf n) → getD m′ a 0 ≢ 0
+    still-marked a l u z (inl e) = λ w. let y = ap (λ x. getD m′ x 0) e ∙ b .mark-is in omega arith
+    still-marked a l u z (inr d) = λ w. z (sym (b .marks a l u d) ∙ w)
+
+    marked-on : (j : ℕ) → (j < c) ⊎ (j ≡ c) → getD m′ (markOf (numberAt m′ j)) 0 ≢ 0
+    marked-on j (inl o) =
+        rw (b .old 5 j (lit≤ tt) (lit≤ tt) o)
+        (still-marked (markOf (numberAt m j)) (omega arith) (omega arith) (table .marked j o) (same-or-not _ _))
+    marked-on j (inr e) =
+        λ w. let y = ap (λ x. getD m′ (markOf x) 0) (ap (numberAt m′) e ∙ b .number-is) ∙ b .mark-is in omega arith
+
     pub table-begun : Table m′ (suc c)
     table-begun = record {
       size = b .size ∙ table .size;
@@ -152,6 +169,7 @@ module _ (m m′ : List ℕ) (c k t n v : ℕ) (b : Begun m m′ c k t n v) wher
       plain = λ j l p. plain-on j p (before-or-last j c l);
       highest = λ j l. highest-on j (before-or-last j c l);
       distinct = λ i j l o e z. distinct-on i j e z (before-or-last i c l) (before-or-last j c o);
+      marked = λ j l. marked-on j (before-or-last j c l);
     }
 
 -- The three ways out of a start.

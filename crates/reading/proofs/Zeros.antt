@@ -25,4 +25,5 @@ no-calls n e = record {
   plain = λ j l. absurd (omega arith);
   highest = λ j l. absurd (omega arith);
   distinct = λ i j l. absurd (omega arith);
+  marked = λ j l. absurd (omega arith);
 }

@@ -1,10 +1,12 @@
 -- What reading lets through: which refusals there are, and that a history is well-formed and has few calls.
 use mathlib.Core.Path.{_≡_, refl}
+use mathlib.Core.Logic.{_⊎_, inl, inr}
 use mathlib.Core.Bool.{Bool, true, false, _||_, not, cond}
 use mathlib.Core.List.{List, [], _∷_}
 use mathlib.Core.Option.{Option, none, some}
 use Prim.Native.Nat.{ℕ, _+_, _/_, _%_, _≤_, _<_}
 use native.Mathlib.Omega.{arith}
+use native.Mathlib.Decide.{decLe}
 use lib.Dec.{eqb, ltb}
 use lib.ListN.{length, length-append, length-map}
 use borrow.Author.Tests.{ltb-true, ltb-false}
@@ -98,3 +100,19 @@ read-with-largest entries words h e =
     go false true c x e = absurd (refused-not-read 10 h e)
     go false false true x e = absurd (refused-not-read 11 h e)
     go false false false x e = e
+
+-- The refusals with such a table.
+abbrev pub Refusal : ℕ → Type 0
+Refusal n = (n ≡ 10) ⊎ ((n ≡ 12) ⊎ (n ≡ 13))
+
+pub refused-by-10-12-or-13 : (words : List ℕ) (n : ℕ) → read mostEvents words ≡ refused n → Refusal n
+refused-by-10-12-or-13 words n refuses = go (decLe n 10) (decLe n 11) (decLe n 12)
+  where
+    bounds : (10 ≤ n) × (n ≤ 13) × (n ≡ 11 → (mostEvents < length words / 4) × (length words / 4 ≤ mostEvents))
+    bounds = rw refuses at (read-lets-through mostEvents words)
+
+    go : Dec (n ≤ 10) → Dec (n ≤ 11) → Dec (n ≤ 12) → Refusal n
+    go (yes l) c d = let low = bounds .0 in inl (omega arith)
+    go (no f) (yes l) d = absurd (let k = bounds .2 (omega arith) in omega arith)
+    go (no f) (no g) (yes l) = inr (inl (omega arith))
+    go (no f) (no g) (no k) = let high = bounds .1 in inr (inr (omega arith))

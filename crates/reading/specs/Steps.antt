@@ -12,7 +12,7 @@ use Rattle.history.specs.Calls.{Call, calls, enter}
 use Rattle.history.specs.Form.{Reading, refused, history, follows}
 use Rattle.reading.specs.declared.Entered.{Entered}
 use Rattle.reading.specs.declared.Entered.the-variants.{Refused, Calls}
-use Rattle.reading.specs.Table.{Table, callsIn, numberAt, valueAt, topOf}
+use Rattle.reading.specs.Table.{Table, callsIn, numberAt, valueAt, topOf, markOf}
 
 abbrev pub isEvent : Option Event → Bool
 isEvent none = false
@@ -39,11 +39,14 @@ unfoldable pub begun : List ℕ → (c k thread number value : ℕ) → List ℕ
 begun m c k t n v =
     set
     (set
+    (set
     (set (set (set (set (set (set m (4096 + c) k) (8192 + c) 0) (12288 + c) 0) (16384 + c) t) (20480 + c) n) (24576 + c) v)
     t
     (c + 1))
     17
-    (max (topOf m) n)
+    (max (topOf m) n))
+    (markOf n)
+    1
 
 -- the memory with call i ended at event k
 abbrev pub ended : List ℕ → (i k thread number value : ℕ) → List ℕ

@@ -1,9 +1,10 @@
 -- The judge's working memory. Words 0 to 16: the call that each thread has under way, plus one; 0 for none. Word 17: the largest
--- call number so far. Then six columns of 4,096 words, one word for each started call: start, end, answer, thread, number, value.
+-- call number so far. Words 18 to 4,095: the marks of the call numbers. Then six columns of 4,096 words, one word for each started call:
+-- start, end, answer, thread, number, value.
 use mathlib.Core.Path.{_≡_}
 use mathlib.Core.Logic.{_≢_}
 use mathlib.Core.List.{List}
-use Prim.Native.Nat.{ℕ, zero, suc, _+_, _*_, _≤_, _<_}
+use Prim.Native.Nat.{ℕ, zero, suc, _+_, _*_, _%_, _≤_, _<_}
 use lib.ListN.{length, getD}
 use Rattle.history.specs.Calls.{Answer, nothing, item, empty, Call, enq, deq}
 use Rattle.reading.specs.Build.{build}
@@ -37,6 +38,10 @@ busyAt m t = getD m t 0
 abbrev pub topOf : List ℕ → ℕ
 topOf m = getD m 17 0
 
+-- where a call with this number leaves its mark, as others of the same remainder do
+abbrev pub markOf : ℕ → ℕ
+markOf n = 18 + n % 4078
+
 -- what a dequeue answered: nothing while its end is 0, empty where its answer is 0
 abbrev pub answerOf : (end number value : ℕ) → Answer
 answerOf zero n v = nothing
@@ -65,3 +70,5 @@ pub record Table (m : List ℕ) (c : ℕ) : Type 0 where
   pub plain : (j : ℕ) → j < c → threadAt m j ≡ 0 → numberAt m j ≡ 0
   pub highest : (j : ℕ) → j < c → numberAt m j ≤ topOf m
   pub distinct : (i j : ℕ) → i < c → j < c → numberAt m i ≡ numberAt m j → numberAt m i ≢ 0 → i ≡ j
+  -- its mark is set, so a number whose mark is 0 is no call's
+  pub marked : (j : ℕ) → j < c → getD m (markOf (numberAt m j)) 0 ≢ 0

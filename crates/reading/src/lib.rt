@@ -8,16 +8,20 @@ ghost use lib.Dec.{leb, eqb};
 ghost use lib.ListN.{length};
 ghost use Rattle.history.specs.Event.{decode, isProducer};
 ghost use Rattle.history.specs.Form.{mostEvents, readEvents, read};
-ghost use Rattle.reading.specs.Table.{Table, numberAt};
+ghost use Rattle.reading.specs.Table.{Table, numberAt, markOf};
 ghost use Rattle.reading.specs.Steps.{isEvent, startEvent, endEvent, Starts, begun, ended, repeatsAt, Fresh, Enters, Stepped, Read};
 
 // The most events of a history.
 pub const MOST_EVENTS: usize = 4_096;
 
-// The working memory (specs/Table.antt): a word for each thread, the largest number, and six columns, each with a word for an event.
+// The working memory (specs/Table.antt): a word for each thread, the largest number, the marks, and six columns, each with a word for an event.
 pub const MEMORY: usize = 7 * MOST_EVENTS;
 
 const TOP: usize = 17;
+
+const MARKS: usize = 18;
+
+const MARK_WORDS: u32 = 4_078;
 
 pub const START: usize = MOST_EVENTS;
 
@@ -80,7 +84,8 @@ fn formed(kind: u32, thread: u32, number: u32, value: u32) -> bool
     false
 }
 
-fn starts(kind: u32) -> bool
+// Kinds 1 and 3 start a call.
+pub fn starts(kind: u32) -> bool
     ensures { λ r. ⌜ r ≡ (eqb kind 1 || eqb kind 3) ⌝ }
 {
     (kind == 1) | (kind == 3)
@@ -90,6 +95,13 @@ pub fn larger(a: u32, b: u32) -> u32
     ensures { λ r. ⌜ r ≡ max a b ⌝ }
 {
     if a <= b { b } else { a }
+}
+
+// Where a call's number leaves its mark.
+fn mark_of(number: u32) -> usize
+    ensures { λ r. ⌜ r ≡ markOf number ⌝ }
+{
+    MARKS + (number % MARK_WORDS) as usize
 }
 
 // The first call of from..to with this number, or to.
@@ -113,6 +125,7 @@ fn begin(m: &mut [u32; MEMORY], c: usize, k: u32, thread: u32, number: u32, valu
     ensures { λ r. ⌜ now (m .exit) ≡ begun (now (m .entry)) c k thread number value ⌝ }
 {
     let top = larger(m[TOP], number);
+    let mark = mark_of(number);
     m[START + c] = k;
     m[END + c] = 0;
     m[ANSWER + c] = 0;
@@ -121,6 +134,7 @@ fn begin(m: &mut [u32; MEMORY], c: usize, k: u32, thread: u32, number: u32, valu
     m[VALUE + c] = value;
     m[thread as usize] = (c + 1) as u32;
     m[TOP] = top;
+    m[mark] = 1;
 }
 
 // Call i ends at event k.
@@ -134,7 +148,7 @@ fn end(m: &mut [u32; MEMORY], i: usize, k: u32, thread: u32, number: u32, value:
     m[thread as usize] = 0;
 }
 
-// Whether no enqueue was started with this number, at once where it is above all of them. A dequeue has none, 0.
+// Whether no enqueue was started with this number, at once where it is above all of them or its mark is not set. A dequeue has none, 0.
 fn fresh(m: &[u32; MEMORY], c: usize, number: u32) -> bool
     requires { ⌜ Table (now m) c × (c ≤ mostEvents) ⌝ }
     ensures { λ r. ⌜ Fresh (now (m .entry)) c number r ⌝ }
@@ -143,6 +157,9 @@ fn fresh(m: &[u32; MEMORY], c: usize, number: u32) -> bool
         return true;
     }
     if m[TOP] < number {
+        return true;
+    }
+    if m[mark_of(number)] == 0 {
         return true;
     }
     let j = scan(m, 0, c, number);

@@ -11,11 +11,11 @@ use lib.Dec.{leb}
 use lib.ListN.{length}
 use borrow.Author.Tests.{le-ltb}
 use Rattle.history.specs.Event.{Event, History, isProducer, decode, enqueueStarted, enqueueEnded, dequeueStarted, gaveItem, gaveEmpty}
+use Rattle.history.specs.Words.{encode, wordsOf}
+use Rattle.history.specs.WordLaws.{length-words}
 use Rattle.history.specs.Calls.{calls}
 use Rattle.history.specs.Form.{follows, wellFormed, refused, history, readEvent, readEvents, read}
 use Rattle.criterion.specs.Explained.{Started, Explained}
-use Rattle.events.specs.Events.{encode, wordsOf}
-use Rattle.events.specs.EventLaws.{length-words}
 
 -- a producer's thread and a call number
 abbrev pub Names : (t n : ℕ) → Type 0

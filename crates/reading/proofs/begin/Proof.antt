@@ -10,6 +10,9 @@ element-copy-out-larger c = search needs
 larger-requires : tie.Need-larger-requires
 larger-requires c κs = search needs
 
+mark-of-requires : tie.Need-mark-of-requires
+mark-of-requires c κs = search needs
+
 add-m : tie.Need-add-m
 add-m c = search needs
 
@@ -79,9 +82,15 @@ element-write-m-7 c = search needs
 element-write-m-8 : tie.Need-element-write-m-8
 element-write-m-8 c = search needs
 
+mul-m-8 : tie.Need-mul-m-8
+mul-m-8 c = search needs
+
+element-write-m-9 : tie.Need-element-write-m-9
+element-write-m-9 c = search needs
+
 returns : tie.Need-returns
 unfolding begun
-returns c = rw (c .larger .ensures)
+returns c = rw (c .before .larger .ensures, c .mark-of .ensures)
 
 pub begin-spec : {M : Type 1} → statement M
 begin-spec =
@@ -89,6 +98,7 @@ begin-spec =
     (tie.spec
     element-copy-out-larger
     larger-requires
+    mark-of-requires
     add-m
     mul-m
     element-write-m
@@ -112,4 +122,6 @@ begin-spec =
     mul-m-7
     element-write-m-7
     element-write-m-8
+    mul-m-8
+    element-write-m-9
     returns)
