@@ -136,6 +136,12 @@ counts (suc room) s at ns = go (leb (length s) at) (numberAt s at) (λ next ms. 
             subst (λ (l : ℕ). Counted (numbersFrom room s (next + 1) (ns ++ (n ∷ []))) l) e (f (next + 1) (ns ++ (n ∷ [])))
         parted false = omega arith
 
+-- so many numbers fit in the room
+pub reading-fits : (s : List ℕ) (room : ℕ) {k : ℕ} → reading s room .reply ≡ Numbers k → length (reading s room .numbers) ≤ room
+reading-fits s room e =
+    let c = subst (Counted (reading s room)) (zero-add room) (counts room s 0 []) in
+    omega (arith, subst (λ (x : Parsed). Counts x (length (reading s room .numbers)) room) e c)
+
 module _ {s before after : List ℕ} {r : Parsed} (p : Parses s before after r) where
   counted : {v : Parsed} → r ≡ v → Counts v (length (reading s (length before) .numbers)) (length before)
   counted e =
@@ -147,6 +153,9 @@ module _ {s before after : List ℕ} {r : Parsed} (p : Parses s before after r) 
 
   -- The numbers that were read stand at the beginning of the buffer.
   module _ {k : ℕ} (e : r ≡ Numbers k) where
+    pub numbers-fit : k ≤ length before
+    numbers-fit = counted e .1
+
     pub numbers-within : k ≤ length after
     numbers-within = omega (arith, counted e .1, simp length-sets at (ap length (p .after-is)))
 
@@ -155,3 +164,11 @@ module _ {s before after : List ℕ} {r : Parsed} (p : Parses s before after r) 
         let ns = reading s (length before) .numbers in
         ap (take k) (p .after-is ∙ sets-eq ns before 0 (omega (arith, counted e)))
         ∙ take-at ns (drop (0 + length ns) before) k (counted e .0)
+
+-- The answer and the numbers, read with as much room as the buffer has.
+module _ {s before after : List ℕ} {r : Parsed} {room : ℕ} (long : length before ≡ room) (p : Parses s before after r) where
+  pub reply-read : {v : Parsed} → r ≡ v → reading s room .reply ≡ v
+  reply-read e = ap (λ (k : ℕ). reading s k .reply) (sym long) ∙ sym (p .reply-is) ∙ e
+
+  pub numbers-read : {k : ℕ} → r ≡ Numbers k → reading s room .numbers ≡ take k after
+  numbers-read e = ap (λ (k : ℕ). reading s k .numbers) (sym long) ∙ sym (numbers-stored p e)

@@ -13,6 +13,10 @@ use Rattle.text.specs.Decimal.{numberAt}
 use Rattle.lines.specs.declared.Parsed.{Parsed}
 use Rattle.lines.specs.declared.Parsed.the-variants.{TooLong, BadLine, Numbers}
 
+-- the most numbers that a program reads of a recording: 8,192 events, twice what the judge takes
+abbrev pub mostNumbers : ℕ
+mostNumbers = 32768
+
 -- The byte that parts a number from the next, after so many numbers: a newline after every fourth, else a space.
 abbrev pub separator : (count : ℕ) → ℕ
 separator count = cond (eqb (count % 4) 0) 10 32

@@ -3,6 +3,9 @@ use text::Number;
 ghost use mathlib.Core.Path.{_≡_};
 ghost use Rattle.lines.specs.Lines.{separator, lineAfter, ending, Parses};
 
+// The most numbers that a program reads of a recording: 8,192 events.
+pub const MOST_NUMBERS: usize = 32_768;
+
 // What a text holds: more numbers than the buffer has entries, a bad line, the first by its number, or so many numbers.
 pub enum Parsed {
     TooLong,
@@ -11,7 +14,7 @@ pub enum Parsed {
 }
 
 // The byte that parts a number from the next, after so many numbers: a newline after every fourth, else a space.
-fn separator_after(count: usize) -> u8
+pub fn separator_after(count: usize) -> u8
     ensures { λ r. ⌜ r ≡ separator count ⌝ }
 {
     if count % 4 == 0 {
@@ -21,7 +24,7 @@ fn separator_after(count: usize) -> u8
 }
 
 // The line of the number that follows so many numbers, counted from 1.
-fn line_after(count: usize) -> usize
+pub fn line_after(count: usize) -> usize
     ensures { λ r. ⌜ r ≡ lineAfter count ⌝ }
 {
     count / 4 + 1

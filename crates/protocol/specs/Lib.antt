@@ -3,3 +3,4 @@ pub mod Line
 pub mod Printed
 pub mod Laws
 pub mod Runs
+pub mod Samples

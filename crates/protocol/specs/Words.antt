@@ -43,9 +43,12 @@ itemWord = 105 ∷ 116 ∷ 101 ∷ 109 ∷ space ∷ []
 abbrev pub refusedWord : List ℕ
 refusedWord = 114 ∷ 101 ∷ 102 ∷ 117 ∷ 115 ∷ 101 ∷ 100 ∷ space ∷ []
 
--- What ends the output: "bad line", "too long", "explained", "unexplained".
+-- What ends the output: "bad line", "bad line ", "too long", "explained", "unexplained".
 abbrev pub badLine : List ℕ
 badLine = 98 ∷ 97 ∷ 100 ∷ space ∷ 108 ∷ 105 ∷ 110 ∷ 101 ∷ newline ∷ []
+
+abbrev pub badLineWord : List ℕ
+badLineWord = 98 ∷ 97 ∷ 100 ∷ space ∷ 108 ∷ 105 ∷ 110 ∷ 101 ∷ space ∷ []
 
 abbrev pub tooLongLine : List ℕ
 tooLongLine = 116 ∷ 111 ∷ 111 ∷ space ∷ 108 ∷ 111 ∷ 110 ∷ 103 ∷ newline ∷ []

@@ -150,7 +150,7 @@ pub fn parse_line(s: &[u8]) -> Line
 }
 
 // Writes a number and the byte after it.
-fn print_number(out: &mut [u8], at: usize, n: u32, end: u8) -> usize
+pub fn print_number(out: &mut [u8], at: usize, n: u32, end: u8) -> usize
     requires { ⌜ at + 11 ≤ length (now out) ⌝ }
     ensures { λ r. ⌜ Wrote (now (out .entry)) at (numberAnd n end) (now (out .exit)) r ⌝ }
 {

@@ -19,14 +19,14 @@ use Rattle.reading.specs.Admitted.{LetThrough, read-lets-through}
 use Rattle.judge.specs.Admitted.{largest-room-admits}
 use Rattle.lines.specs.declared.Parsed.{Parsed}
 use Rattle.lines.specs.declared.Parsed.the-variants.{TooLong, BadLine, Numbers}
-use Rattle.lines.specs.Lines.{reading, Parses}
-use Rattle.lines.specs.Laws.{numbers-stored}
+use Rattle.lines.specs.Lines.{mostNumbers, reading, Parses}
+use Rattle.lines.specs.Laws.{reply-read, numbers-read}
 use Rattle.text.specs.Decimal.{mostDigits, decimal}
 use Rattle.text.specs.Laws.{length-digits}
-use Rattle.protocol.specs.Words.{space, newline, refusedWord}
+use Rattle.protocol.specs.Words.{space, newline, refusedWord, badLineWord}
 use Rattle.protocol.specs.Printed.{printedVerdict}
 use Rattle.protocol.specs.Laws.{length-numbered}
-use Rattle.recording.specs.Report.{printedReading, wordOf, spaced, orderLine, printedOrder, printedJudged, mostOrderLine, badLineWord, mostWord, mostReport, mostNumbers, printedParsed, reported}
+use Rattle.recording.specs.Report.{printedReading, wordOf, spaced, orderLine, printedOrder, printedJudged, mostOrderLine, mostWord, mostReport, printedParsed, reported}
 
 -- The word for the judge's reply is the judge's word.
 verdict-printed : (k : ℕ) (b : Bool) → printedVerdict b ≡ wordOf (cond b (Explained k) Unexplained)
@@ -90,13 +90,10 @@ module _ {ws order order′ : List ℕ} {r : Verdict} (long : mostEvents ≤ len
 module _ {s before after : List ℕ} {r : Parsed} (room : length before ≡ mostNumbers) (p : Parses s before after r) where
   pub reported-is : {v : Parsed} → r ≡ v → reported s ≡ printedParsed v (reading s mostNumbers .numbers)
   unfolding reported
-  reported-is e =
-      ap (λ (x : Parsed). printedParsed x (reading s mostNumbers .numbers)) (ap (λ (k : ℕ). reading s k .reply) (sym room) ∙ sym (p .reply-is) ∙ e)
+  reported-is e = ap (λ (x : Parsed). printedParsed x (reading s mostNumbers .numbers)) (reply-read room p e)
 
   pub reported-numbers : {k : ℕ} → r ≡ Numbers k → reported s ≡ printedJudged (read mostEvents (take k after))
-  reported-numbers e =
-      reported-is e
-      ∙ ap (λ (ns : List ℕ). printedJudged (read mostEvents ns)) (ap (λ (k : ℕ). reading s k .numbers) (sym room) ∙ sym (numbers-stored p e))
+  reported-numbers e = reported-is e ∙ ap (λ (ns : List ℕ). printedJudged (read mostEvents ns)) (numbers-read room p e)
 
 -- What is printed is short.
 pub length-verdict : (b : Bool) → length (printedVerdict b) ≤ 12

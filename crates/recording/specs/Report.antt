@@ -12,8 +12,8 @@ use Rattle.judge.specs.declared.Verdict.the-variants.{Refused, Explained, Unexp
 use Rattle.text.specs.Decimal.{decimal}
 use Rattle.lines.specs.declared.Parsed.{Parsed}
 use Rattle.lines.specs.declared.Parsed.the-variants.{TooLong, BadLine, Numbers}
-use Rattle.lines.specs.Lines.{reading}
-use Rattle.protocol.specs.Words.{space, newline, refusedWord, tooLongLine, explainedLine, unexplainedLine}
+use Rattle.lines.specs.Lines.{mostNumbers, reading}
+use Rattle.protocol.specs.Words.{space, newline, refusedWord, badLineWord, tooLongLine, explainedLine, unexplainedLine}
 use Rattle.protocol.specs.Printed.{numbered, printedVerdict}
 
 -- The judge's word on what some words are read as: `refused NUMBER`, or of a history whether it is explained.
@@ -53,17 +53,9 @@ printedJudged x = printedReading x ++ printedOrder x
 abbrev pub mostOrderLine : ℕ → ℕ
 mostOrderLine n = 6 + 11 * n
 
--- "bad line "
-abbrev pub badLineWord : List ℕ
-badLineWord = 98 ∷ 97 ∷ 100 ∷ space ∷ 108 ∷ 105 ∷ 110 ∷ 101 ∷ space ∷ []
-
 -- a bound on the bytes of a word, not the most that it has: "bad line ", a number of ten digits and a newline
 abbrev pub mostWord : ℕ
 mostWord = 20
-
--- the most numbers of a text: 8,192 events, twice what the judge takes
-abbrev pub mostNumbers : ℕ
-mostNumbers = 32768
 
 -- a bound on the bytes of a report
 abbrev pub mostReport : ℕ

@@ -1,5 +1,6 @@
 // What is printed for a recording: the judge's word on a history's words, and on a text of lines, one event each.
 use judge::Verdict;
+use lines::MOST_NUMBERS;
 use lines::Parsed;
 use reading::MOST_EVENTS;
 ghost use Prim.Native.Nat.{_+_, _≤_};
@@ -80,7 +81,7 @@ fn print_judged(words: &[u32], out: &mut [u8], at: usize) -> usize
 pub fn report(text: &[u8], out: &mut [u8; MOST_REPORT]) -> usize
     ensures { λ r. ⌜ Wrote (now (out .entry)) 0 (reported (now (text .entry))) (now (out .exit)) r ⌝ }
 {
-    let mut numbers = [0u32; 32_768];
+    let mut numbers = [0u32; MOST_NUMBERS];
     let parsed = lines::parse(text, &mut numbers);
     match parsed {
         Parsed::TooLong => {

@@ -1,0 +1,4 @@
+pub mod Admitting
+pub mod Sharing
+pub mod Replying
+pub mod Suffix

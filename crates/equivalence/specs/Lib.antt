@@ -1,0 +1,11 @@
+pub mod Threads
+pub mod Statement
+pub mod Tests
+pub mod Place
+pub mod Own
+pub mod Ranks
+pub mod Matched
+pub mod Theorem
+pub mod Same
+pub mod Partner
+pub mod Decides

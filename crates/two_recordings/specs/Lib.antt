@@ -1,0 +1,4 @@
+pub mod Report
+pub mod EmptyLine
+pub mod Laws
+pub mod Runs
