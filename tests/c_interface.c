@@ -5,6 +5,7 @@
 
 #include "../include/intake.h"
 #include "../include/judge.h"
+#include "../include/recordings.h"
 
 enum { WORDS = INTAKE_MOST_WORDS, EVENTS = JUDGE_MOST_EVENTS, STACK = 4 << 20, PAINT = 0xA5 };
 
@@ -38,27 +39,55 @@ static void engine(void) {
 static uint32_t history[4 * EVENTS], order[EVENTS], judged[4];
 
 /* 4,096 events: an enqueue and the dequeue of its item, again and again */
-static void judge(void) {
-    static struct judge_call table[EVENTS];
+static void record(uint32_t *words) {
     for (uint32_t k = 0; k < EVENTS / 4; k++) {
         const uint32_t n = k + 1, events[16] = {1, 1, n, n, 2, 1, n, n, 3, 0, 0, 0, 4, 0, n, n};
-        memcpy(history + 16 * k, events, sizeof events);
+        memcpy(words + 16 * k, events, sizeof events);
     }
+}
+
+static void judge(void) {
+    static struct judge_call table[EVENTS];
+    record(history);
     judge_history(history, 4 * EVENTS, table, EVENTS, order, EVENTS, judged);
 }
 
 /* the order of that */
 static void check(void) { order_check(history, 4 * EVENTS, order, judged[0]); }
 
+/* the same events, but in the second each dequeue starts before the enqueue ends */
+static uint32_t first[4 * EVENTS], second[4 * EVENTS];
+
+static void record_both(void) {
+    record(first);
+    record(second);
+    for (uint32_t k = 0; k < EVENTS / 4; k++) {
+        memcpy(second + 16 * k + 4, first + 16 * k + 8, 16);
+        memcpy(second + 16 * k + 8, first + 16 * k + 4, 16);
+    }
+}
+
+static void compare(void) {
+    uint32_t reply[4];
+    record_both();
+    recordings_compare(first, 4 * EVENTS, second, 4 * EVENTS, reply);
+}
+
+static void keep(void) {
+    record_both();
+    recordings_keep_precedence(first, 4 * EVENTS, second, 4 * EVENTS);
+}
+
 static void nothing(void) {}
 
 static void *run(void *which) {
-    static void (*const runs[])(void) = {nothing, engine, judge, check};
+    static void (*const runs[])(void) = {nothing, engine, judge, check, compare, keep};
     runs[*(int *)which]();
     return NULL;
 }
 
-/* The bytes of a painted stack that a thread has written: 0 by doing nothing, 1 by the engine, 2 by the judge, 3 by the check. */
+/* The bytes of a painted stack that a thread has written: 0 by doing nothing, 1 by the engine, 2 by the judge, 3 by the check, 4 by the
+   comparison of two recordings, 5 by the test of the precedence. */
 size_t stack_used(int which) {
     unsigned char *stack = aligned_alloc(4096, STACK);
     pthread_attr_t attributes;

@@ -1,4 +1,5 @@
-"""Cases for the definitions of crates/history, crates/rules, crates/criterion and crates/order_check, and their tables in antt.
+"""Cases for the definitions of crates/history, crates/rules, crates/criterion, crates/order_check and crates/comparison, and their tables in
+antt.
 
 The cases are generated here and what they must give comes from `intake_model` and `judge_model` alone. Each case
 becomes one statement `name : follow given ≡ expected`, which the checker proves by computing the left side.
@@ -11,6 +12,7 @@ from pathlib import Path
 from typing import NamedTuple
 
 import claim_stores
+import comparison_cases as cc
 import drain_stores
 import fold_stores
 import intake_model as im
@@ -23,9 +25,9 @@ from table_terms import another, changed_at, event_term, item_term, listed, numb
 
 CRATES = Path(__file__).resolve().parent.parent / 'crates'
 BIG = (2**16, 2**31, im.U32 - 1, im.U32)
-TYPES = {'schedule': 'Schedule', 'count': 'Schedule', 'single': 'Single', 'claim': 'List ℕ', 'history': 'Words', **oc.TYPES}
-ANSWERS = {'schedule': 'Outcome', 'count': 'List ℕ', 'single': 'Result', 'claim': 'ℕ', 'history': 'Verdict', **oc.ANSWERS}
-FUNCTIONS = {'schedule': 'follow', 'count': 'count', 'single': 'call', 'claim': 'next', 'history': 'judge', **oc.FUNCTIONS}
+TYPES = {'schedule': 'Schedule', 'count': 'Schedule', 'single': 'Single', 'claim': 'List ℕ', 'history': 'Words'} | oc.TYPES | cc.TYPES
+ANSWERS = {'schedule': 'Outcome', 'count': 'List ℕ', 'single': 'Result', 'claim': 'ℕ', 'history': 'Verdict'} | oc.ANSWERS | cc.ANSWERS
+FUNCTIONS = {'schedule': 'follow', 'count': 'count', 'single': 'call', 'claim': 'next', 'history': 'judge'} | oc.FUNCTIONS | cc.FUNCTIONS
 # what is computed in place of the function, and proved to be the same
 QUICKER = {'schedule': 'quickFollow', 'count': 'quickCount', 'single': 'quickCall'}
 
@@ -669,7 +671,7 @@ def with_one_wrong_value(rng, case):
         return case._replace(expected=(reply, changed_at(words, rng.randrange(len(words)), another), buffer))
     if isinstance(case, Claim):
         return case._replace(expected=another(case.expected))
-    if isinstance(case, oc.KINDS):
+    if isinstance(case, oc.KINDS + cc.KINDS):
         return case.wrong(rng)
     verdict = case.expected
     if verdict[0] == 'refused':
@@ -687,7 +689,7 @@ def twins(seed, cases):
     `wrong-K`."""
     rng = random.Random(seed)
     modules = {}
-    for kind in (Schedule, Count, Single, Claim, History, *oc.KINDS):
+    for kind in (Schedule, Count, Single, Claim, History, *oc.KINDS, *cc.KINDS):
         numbered = [(k, case) for k, case in enumerate(cases) if isinstance(case, kind)]
         pairs = [(f'right-{k}', case) for k, case in numbered]
         pairs += [(f'wrong-{k}', with_one_wrong_value(rng, case)) for k, case in numbered]
@@ -785,7 +787,7 @@ def terms(case):
         return record_term(words=numbers(case.words), made=made), expected
     if isinstance(case, Claim):
         return numbers(case.words), case.expected
-    if isinstance(case, oc.KINDS):
+    if isinstance(case, oc.KINDS + cc.KINDS):
         return case.terms()
     verdict = case.expected
     given = record_term(entries=case.entries, words=numbers(case.words))
@@ -972,7 +974,8 @@ judge w = verdict (read (w .entries) (w .words))
 
 def module(cases, names):
     """A module of cases of one kind."""
-    head = HISTORY_HEAD if isinstance(cases[0], History) else oc.HEAD if isinstance(cases[0], oc.KINDS) else STORE_HEAD
+    heads = {(History,): HISTORY_HEAD, oc.KINDS: oc.HEAD, cc.KINDS: cc.HEAD}
+    head = next((head for kinds, head in heads.items() if isinstance(cases[0], kinds)), STORE_HEAD)
     return head + ''.join(statement(name, case) for name, case in zip(names, cases))
 
 
@@ -986,27 +989,38 @@ def split(kind, cases, size):
     return modules
 
 
-def write_crate(folder, name, modules):
+def write_crate(folder, name, modules, code='// All of it stands in specs/.\n'):
     specs = folder / 'crates' / name / 'specs'
     specs.mkdir(parents=True)
     (specs.parent / 'src').mkdir()
-    (specs.parent / 'src' / 'lib.rt').write_text('// Tables. All of it stands in specs/.\n')
+    (specs.parent / 'src' / 'lib.rt').write_text(code)
     (specs / 'Lib.antt').write_text(''.join(f'pub mod {module}\n' for module in modules))
     for module, text in modules.items():
         (specs / f'{module}.antt').write_text(text)
 
 
+def definitions(crate, *modules):
+    """Some modules of a crate's definitions."""
+    return {module: (CRATES / crate / 'specs' / f'{module}.antt').read_text(encoding='utf-8') for module in modules}
+
+
 def write_repository(folder, crates):
-    """The three crates of definitions and the definitions of a fourth, the crate `tables` that puts them together, and these crates of
+    """The three crates of definitions and the definitions of some others, the crate `tables` that puts them together, and these crates of
     tables."""
     folder = Path(folder)
-    lines = ['history:', 'criterion: history', 'rules: history', 'order_check: history', 'tables: history criterion rules order_check']
+    lines = ['history:', 'criterion: history', 'rules: history', 'order_check: history', 'equivalence: history', 'matching: history']
+    lines += ['comparison: history equivalence matching']
     for name in ('history', 'criterion', 'rules'):
         shutil.copytree(CRATES / name, folder / 'crates' / name, ignore=shutil.ignore_patterns('must-fail'))
-    check = (CRATES / 'order_check' / 'specs' / 'Check.antt').read_text(encoding='utf-8')
-    write_crate(folder, 'order_check', {'Check': oc.check_alone(check)})
-    write_crate(folder, 'tables', {'Store': STORE, 'Judge': JUDGE, 'Order': oc.ORDER})
+    write_crate(folder, 'order_check', {'Check': oc.check_alone(definitions('order_check', 'Check')['Check'])})
+    write_crate(folder, 'equivalence', definitions('equivalence', 'Threads', 'Tests'))
+    write_crate(folder, 'matching', definitions('matching', 'Rows'))
+    code = (CRATES / 'comparison' / 'src' / 'lib.rt').read_text(encoding='utf-8')
+    write_crate(folder, 'comparison', definitions('comparison', 'Compared', 'Reply'), cc.types_alone(code))
+    write_crate(folder, 'tables', {'Store': STORE, 'Judge': JUDGE, 'Order': oc.ORDER, 'Compare': cc.COMPARE})
+    needed = 'history criterion rules order_check equivalence matching comparison'
+    lines.append(f'tables: {needed}')
     for name, modules in crates.items():
         write_crate(folder, name, modules)
-        lines.append(f'{name}: history criterion rules order_check tables')
+        lines.append(f'{name}: {needed} tables')
     (folder / 'crates.txt').write_text('\n'.join(lines) + '\n')

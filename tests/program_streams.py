@@ -1,5 +1,5 @@
-"""How a program reads standard input and writes standard output: tests for test_program.py and test_verdict.py, whose classes
-say which program, an input and what it prints."""
+"""How a program reads standard input and writes standard output: tests for test_program.py, test_verdict.py and test_drift.py,
+whose classes say which program, an input and what it prints."""
 
 import os
 import pathlib

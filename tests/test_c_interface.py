@@ -21,7 +21,7 @@ from intake_model import USE_LINKED
 from longest_enqueue import Run
 
 HERE = pathlib.Path(__file__).resolve().parent
-HEADERS = {'engine': ROOT / 'include' / 'intake.h', 'judge_c': ROOT / 'include' / 'judge.h'}
+HEADERS = {crate: ROOT / 'include' / f'{name}.h' for crate, name in (('engine', 'intake'), ('judge_c', 'judge'), ('comparison', 'recordings'))}
 
 # the papers' table, and what the reply words are to C
 NUMBERS = {
@@ -56,6 +56,13 @@ NUMBERS = {
     'JUDGE_REFUSED_ORDER': 16,
     'ORDER_YES': 0,
     'ORDER_NO': 1,
+    'RECORDINGS_SAME_CALLS': 0,
+    'RECORDINGS_OTHER_CALLS': 1,
+    'RECORDINGS_KEEP': 0,
+    'RECORDINGS_DO_NOT_KEEP': 1,
+    'RECORDINGS_REFUSED_LENGTH': 10,
+    'RECORDINGS_REFUSED_FORM': 12,
+    'RECORDINGS_REFUSED_FOLLOWS': 13,
 }
 
 
@@ -71,8 +78,8 @@ MACROS = {
 
 
 def compiled():
-    """c_interface.c with both archives."""
-    library = shared([HERE / 'c_interface.c', archive('engine'), archive('judge_c')], 'c_interface', '-O2', '-pthread')
+    """c_interface.c with the archives."""
+    library = shared([HERE / 'c_interface.c', *map(archive, HEADERS)], 'c_interface', '-O2', '-pthread')
     library.stack_used.restype = ctypes.c_size_t
     return library
 
@@ -266,15 +273,16 @@ class Stack(unittest.TestCase):
     @classmethod
     def setUpClass(cls):
         page = (ROOT / 'docs' / 'CLAIMS.md').read_text(encoding='utf-8')
-        rows = re.findall(r'^\| (?:the program|a call of) `(\w+)`[^|]* \| ([\d,]+) KB \|(?:.* with (\d+) KB it dies)?', page, re.M)
+        rows = re.findall(r'^\| (?:the program|a call of) `(\w+)`[^|]* \| ([\d,]+) KB \|(?:.* with ([\d,]+) KB it dies)?', page, re.M)
         cls.most = {name: 1024 * int(number.replace(',', '')) for name, number, _ in rows}
-        cls.too_little = {name: 1024 * int(number) for name, _, number in rows if number}
+        cls.too_little = {name: 1024 * int(number.replace(',', '')) for name, _, number in rows if number}
 
     def test_calls(self):
         """A call from C that takes more stack than is said."""
         library = compiled()
         itself = library.stack_used(0)
-        for which, name in ((1, 'intake_step'), (2, 'judge_history'), (3, 'order_check')):
+        calls = ('intake_step', 'judge_history', 'order_check', 'recordings_compare', 'recordings_keep_precedence')
+        for which, name in enumerate(calls, 1):
             used = library.stack_used(which)
             self.assertGreater(used, itself, name)
             self.assertLess(used - itself, self.most[name], name)
@@ -283,8 +291,8 @@ class Stack(unittest.TestCase):
         """A program that takes more stack than is said, or far less."""
         calls = 'open 64 64 16 1000000\n' + ''.join(f'e {k} 7\n' for k in range(1, 17)) + 's 1\ns 2\n' * 900 + 'd\n'
         recording = ''.join(f'1 1 {k} {k}\n2 1 {k} {k}\n3 0 0 0\n4 0 {k} {k}\n' for k in range(1, 1025))
-        for name, text in (('intake', calls), ('verdict', recording)):
-            self.assertIn('explained', self.run_with(name, text, self.most[name]).stdout.split())
+        for name, text, word in (('intake', calls, 'explained'), ('verdict', recording, 'explained'), ('drift', f'{recording}\n{recording}', 'kept')):
+            self.assertIn(word, self.run_with(name, text, self.most[name]).stdout.split())
             self.assertLess(self.run_with(name, text, self.too_little[name]).returncode, 0)
 
     def run_with(self, name, text, stack):

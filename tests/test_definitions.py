@@ -1,6 +1,6 @@
 """The definitions in antt against the model: the checker computes them over generated tables.
 
-What a table expects comes from `intake_model` and `judge_model` alone. A statement that does not hold is named by the
+What a table expects comes from `intake_model`, `judge_model` and `comparison_model` alone. A statement that does not hold is named by the
 checker, with the number of its case."""
 
 import re
@@ -8,6 +8,8 @@ import subprocess
 import tempfile
 import unittest
 
+import comparison_cases as cc
+import comparison_model as cm
 import definition_cases as dc
 import intake_model as im
 import judge_model as jm
@@ -16,13 +18,14 @@ import test_model
 
 
 def setUpModule():
-    global SCHEDULES, COUNTS, SINGLES, CLAIMS, HISTORIES, LISTINGS, LATES, CHECKS
+    global SCHEDULES, COUNTS, SINGLES, CLAIMS, HISTORIES, LISTINGS, LATES, CHECKS, COMPARISONS, KEEPINGS
     SCHEDULES = dc.schedules(1, 3_200)
     COUNTS = [dc.counted(case, 30 + k) for k, case in enumerate(SCHEDULES)]
     SINGLES = dc.singles(8, [store for case in SCHEDULES for store in dc.snapshots(case)], 2_600)
     CLAIMS = dc.claims(7, 90)
     HISTORIES = dc.histories(3, 1_600)
     LISTINGS, LATES, CHECKS = oc.listings(9, 200), oc.lates(10, 400), oc.checks(11, 800)
+    COMPARISONS, KEEPINGS = cc.comparisons(12, 600), cc.keepings(13, 600)
 
 
 def errors(output):
@@ -39,7 +42,7 @@ class Tables(unittest.TestCase):
         cls.addClassCleanup(cls.folder.cleanup)
         short = [dc.play(case.lent, case.sizes, case.calls[:9]) for case in SCHEDULES[:8]]
         cls.sample = short + [dc.counted(case, 9) for case in short[:4]] + SINGLES[::85] + CLAIMS[::67] + HISTORIES[10::53]
-        cls.sample += LISTINGS[::17] + LATES[::31] + CHECKS[::53]
+        cls.sample += LISTINGS[::17] + LATES[::31] + CHECKS[::53] + COMPARISONS[4::29] + KEEPINGS[::59]
         crates = {
             'schedules': dc.split('schedule', SCHEDULES, 10),
             'counts': dc.split('count', COUNTS, 10),
@@ -49,6 +52,8 @@ class Tables(unittest.TestCase):
             'listings': dc.split('listing', LISTINGS, 200),
             'lates': dc.split('late', LATES, 200),
             'checks': dc.split('check', CHECKS, 200),
+            'comparisons': dc.split('comparison', COMPARISONS, 200),
+            'keepings': dc.split('keeping', KEEPINGS, 200),
             'twins': dc.twins(4, cls.sample),
         }
         dc.write_repository(cls.folder.name, crates)
@@ -96,6 +101,14 @@ class Tables(unittest.TestCase):
     def test_checks_of_orders(self):
         """An order that is no linearization and is said to be one, or the other way round."""
         self.assert_proved('checks')
+
+    def test_comparisons(self):
+        """A reply of the comparison, the recording or the word of its rest, the words that are handed back, or a word for C, wrong."""
+        self.assert_proved('comparisons')
+
+    def test_keepings(self):
+        """A second recording that may be trusted and is not, or the other way round."""
+        self.assert_proved('keepings')
 
     def test_all_is_proved(self):
         """A crate of definitions that is not proved by itself."""
@@ -321,6 +334,30 @@ class Reach(unittest.TestCase):
         self.assertGreater(sum(('deq', 0, 0, ()) in case.expected for case in LISTINGS), 30)
         self.assertGreater(len({str(case) for case in LATES}), 300)
         self.assertGreater(len({str(case) for case in CHECKS}), 700)
+
+    def test_two_recordings(self):
+        """A reply that too few pairs get; too few rests of some recording, after no event, after some or after all; too few pairs with the
+        same calls of which one is another than the other, that keep the precedence or not."""
+        replies = [case.expected[0] for case in COMPARISONS]
+        for reply in ('same', 'other', *(('refused', recording, number) for recording in (1, 2) for number in (10, 12, 13))):
+            self.assertGreater(replies.count(reply), 5, reply)
+        rests = [(case.expected[1][0], shared(case)) for case in COMPARISONS if case.expected[0][0] != 'refused']
+        for recording in (1, 2):
+            for where in ('nothing', 'some', 'all of the shorter'):
+                self.assertGreater(rests.count((recording, where)), 10, (recording, where))
+        drifted = [case for case in KEEPINGS if cm.compare(case.first, case.second)[0] == 'same' and case.first != case.second]
+        for keeps in (False, True):
+            self.assertGreater(sum(case.expected == keeps for case in drifted), 50, keeps)
+        others = {cm.compare(case.first, case.second)[0] for case in KEEPINGS if not case.expected}
+        self.assertGreater(len(others), 6, others)
+        for cases in (COMPARISONS, KEEPINGS):
+            self.assertGreater(len({(tuple(case.first), tuple(case.second)) for case in cases}), 500)
+
+
+def shared(case):
+    """How much the recordings of a comparison share at their beginning."""
+    begin = case.expected[1][1]
+    return 'nothing' if begin == 0 else 'some' if begin < min(len(case.first), len(case.second)) else 'all of the shorter'
 
 
 def fault(case):

@@ -58,7 +58,7 @@ class Gate(unittest.TestCase):
     def test_passes(self):
         """A gate that counts wrongly, shows nothing on its way or loses what a part wrote."""
         status, lines = self.gate()
-        self.assertEqual((status, lines[-1]), (0, '10 passed, 0 failed'))
+        self.assertEqual((status, lines[-1]), (0, '11 passed, 0 failed'))
         self.assertIn('gate: crate 2 of 2: two proved (5 s)', lines)
         self.assertIn('gate: edit 1 of 2: one/wrong: refused, as it must be (first at src/lib.rt:1:1; 2 s)', lines)
         self.assertTrue(any(line.startswith('gate: proofs took ') for line in lines))
@@ -76,14 +76,14 @@ class Gate(unittest.TestCase):
     def test_a_part_fails(self):
         """A gate that is green although a part fails, with or without a tally of its own, or says not where to look."""
         status, lines = self.gate(HOST='1')
-        self.assertEqual((status, lines[-1]), (1, '9 passed, 1 failed'))
+        self.assertEqual((status, lines[-1]), (1, '10 passed, 1 failed'))
         self.assertTrue(any('host FAILED' in line and 'target/gate/host' in line for line in lines))
         status, lines = self.gate(EDIT='NOT REFUSED: the crate is still proved with this edit', CI='3 passed, 1 failed')
-        self.assertEqual((status, lines[-1]), (1, '9 passed, 1 failed'))
+        self.assertEqual((status, lines[-1]), (1, '10 passed, 1 failed'))
         self.assertIn('gate: edit 2 of 2: two/wrong: NOT REFUSED: the crate is still proved with this edit (2 s)', lines)
         self.assertTrue((self.top / 'target' / 'gate' / 'proofs').exists())
         status, lines = self.gate(MODEL='1')
-        self.assertEqual((status, lines[-1]), (1, '10 passed, 1 failed'))
+        self.assertEqual((status, lines[-1]), (1, '11 passed, 1 failed'))
         self.assertTrue(any('model FAILED' in line and 'target/gate/model' in line for line in lines))
 
 

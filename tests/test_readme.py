@@ -16,7 +16,9 @@ LAST = {
     'make -C host': "8000 items received, each producer's in its order",
     'rt check intake': 'rt: ok, ',
     'rt check verdict': 'rt: ok, ',
+    'rt check drift': 'rt: ok, ',
     'target/bin/intake < crates/intake/stdin': 'explained',
+    'target/bin/drift < crates/drift/stdin': '4 0 1 7',
     './example': 'call 1, value 700',
     VERDICT: 'order 1 2',
 }
@@ -63,6 +65,11 @@ class Readme(unittest.TestCase):
         self.assertEqual(printed['target/bin/intake < crates/intake/stdin'], [line[21:33].strip() for line in shown])
         with open(os.path.join(ROOT, 'crates', 'intake', 'stdin'), encoding='utf-8') as file:
             self.assertEqual(file.read().splitlines(), [line[4:21].strip() for line in shown[:-1]])
+        shown = readme().split('crates/drift/stdin\n\n')[1].split('\n\n')[0].splitlines()[1:]
+        self.assertEqual(printed['target/bin/drift < crates/drift/stdin'], [line[28:47].strip() for line in shown])
+        with open(os.path.join(ROOT, 'crates', 'drift', 'stdin'), encoding='utf-8') as file:
+            for column, recording in zip((4, 16), file.read().split('\n\n'), strict=True):
+                self.assertEqual(recording.splitlines(), [line[column : column + 12].strip() for line in shown[:-1]])
 
     def test_kinds_and_refusals(self):
         """What the README says of the recordings that `verdict` refuses, tried."""
