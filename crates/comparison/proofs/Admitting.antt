@@ -1,5 +1,5 @@
 -- The number that a recording is refused with; where it is 0, the recording is read as a history.
-use mathlib.Core.Path.{_≡_, refl, sym, ap, _∙_}
+use mathlib.Core.Path.{_≡_, refl}
 use mathlib.Core.List.{List}
 use Prim.Native.Nat.{ℕ}
 use native.Mathlib.Omega.{arith}
@@ -7,7 +7,7 @@ use Rattle.history.specs.Event.{History}
 use Rattle.history.specs.Form.{mostEvents, Reading, refused, history, read}
 use Rattle.reading.specs.declared.Entered.{Entered}
 use Rattle.reading.specs.declared.Entered.the-variants.{Refused, Calls}
-use Rattle.reading.specs.Steps.{entered, Read}
+use Rattle.reading.specs.Steps.{Read}
 use Rattle.reading.specs.Admitted.{LetThrough, read-lets-through}
 use Rattle.matching.specs.Rows.{Threaded}
 use Rattle.matching.specs.Spelled.{read-spells}

@@ -1,13 +1,13 @@
 -- The reply on what two recordings are read as.
-use mathlib.Core.Path.{_≡_, refl, sym, ap, _∙_}
+use mathlib.Core.Path.{_≡_, refl, sym, _∙_}
 use mathlib.Core.Logic.{_≢_}
-use mathlib.Core.Bool.{Bool, true, false, _&&_, cond}
+use mathlib.Core.Bool.{Bool, true, false}
 use mathlib.Core.List.{List}
 use Prim.Native.Nat.{ℕ}
 use lib.ListN.{length}
 use Rattle.history.specs.Event.{History}
 use Rattle.history.specs.Form.{mostEvents, Reading, refused, history, read}
-use Rattle.equivalence.specs.Tests.{sameCalls, keepsPrecedence}
+use Rattle.equivalence.specs.Tests.{sameCalls}
 use Rattle.matching.specs.Rows.{eventsIn, ordered}
 use Rattle.matching.specs.Match.{Matches}
 use Rattle.matching.specs.Spelled.{read-spells}

@@ -1,9 +1,9 @@
 -- The comparison of two recordings (document 02, U10): the reply, and the part that is handed back.
 use mathlib.Core.Bool.{Bool, false, _&&_, cond}
-use mathlib.Core.List.{List, []}
+use mathlib.Core.List.{List}
 use Prim.Native.Nat.{ℕ, zero, suc, _*_, min}
 use lib.Dec.{leb}
-use lib.ListN.{length, drop, set}
+use lib.ListN.{length, drop}
 use Rattle.history.specs.Form.{mostEvents, Reading, refused, history, read}
 use Rattle.equivalence.specs.Tests.{sameWords, sameCalls, keepsPrecedence}
 use Rattle.matching.specs.Rows.{eventsIn, rowAt}

@@ -1,6 +1,5 @@
 -- What C gets of the comparison: the number that is returned, and every word of the reply.
 use mathlib.Core.Path.{_≡_}
-use mathlib.Core.Bool.{Bool, cond}
 use mathlib.Core.List.{List}
 use Prim.Native.Nat.{ℕ, min}
 use lib.ListN.{set}

@@ -9,12 +9,12 @@ ghost use mathlib.Core.Path.{_≡_};
 ghost use mathlib.Core.Bool.{cond};
 ghost use Prim.Native.Nat.{_≤_, min};
 ghost use lib.Dec.{leb};
-ghost use lib.ListN.{length, drop};
+ghost use lib.ListN.{drop};
 ghost use Rattle.history.specs.Form.{mostEvents, read};
 ghost use Rattle.matching.specs.Rows.{eventsIn};
 ghost use Rattle.comparison.specs.declared.Recording.the-variants.{First, Second};
 ghost use Rattle.comparison.specs.Parts.{refusalOf, refusedWith, Both, sameIn};
-ghost use Rattle.comparison.specs.Compared.{sharedFrom, shared, restOfLonger, compared, partOf, handedBack, keepsTo};
+ghost use Rattle.comparison.specs.Compared.{shared, restOfLonger, compared, partOf, handedBack, keepsTo};
 ghost use Rattle.comparison.specs.Reply.{recordingNumber, mostWord, withRefused, withRest, numberOf, replyWords, Replies};
 
 // One of the two recordings.

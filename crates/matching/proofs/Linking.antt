@@ -1,15 +1,14 @@
 -- Linking a recording's events from the back.
 use mathlib.Core.Path.{_≡_, refl, sym, ap, subst, _∙_}
-use mathlib.Core.Logic.{_≢_}
 use mathlib.Core.List.{List}
-use Prim.Native.Nat.{ℕ, suc, _+_, _*_, _≤_, _<_}
+use Prim.Native.Nat.{ℕ, suc, _≤_, _<_}
 use native.Mathlib.Omega.{arith}
 use native.Mathlib.Decide.{ℕ-discrete}
 use lib.ListN.{length, set, getD, length-set, replicate, length-replicate, getD-replicate}
 use lib.Seq.{getD-set-same, getD-set-other}
 use Rattle.history.specs.Event.{mostProducers}
 use Rattle.history.specs.Form.{mostEvents}
-use Rattle.matching.specs.Rows.{eventsIn, threadIn, rowsOf, Threaded}
+use Rattle.matching.specs.Rows.{eventsIn, threadIn, Threaded}
 use Rattle.matching.specs.Match.{Next, Linked}
 use Rattle.matching.specs.RowLaws.{rows-skip}
 

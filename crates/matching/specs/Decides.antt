@@ -1,8 +1,7 @@
 -- What matching says of two recordings that are read as histories: whether they have the same calls, and whether the second keeps the
 -- precedence of the first.
 use mathlib.Core.Path.{_≡_, refl, sym, ap, subst, _∙_}
-use mathlib.Core.Logic.{_≢_}
-use mathlib.Core.Bool.{Bool, true, false, false≢true}
+use mathlib.Core.Bool.{Bool, true, false}
 use mathlib.Core.List.{List, [], _∷_, _++_, map, append-nil}
 use Prim.Native.Nat.{ℕ, _≤_, _<_}
 use native.Mathlib.Omega.{arith}
@@ -18,7 +17,7 @@ use Rattle.equivalence.specs.Tests.{sameCalls, keepsPrecedence}
 use Rattle.equivalence.specs.Same.{encode-tells, no-event}
 use Rattle.equivalence.specs.Decides.{same-exactly}
 use Rattle.matching.specs.Rows.{eventsIn, threadIn, rowsOf, Threaded, ordered}
-use Rattle.matching.specs.Match.{Placed, Differ, Matches}
+use Rattle.matching.specs.Match.{Placed, Matches}
 use Rattle.matching.specs.Spelled.{Thread, Spelled}
 use Rattle.matching.specs.Places.{thread-at, words-more, rows-are, test-is}
 

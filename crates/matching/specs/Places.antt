@@ -1,22 +1,20 @@
 -- From rows to events: a thread's rows are its events, and the place of a row is that of its event.
 use mathlib.Core.Path.{_≡_, refl, sym, ap, subst, _∙_}
-use mathlib.Core.Logic.{_≢_}
-use mathlib.Core.Bool.{Bool, true, false, _&&_, _||_, not, cond}
+use mathlib.Core.Bool.{Bool, _&&_, _||_, not, cond}
 use mathlib.Core.List.{List, [], _∷_, _++_, map, append-assoc, append-nil}
-use Prim.Native.Nat.{ℕ, zero, suc, _+_, _*_, _≤_, _<_, max}
+use Prim.Native.Nat.{ℕ, suc, _+_, _*_, _<_, max}
 use native.Mathlib.Omega.{arith}
 use native.Mathlib.Decide.{ℕ-discrete}
 use lib.Dec.{ltb}
 use lib.ListN.{length, getD, length-map}
 use lib.Seq.{getD-append-add}
-use Rattle.history.specs.Lists.{All}
 use Rattle.history.specs.Event.{Event, History, enqueueStarted, enqueueEnded, dequeueStarted, gaveItem, gaveEmpty}
 use Rattle.history.specs.Words.{encode, wordsOf}
 use Rattle.history.specs.WordLaws.{length-words}
 use Rattle.equivalence.specs.Threads.{threadOf, eventsOf}
 use Rattle.equivalence.specs.Tests.{isStart, place, placeIn, latestEnd, keepsPrecedence}
 use Rattle.equivalence.specs.Place.{own-event, other-event, place-last, place-stays}
-use Rattle.matching.specs.Rows.{eventsIn, kindIn, threadIn, rowAt, rowsOf, startsIn, latestOf, ordered}
+use Rattle.matching.specs.Rows.{kindIn, threadIn, rowAt, rowsOf, startsIn, latestOf, ordered}
 use Rattle.matching.specs.Match.{Placed}
 use Rattle.matching.specs.RowLaws.{rows-more, rows-skip, longer-rows}
 

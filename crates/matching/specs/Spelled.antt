@@ -1,25 +1,21 @@
 -- Words that are read as a history are its words; so its events are the rows, thread by thread.
-use mathlib.Core.Path.{_≡_, refl, sym, ap, subst, _∙_}
-use mathlib.Core.Logic.{_≢_}
-use mathlib.Core.Bool.{Bool, true, false, _&&_, _||_, not, cond, and-eq-true-iff, false≢true}
-use mathlib.Core.List.{List, [], _∷_, _++_, map, append-assoc, append-nil}
+use mathlib.Core.Path.{_≡_, refl, sym, ap, _∙_}
+use mathlib.Core.Bool.{Bool, true, false, _&&_, _||_, not, cond, and-eq-true-iff}
+use mathlib.Core.List.{List, [], _∷_, _++_, append-assoc, append-nil}
 use mathlib.Core.Option.{Option, none, some}
-use Prim.Native.Nat.{ℕ, zero, suc, _+_, _*_, _/_, _%_, _≤_, _<_}
+use Prim.Native.Nat.{ℕ, zero, suc, _+_, _/_, _%_, _≤_}
 use native.Mathlib.Omega.{arith}
 use lib.Dec.{leb, eqb, ltb}
-use lib.ListN.{length, getD}
-use lib.Seq.{getD-append-add}
-use borrow.Author.Tests.{leb-true, eqb-true, eqb-false, ltb-false}
+use lib.ListN.{length}
+use borrow.Author.Tests.{leb-true, eqb-true, ltb-false}
 use Rattle.history.specs.Lists.{All}
 use Rattle.history.specs.Event.{Event, History, enqueueStarted, enqueueEnded, dequeueStarted, gaveItem, gaveEmpty, mostProducers, isProducer, given, decode}
 use Rattle.history.specs.Words.{encode, wordsOf}
 use Rattle.history.specs.WordLaws.{length-words}
 use Rattle.history.specs.Calls.{calls}
-use Rattle.history.specs.Form.{mostEvents, wellFormed, follows, Reading, refused, history, readEvent, readEvents, read}
+use Rattle.history.specs.Form.{mostEvents, wellFormed, follows, refused, history, readEvent, readEvents, read}
 use Rattle.reading.specs.Admitted.{refused-not-read, read-lets-through}
-use Rattle.equivalence.specs.Threads.{threadOf, eventsOf}
-use Rattle.equivalence.specs.Tests.{isStart}
-use Rattle.matching.specs.Rows.{eventsIn, kindIn, threadIn, rowAt, rowsOf, startsIn, Threaded}
+use Rattle.equivalence.specs.Threads.{threadOf}
 
 -- a thread that a history may name
 abbrev pub Thread : Event → Type 0

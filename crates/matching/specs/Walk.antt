@@ -4,7 +4,7 @@ use mathlib.Core.Logic.{_≢_}
 use mathlib.Core.Bool.{Bool, true, false}
 use mathlib.Core.List.{List}
 use Prim.Native.Nat.{ℕ, _≤_, _<_}
-use lib.ListN.{length, getD}
+use lib.ListN.{getD}
 use Rattle.history.specs.Event.{mostProducers}
 use Rattle.matching.specs.Rows.{eventsIn, threadIn, rowsOf}
 use Rattle.matching.specs.Match.{Placed, Differ}

@@ -3,7 +3,7 @@ use reading::MOST_EVENTS;
 use reading::larger;
 use reading::starts;
 ghost use mathlib.Core.Path.{_≡_};
-ghost use mathlib.Core.Bool.{_||_, cond};
+ghost use mathlib.Core.Bool.{cond};
 ghost use Prim.Native.Nat.{_+_, _*_, _≤_, _<_, max};
 ghost use lib.ListN.{length, replicate};
 ghost use Rattle.history.specs.Event.{mostProducers};

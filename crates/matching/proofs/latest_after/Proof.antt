@@ -1,5 +1,4 @@
 -- `matching::latest_after` meets its contract. Assumes nothing.
-use mathlib.Core.Path.{_∙_}
 use borrow.Author.Needs.{needs}
 use Rattle.matching.proofs.latest_after.Statement.{statement}
 use Rattle.matching.proofs.latest_after.Tie as tie

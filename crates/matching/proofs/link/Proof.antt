@@ -1,7 +1,6 @@
 -- `matching::link` meets its contract. Assumes nothing.
 use mathlib.Core.Path.{_≡_}
-use Prim.Native.Nat.{suc, _≤_, _-_}
-use Rattle.matching.specs.Rows.{eventsIn}
+use Prim.Native.Nat.{suc, _-_}
 use Rattle.matching.specs.Match.{Linked}
 use Rattle.matching.proofs.Linking.{none-linked, one-linked}
 use native.Mathlib.Omega.{arith}
