@@ -6,6 +6,4 @@ pub mod Cases
 pub mod Statement
 pub mod Words
 pub mod Counted
-pub mod Upkeep
-pub mod Theorem
 pub mod Runs

@@ -1,5 +1,5 @@
 -- A board that only its own calls have written (document 02, U13): every list of calls after an open. Definitions and the statement alone; the
--- proof is `kept` of Theorem.antt.
+-- proof is `kept` of proofs/Theorem.antt.
 use Rattle.std.specs.Prelude.{◌≡◌, ◌≢◌, Bool, ◌&&◌, cond, List, [], ◌∷◌, ℕ, zero, suc, ◌+◌, ◌≤◌, ◌<◌, eqb, get_or, set}
 use Rattle.census_rules.specs.Board.{beds, Rules, row_of, rules_on}
 use Rattle.census_rules.specs.Table.{last_office, is_table, rules_in}

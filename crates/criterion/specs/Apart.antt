@@ -72,6 +72,7 @@ number_starts_once i t v j u w n (f ∷ h) f-ok (inl p) (inl q) = cc (p.0, q.0)
 number_starts_once i t v j u w n (f ∷ h) f-ok (inl p) (inr b) = absurd (starts_anew t n v u w j f h f-ok p.1 b)
 number_starts_once i t v j u w n (f ∷ h) f-ok (inr a) (inl q) = absurd (starts_anew u n w t v i f h f-ok q.1 a)
 number_starts_once i t v j u w n (f ∷ h) f-ok (inr a) (inr b) = number_starts_once i t v j u w n h (tail_formed f h f-ok) a b
+number_starts_once i t v j u w n [] f-ok m _ = elim m [ ]
 
 pub same_number :
     (h : History) → well_formed h ≡ true → (x y : Enqueue) → Member (enq x) (calls h) → Member (enq y) (calls h)
@@ -130,6 +131,7 @@ ended_by_next (gave_item n v ∷ h) w d m j (inr a) l =
     answers_first _ (item n v) (calls h) j d (λ b o s. ended_by_next h (tail_formed (gave_item n v) h w) b o j a s) m l
 ended_by_next (gave_empty ∷ h) w d m j (inr a) l =
     answers_first _ empty (calls h) j d (λ b o s. ended_by_next h (tail_formed gave_empty h w) b o j a s) m l
+ended_by_next [] w d m j _ l = elim m [ ]
 
 pub one_at_a_time :
     (h : History) → well_formed h ≡ true → (d b : Dequeue) → Member (deq d) (calls h) → Member (deq b) (calls h)

@@ -22,6 +22,8 @@ use Rattle.criterion.specs.Fifo.{run_parts, run_first, gives_its_item, finds_not
 -- an enqueue among some calls
 is_enqueue : (c : Call) (x : Enqueue) → Member x (enqueue_of c) → c ≡ enq x
 is_enqueue (enq y) x (inl e) = ap enq (sym e)
+is_enqueue (enq y) x (inr m) = elim m [ ]
+is_enqueue (deq _) x m = elim m [ ]
 
 enqueue_in : (cs : List Call) (x : Enqueue) → Member (enq x) cs → Member x (enqueues_of cs)
 enqueue_in cs x m = in_gather enqueue_of (enq x) x cs m (inl refl)

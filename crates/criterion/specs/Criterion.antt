@@ -1,7 +1,7 @@
 -- The criterion: a well-formed history is explained exactly when it is linearizable, the order that shows it is a function of
 -- the history and of the items that are to be left, and the judge's pass computes the verdict.
 use Rattle.std.specs.Prelude.{◌≡◌, true, ◌↔◌}
-use Rattle.std.proofs.Math.Logic.{Iff·trans}
+use Rattle.std.proofs.Math.Logic.Iff
 use Rattle.history.specs.Event.{History}
 use Rattle.history.specs.Form.{well_formed}
 use Rattle.history.specs.Linearization.{Queue, Linearization, Linearizable}
@@ -30,4 +30,4 @@ criterion h formed = (
 
 -- The judge's pass finds out which.
 pub verdict : (h : History) → well_formed h ≡ true → (explains h ≡ true) ↔ Linearizable h
-verdict h formed = Iff·trans (explains_is h formed) (criterion h formed)
+verdict h formed = Iff.trans (explains_is h formed) (criterion h formed)

@@ -86,6 +86,7 @@ fits_dequeue (give e a f) d (inl q) = inl (ap deq q)
 fits_dequeue (give e a f) d (inr m) = inr (fits_dequeue f d m)
 fits_dequeue (find_none e a f) d (inl q) = inl (ap deq q)
 fits_dequeue (find_none e a f) d (inr m) = inr (fits_dequeue f d m)
+fits_dequeue (done {q = q} {p = p}) d m = elim m [ ]
 
 -- It keeps to the times, and no two of its calls start at one event.
 abbrev pub Timely : Call → Call → Type 0

@@ -3,7 +3,7 @@
 use Rattle.std.specs.Prelude.{◌≡◌, refl, ◌≢◌, Bool, true, false, ◌&&◌, ◌||◌, not, List, [], ◌∷◌, ℕ, eqb}
 use Rattle.std.proofs.Common.{sym, ◌∙◌, inl, inr, true≢false, eqb-true, eq-eqb, ne_eqb}
 use Rattle.std.proofs.Math.Bool.{and-eq-true_iff}
-use Rattle.std.proofs.lemmas.Bool.{false≢true, eqb-false, not_true}
+use Rattle.std.proofs.lemmas.Bool.{false≢true, eqb-false, not-true}
 use Rattle.history.specs.Lists.{Member}
 use Rattle.history.specs.Event.{Event, History, enqueue_started, enqueue_ended, dequeue_started}
 use Rattle.history.specs.Calls.{Enqueue, Dequeue, Call, enq, deq, calls}
@@ -17,6 +17,7 @@ or_right false b e = e
 pub any_of : (p : Call → Bool) (cs : List Call) (c : Call) → Member c cs → p c ≡ true → any p cs ≡ true
 any_of p (b ∷ cs) c (inl e) q = rw (← e, q)
 any_of p (b ∷ cs) c (inr m) q = or_right (p b) (any p cs) (any_of p cs c m q)
+any_of p [] c m q = elim m [ ]
 
 pub any_at : (p : Call → Bool) (cs : List Call) → any p cs ≡ true → (c : Call) × Member c cs × (p c ≡ true)
 any_at p [] e = absurd (false≢true e)
@@ -63,7 +64,7 @@ module _ (t n v : ℕ) (cs : List Call) where
   both_tests : follows (enqueue_started t n v) cs ≡ true → (any (enqueues t) cs ≡ false) × (any (has_number n) cs ≡ false)
   both_tests f =
       let r = (and-eq-true_iff (not (any (enqueues t) cs)) (not (any (has_number n) cs))).0 f in
-      (not_true _ r.0, not_true _ r.1)
+      (not-true _ r.0, not-true _ r.1)
 
   pub thread_is_free : follows (enqueue_started t n v) cs ≡ true → (x : Enqueue) → Member (enq x) cs → x.thread ≡ t → x.end ≢ 0
   thread_is_free f x m p q = true≢false (sym (is_busy t x p q) ∙ none_at (enqueues t) cs (both_tests f).0 (enq x) m)
@@ -106,7 +107,7 @@ module _ (t n v : ℕ) (cs : List Call) where
 
 module _ (cs : List Call) where
   pub consumer_is_free : follows dequeue_started cs ≡ true → (d : Dequeue) → Member (deq d) cs → d.end ≢ 0
-  consumer_is_free f d m = eqb-false _ _ (none_at dequeues cs (not_true _ f) (deq d) m)
+  consumer_is_free f d m = eqb-false _ _ (none_at dequeues cs (not-true _ f) (deq d) m)
 
   pub may_dequeue : ((d : Dequeue) → Member (deq d) cs → d.end ≢ 0) → follows dequeue_started cs ≡ true
   may_dequeue f = rw (none_of dequeues cs idle)

@@ -14,6 +14,9 @@ use Rattle.criterion.specs.Orderly.{item_not_nothing, empty_not_nothing}
 is_answered : (a : Answer) (d b : Dequeue) → Member b (if_answered a d) → (b ≡ d) × (a ≢ nothing)
 is_answered (item n v) d b (inl e) = (e, item_not_nothing)
 is_answered empty d b (inl e) = (e, empty_not_nothing)
+is_answered nothing d b m = elim m [ ]
+is_answered (item n v) d b (inr m) = elim m [ ]
+is_answered empty d b (inr m) = elim m [ ]
 
 answered_is : (a : Answer) (d : Dequeue) → a ≢ nothing → Member d (if_answered a d)
 answered_is nothing d f = absurd (f refl)
@@ -24,6 +27,7 @@ is_dequeue : (c : Call) (d : Dequeue) → Member d (dequeue_of c) → (c ≡ deq
 is_dequeue (deq b) d m =
     let r = is_answered b.answer b d m in
     (ap deq (sym r.0), λ q. r.1 (ap (λ (z : Dequeue). z.answer) (sym r.0) ∙ q))
+is_dequeue (enq _) d m = elim m [ ]
 
 pub of_calls : (cs : List Call) (d : Dequeue) → Member d (dequeues_of cs) → Member (deq d) cs × (d.answer ≢ nothing)
 of_calls cs d m =
@@ -63,6 +67,7 @@ look_finds n x (enq y ∷ cs) m e u = go (eqb y.number n) refl m (look_finds n x
     go false q (inr m) ih = ih m e (λ z k. u z (inr k))
 look_finds n x (deq d ∷ cs) (inl p) e u = absurd (enq_not_deq p)
 look_finds n x (deq d ∷ cs) (inr m) e u = look_finds n x cs m e (λ y k. u y (inr k))
+look_finds n x [] m e u = elim m [ ]
 
 pub look_is : (n : ℕ) (y : Enqueue) (cs : List Call) → Member y (look n cs) → Member (enq y) cs × (y.number ≡ n)
 look_is n y (enq x ∷ cs) m = go (eqb x.number n) refl m (look_is n y cs)
@@ -72,7 +77,9 @@ look_is n y (enq x ∷ cs) m = go (eqb x.number n) refl m (look_is n y cs)
         → (Member y (look n cs) → Member (enq y) cs × (y.number ≡ n)) → Member (enq y) (enq x ∷ cs) × (y.number ≡ n)
     go true q (inl e) ih = (inl (ap enq e), ap (λ (z : Enqueue). z.number) e ∙ eqb-true _ _ q)
     go false q m ih = let r = ih m in (inr r.0, r.1)
+    go true q (inr m) ih = elim m [ ]
 look_is n y (deq d ∷ cs) m = let r = look_is n y cs m in (inr r.0, r.1)
+look_is n y [] m = elim m [ ]
 
 -- the enqueues that the dequeues take
 pub record TakenBy (cs : List Call) (ds : List Dequeue) (y : Enqueue) : Type 0 where
@@ -89,6 +96,8 @@ taken_by cs ds y m = let r = from_gather (λ d. look_answer cs d.answer) y ds m 
     at d k (item n v) e l =
         let r = look_is n y cs l in
         record { by = d; value = v; among = k; gives = e ∙ ap (λ i. item i v) (sym r.1); member = r.0 }
+    at d k nothing e l = elim l [ ]
+    at d k empty e l = elim l [ ]
 
 pub taken_has :
     (cs : List Call) (ds : List Dequeue) (d : Dequeue) (n v : ℕ) (x : Enqueue) → Member d ds → d.answer ≡ item n v

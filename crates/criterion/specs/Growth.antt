@@ -52,6 +52,7 @@ open_is_current (dequeue_started ∷ h) w x m z =
 open_is_current (gave_item n v ∷ h) w x m z =
     open_is_current h (tail_formed (gave_item n v) h w) x (enqueue_in_answered _ (item n v) (calls h) x m) z
 open_is_current (gave_empty ∷ h) w x m z = open_is_current h (tail_formed gave_empty h w) x (enqueue_in_answered _ empty (calls h) x m) z
+open_is_current [] w x m z = elim m [ ]
 
 abbrev IsOpen : ℕ → Item → List Call → Type 0
 IsOpen t i cs = (x : Enqueue) × Member (enq x) cs × (x.thread ≡ t) × (x.end ≡ 0) × (item_of x ≡ i)
@@ -91,6 +92,7 @@ open_is_dequeuing (enqueue_ended t n v ∷ h) w d m z =
 open_is_dequeuing (dequeue_started ∷ h) w d m z = refl
 open_is_dequeuing (gave_item n v ∷ h) w d m z = absurd (none_open (item n v) h d m z)
 open_is_dequeuing (gave_empty ∷ h) w d m z = absurd (none_open empty h d m z)
+open_is_dequeuing [] w d m z = elim m [ ]
 
 pub dequeuing_is_open : (h : History) → dequeuing h ≡ true → (d : Dequeue) × Member (deq d) (calls h) × (d.end ≡ 0)
 dequeuing_is_open [] e = absurd (false≢true e)
@@ -116,6 +118,7 @@ number_is_begun (dequeue_started ∷ h) x m =
     elim (in_snoc (enq x) (calls h) _ m) [ inl l ↦ number_is_begun h x l | inr e ↦ absurd (enq_not_deq e) ]
 number_is_begun (gave_item n v ∷ h) x m = number_is_begun h x (enqueue_in_answered _ (item n v) (calls h) x m)
 number_is_begun (gave_empty ∷ h) x m = number_is_begun h x (enqueue_in_answered _ empty (calls h) x m)
+number_is_begun [] x m = elim m [ ]
 
 -- The engine's side: each kind of event may come next.
 module _ (h : History) (w : well_formed h ≡ true) where

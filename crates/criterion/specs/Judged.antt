@@ -181,6 +181,7 @@ module _ (h : History) (w : well_formed h ≡ true) where
   fair_on b (deq c ∷ l) split mark given k e d (inr m) =
       let r = (answers_fairly b l c split mark given k e).1 in
       fair_on (b ++ (deq c ∷ [])) l (rw append_assoc split) r.0 r.1 r.2 r.3 d m
+  fair_on b [] split mark given k e d m = elim m [ ]
 
   -- The other way round: where every dequeue is fair, the pass succeeds.
   pass_on_lem :

@@ -3,7 +3,7 @@
 use Rattle.std.specs.Prelude.{◌≡◌, refl, ◌⊎◌, ◌≢◌, Bool, true, false, ◌&&◌, ◌||◌, not, List, [], ◌∷◌, ℕ, max, ◌≤◌, ◌<◌, leb, eqb}
 use Rattle.std.proofs.Common.{sym, subst, ◌∙◌, inl, inr, true≢false, arith, eqb-true, eq-eqb, leb-true, le-leb}
 use Rattle.std.proofs.Math.Bool.{and-eq-true_iff}
-use Rattle.std.proofs.lemmas.Bool.{false≢true, eqb-false, not_true}
+use Rattle.std.proofs.lemmas.Bool.{false≢true, eqb-false, not-true}
 use Rattle.std.proofs.Math.Decide.{dec_lt}
 use Rattle.history.specs.Lists.{Member}
 use Rattle.history.specs.Calls.{Enqueue, Call, enq, deq}
@@ -28,6 +28,7 @@ has_is n (k ∷ given) e = elim (either (eqb k n) (has n given) e) [ inl p ↦ i
 pub is_has : (n : ℕ) (given : List ℕ) → Member n given → has n given ≡ true
 is_has n (k ∷ given) (inl e) = left_true (eqb k n) (has n given) (eq-eqb k n (sym e))
 is_has n (k ∷ given) (inr m) = or_right (eqb k n) (has n given) (is_has n given m)
+is_has n [] m = elim m [ ]
 
 pub has_not : (n : ℕ) (given : List ℕ) → (Member n given → ⊥) → has n given ≡ false
 has_not n given f = go (has n given) refl
@@ -70,6 +71,7 @@ leaves_is mark given (enq x ∷ cs) e y m s =
     own q (inl p) = subst (λ z. Member z.number given) (sym (same_enq q)) (has_is x.number given p)
     own q (inr p) = absurd (past_is mark x p (subst (Short mark) (same_enq q) s))
 leaves_is mark given (deq d ∷ cs) e y m s = elim m [ inl q ↦ absurd (enq_not_deq q) | inr k ↦ leaves_is mark given cs e y k s ]
+leaves_is mark given [] e y m s = elim m [ ]
 
 pub is_leaves : (mark : ℕ) (given : List ℕ) (cs : List Call) → Marks cs mark given → leaves mark given cs ≡ true
 is_leaves mark given [] f = refl
@@ -120,7 +122,7 @@ module _ (cs : List Call) (n v k mark : ℕ) (given : List ℕ) (on : ℕ → Li
               member = l.0;
               number_is = l.1;
               value_is = eqb-true _ _ f.0;
-              new = λ m. true≢false (sym (is_has n given m) ∙ not_true _ f.1);
+              new = λ m. true≢false (sym (is_has n given m) ∙ not-true _ f.1);
               started = leb-true _ _ c.1;
               not_short = past_is mark x b.1;
             },

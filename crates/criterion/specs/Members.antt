@@ -9,6 +9,7 @@ module _ {A : Type 0} where
   pub all_at : (P : A → Type 0) (xs : List A) → All P xs → (a : A) → Member a xs → P a
   all_at P (x ∷ xs) p a (inl e) = subst P (sym e) p.0
   all_at P (x ∷ xs) p a (inr m) = all_at P xs p.1 a m
+  all_at P [] p a m = elim m [ ]
 
   pub all_of : (P : A → Type 0) (xs : List A) → ((a : A) → Member a xs → P a) → All P xs
   all_of P [] f = tt
@@ -20,6 +21,7 @@ module _ {A : Type 0} where
   pub in_left : (a : A) (xs ys : List A) → Member a xs → Member a (xs ++ ys)
   in_left a (x ∷ xs) ys (inl e) = inl e
   in_left a (x ∷ xs) ys (inr m) = inr (in_left a xs ys m)
+  in_left a [] ys m = elim m [ ]
 
   pub in_right : (a : A) (xs ys : List A) → Member a ys → Member a (xs ++ ys)
   in_right a [] ys m = m
@@ -55,6 +57,7 @@ module _ {A : Type 0} where
   pub pairwise_across : (R : A → A → Type 0) (xs ys : List A) → Pairwise R (xs ++ ys) → (a b : A) → Member a xs → Member b ys → R a b
   pairwise_across R (x ∷ xs) ys p a b (inl e) n = subst (λ z. R z b) (sym e) (all_at (R x) (xs ++ ys) p.0 b (in_right b xs ys n))
   pairwise_across R (x ∷ xs) ys p a b (inr m) n = pairwise_across R xs ys p.1 a b m n
+  pairwise_across R [] ys p a b m n = elim m [ ]
 
   pub pairwise_append :
       (R : A → A → Type 0) (xs ys : List A) → Pairwise R xs → Pairwise R ys → All (λ a. All (R a) ys) xs → Pairwise R (xs ++ ys)
@@ -67,6 +70,7 @@ module _ {A : Type 0} where
   pairwise_at R (x ∷ xs) p a b (inl e) (inr n) = inr (inl (subst (λ z. R z b) (sym e) (all_at (R x) xs p.0 b n)))
   pairwise_at R (x ∷ xs) p a b (inr m) (inl f) = inr (inr (subst (λ z. R z a) (sym f) (all_at (R x) xs p.0 a m)))
   pairwise_at R (x ∷ xs) p a b (inr m) (inr n) = pairwise_at R xs p.1 a b m n
+  pairwise_at R [] p a b m _ = elim m [ ]
 
   pub pairwise_both : (R S : A → A → Type 0) (xs : List A) → Pairwise R xs → Pairwise S xs → Pairwise (λ a b. R a b × S a b) xs
   pairwise_both R S [] p q = tt
@@ -90,15 +94,18 @@ module _ {A : Type 0} where
   pub split_at : (a : A) (xs : List A) → Member a xs → (b c : List A) × (xs ≡ b ++ (a ∷ c))
   split_at a (x ∷ xs) (inl e) = ([], xs, ap (λ z. z ∷ xs) (sym e))
   split_at a (x ∷ xs) (inr m) = let s = split_at a xs m in (x ∷ s.0, s.1, ap (λ z. x ∷ z) s.2)
+  split_at a [] m = elim m [ ]
 
 module _ {A B : Type 0} where
   pub in_map : (f : A → B) (a : A) (xs : List A) → Member a xs → Member (f a) (map f xs)
   in_map f a (x ∷ xs) (inl e) = inl (ap f e)
   in_map f a (x ∷ xs) (inr m) = inr (in_map f a xs m)
+  in_map f a [] m = elim m [ ]
 
   pub from_map : (f : A → B) (b : B) (xs : List A) → Member b (map f xs) → (a : A) × Member a xs × (b ≡ f a)
   from_map f b (x ∷ xs) (inl e) = (x, inl refl, e)
   from_map f b (x ∷ xs) (inr m) = let r = from_map f b xs m in (r.0, inr r.1, r.2)
+  from_map f b [] m = elim m [ ]
 
   pub pairwise_map :
       (R : B → B → Type 0) (S : A → A → Type 0) (f : A → B) (xs : List A) → ((a b : A) → S a b → R (f a) (f b)) → Pairwise S xs
@@ -129,6 +136,7 @@ module _ {A B : Type 0} where
   pub in_gather : (f : A → List B) (a : A) (b : B) (xs : List A) → Member a xs → Member b (f a) → Member b (gather f xs)
   in_gather f a b (x ∷ xs) (inl e) m = in_left b (f x) (gather f xs) (subst (λ z. Member b (f z)) e m)
   in_gather f a b (x ∷ xs) (inr n) m = in_right b (f x) (gather f xs) (in_gather f a b xs n m)
+  in_gather f a b [] h m = elim h [ ]
 
   pub from_gather : (f : A → List B) (b : B) (xs : List A) → Member b (gather f xs) → (a : A) × Member a xs × Member b (f a)
   from_gather f b (x ∷ xs) m =
@@ -137,6 +145,7 @@ module _ {A B : Type 0} where
         | inr l ↦ let r =
             from_gather f b xs l in (r.0, inr r.1, r.2)
       ]
+  from_gather f b [] m = elim m [ ]
 
   pub pairwise_gather :
       (R : A → A → Type 0) (S : B → B → Type 0) (f : A → List B) (xs : List A) → Pairwise R xs → ((a : A) → Pairwise S (f a))

@@ -136,10 +136,12 @@ explained_item :
     → (g : History) × (g ⊑ h) × (k ≡ suc (length g)) × MayGive n v g
 explained_item k n v (f ∷ h) x (inl p) = (h, later now, p.0, (subst (λ e. Explained (e ∷ h) → MayGive n v h) p.1 (λ y. y.0)) x)
 explained_item k n v (f ∷ h) x (inr a) = let r = explained_item k n v h (explained_before f h x) a in (r.0, later r.1, r.2, r.3)
+explained_item k n v [] x m = elim m [ ]
 
 explained_empty : (k : ℕ) (h : History) → Explained h → At k gave_empty h → (g : History) × (g ⊑ h) × (k ≡ suc (length g)) × MayBeEmpty g
 explained_empty k (f ∷ h) x (inl p) = (h, later now, p.0, (subst (λ e. Explained (e ∷ h) → MayBeEmpty h) p.1 (λ y. y.0)) x)
 explained_empty k (f ∷ h) x (inr a) = let r = explained_empty k h (explained_before f h x) a in (r.0, later r.1, r.2, r.3)
+explained_empty k [] x m = elim m [ ]
 
 module _ (h : History) (w : well_formed h ≡ true) where
   pub explained_is_orderly : Explained h → Orderly (calls h)

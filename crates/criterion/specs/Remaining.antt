@@ -1,6 +1,6 @@
 -- One order in which items may be left: those of the enqueues that have ended and were not taken, in the order of their starts.
 use Rattle.std.specs.Prelude.{◌≡◌, refl, ◌≢◌, Bool, true, false, ◌||◌, cond, List, [], ◌∷◌, map, ℕ, ◌<◌, eqb}
-use Rattle.std.proofs.Common.{sym, subst₂, ◌∙◌, inl, true≢false, arith, eqb-true, eq-eqb, ne_eqb}
+use Rattle.std.proofs.Common.{sym, subst₂, ◌∙◌, inl, inr, true≢false, arith, eqb-true, eq-eqb, ne_eqb}
 use Rattle.std.proofs.Math.Path.{ap, subst}
 use Rattle.std.proofs.lemmas.Bool.{false≢true, eqb-false}
 use Rattle.history.specs.Lists.{Pairwise, Member}
@@ -51,9 +51,10 @@ is_left cs (enq y) x m = go (eqb y.end 0) (any (gives y.number) cs) refl refl m
     go false false p q (inl e) = (
       ap enq (sym e),
       λ z. eqb-false _ _ p (ap (λ (z : Enqueue). z.end) (sym e) ∙ z),
-      subst
-          (λ z. any (gives z.number) cs ≡ false) (sym e) q,
+      subst (λ z. any (gives z.number) cs ≡ false) (sym e) q,
     )
+    go false false p q (inr m) = elim m [ ]
+is_left cs (deq _) x m = elim m [ ]
 
 is_one : (cs : List Call) (R : Enqueue → Enqueue → Type 0) (c : Call) → Pairwise R (if_left cs c)
 is_one cs R (enq x) = go (eqb x.end 0 || any (gives x.number) cs)

@@ -2,7 +2,7 @@
 use Rattle.std.specs.Prelude.{◌≡◌, refl, ◌⊎◌, ◌≢◌, Bool, true, false, ◌&&◌, ◌||◌, not, List, [], ◌∷◌, ◌++◌, map, ℕ, ◌≤◌, ◌<◌, eqb, ltb}
 use Rattle.std.proofs.Common.{sym, subst, ◌∙◌, inl, inr, true≢false, append_assoc, arith, ltb-true, lt-ltb, ne_eqb}
 use Rattle.std.proofs.Math.Bool.{and-eq-true_iff}
-use Rattle.std.proofs.lemmas.Bool.{false≢true, eqb-false, not_true}
+use Rattle.std.proofs.lemmas.Bool.{false≢true, eqb-false, not-true}
 use Rattle.history.specs.Lists.{All, Pairwise}
 use Rattle.history.specs.Calls.{Answer, nothing, item, empty, Enqueue, Dequeue, Call, enq, deq}
 use Rattle.history.specs.Linearization.{Precedes}
@@ -39,7 +39,7 @@ neither false b e = (refl, e)
 ended_is : (s : ℕ) (x : Enqueue) → ended_before s x ≡ true → (x.end ≢ 0) × (x.end < s)
 ended_is s x e =
     let b = (and-eq-true_iff (not (eqb x.end 0)) (ltb x.end s)).0 e in
-    (eqb-false _ _ (not_true _ b.0), ltb-true _ _ b.1)
+    (eqb-false _ _ (not-true _ b.0), ltb-true _ _ b.1)
 
 ended_not : (s : ℕ) (x : Enqueue) → ended_before s x ≡ false → Lasts s x
 ended_not s x e z l = true≢false (sym (rw (ne_eqb x.end 0 z, lt-ltb x.end s l)) ∙ e)
@@ -130,6 +130,8 @@ module _ (d : Dequeue) (ds : List Dequeue) (r : List Enqueue) where
       go [] empty e v u f = find_none e none_before (ih [] p t v.1 tt)
       go (y ∷ q) (item n w) e v u f = give {d = d} {x = y} (cc (e, v.0, v.1)) none_before (ih q p t v.3 u)
       go (y ∷ q) empty e v u f = absurd (not_due d.start y q p v.0 u)
+      go [] nothing e v u f = elim v [ ]
+      go (y ∷ q) nothing e v u f = elim v [ ]
 
   -- it finds an item in the queue, if it gives one and no enqueue is left to be put before it
   finds_at_end : (q : List Enqueue) → Serves (d ∷ ds) (q ++ []) r → q ≡ [] → is_item d.answer ≡ true → ⊥
@@ -138,6 +140,7 @@ module _ (d : Dequeue) (ds : List Dequeue) (r : List Enqueue) where
       go : (b : Answer) → ServeWith b [] → is_item b ≡ true → ⊥
       go (item n w) v i = v
       go empty v i = false≢true i
+      go nothing v i = elim v [ ]
   finds_at_end (y ∷ q) v e i = let z : ◌≡◌ {A = ℕ} 0 1 = cc in omega arith
 
   -- an enqueue that it takes from the empty queue started before it ended
@@ -149,6 +152,8 @@ module _ (d : Dequeue) (ds : List Dequeue) (r : List Enqueue) where
       go [] empty v e = absurd (false≢true e)
       go (y ∷ q) (item n w) v e = absurd (false≢true e)
       go (y ∷ q) empty v e = absurd (false≢true e)
+      go [] nothing v e = elim v [ ]
+      go (y ∷ q) nothing v e = elim v [ ]
 
   -- what it takes leaves the queue empty again
   due_taken : (b : Answer) (q : List Enqueue) (x : Enqueue) → (is_item b && is_empty q) ≡ true → DueFor b d.start (q ++ (x ∷ []))

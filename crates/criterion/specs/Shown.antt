@@ -39,6 +39,7 @@ leads (b ∷ cs) r c m = go (eqb (start_of b) (start_of c)) refl m (leads cs r.1
     go true e (inr k) ih = absurd (let l = all_at _ cs r.0 c k in let s = eqb-true (start_of b) (start_of c) e in omega arith)
     go false e (inl q) ih = absurd (eqb-false _ _ e (ap start_of (sym q)))
     go false e (inr k) ih = leads_on b cs c (starting_number cs c) (ih k)
+leads [] r c m = elim m [ ]
 
 numbers_listed :
     (cs : List Call) → Pairwise (λ a b. start_of a < start_of b) cs → (o : List Call) → All (λ c. Member c cs) o
@@ -52,6 +53,7 @@ without c (b ∷ cs) (inl e) = (cs, refl, λ a m f. elim m [ inl q ↦ absurd (f
 without c (b ∷ cs) (inr m) =
     let r = without c cs m in
     (b ∷ r.0, ap suc r.1, λ a k f. elim k [ inl q ↦ inl q | inr l ↦ inr (r.2 a l f) ])
+without c [] m = elim m [ ]
 
 few : (o cs : List Call) → All (λ c. Member c cs) o → Pairwise (λ a b. start_of a ≢ start_of b) o → length o ≤ length cs
 few [] cs a p = omega arith

@@ -1,6 +1,6 @@
 -- The calls of a well-formed history and its events: each call tells the times of its own start and end, and every such event
 -- has its call.
-use Rattle.std.specs.Prelude.{◌≡◌, refl, ◌≢◌, true, ◌∷◌, map, ℕ, suc, ◌≤◌, ◌<◌, length}
+use Rattle.std.specs.Prelude.{◌≡◌, refl, ◌≢◌, true, ◌∷◌, map, ℕ, suc, ◌≤◌, ◌<◌, length, []}
 use Rattle.std.proofs.Common.{sym, ap, subst, ◌∙◌, inl, inr, arith}
 use Rattle.history.specs.Lists.{Member}
 use Rattle.history.specs.Event.{Event, History, enqueue_started, enqueue_ended, dequeue_started, gave_item, gave_empty}
@@ -68,6 +68,7 @@ enqueue_tells (gave_item n v ∷ h) w x m =
     (enqueue_tells h (tail_formed (gave_item n v) h w) x (enqueue_in_answered _ (item n v) (calls h) x m))
 enqueue_tells (gave_empty ∷ h) w x m =
     tells_on gave_empty (enqueue_tells h (tail_formed gave_empty h w) x (enqueue_in_answered _ empty (calls h) x m))
+enqueue_tells [] w x m = elim m [ ]
 
 -- what a dequeue tells
 abbrev pub Gave : Answer → ℕ → History → Type 0
@@ -78,6 +79,7 @@ Gave empty k h = At k gave_empty h
 gave_on : (a : Answer) (k : ℕ) (f : Event) (h : History) → Gave a k h → Gave a k (f ∷ h)
 gave_on (item n v) k f h g = inr g
 gave_on empty k f h g = inr g
+gave_on nothing k f h g = elim g [ ]
 
 pub record DequeueTold (d : Dequeue) (h : History) : Type 0 where
   pub started : At d.start dequeue_started h
@@ -134,6 +136,7 @@ dequeue_tells (dequeue_started ∷ h) w d m =
 dequeue_tells (gave_item n v ∷ h) w d m =
     told_answered (item n v) (gave_item n v) h d (inl (refl, refl)) (dequeue_tells h (tail_formed (gave_item n v) h w)) m
 dequeue_tells (gave_empty ∷ h) w d m = told_answered empty gave_empty h d (inl (refl, refl)) (dequeue_tells h (tail_formed gave_empty h w)) m
+dequeue_tells [] w d m = elim m [ ]
 
 -- Every event has its call.
 pub enqueue_of_start :
@@ -144,6 +147,7 @@ enqueue_of_start k t n v (f ∷ h) (inl p) = (
       (in_right _ (calls h) _ (inl (ap (λ j. enq (opened t n v j)) p.0))),
 )
 enqueue_of_start k t n v (f ∷ h) (inr a) = let r = enqueue_of_start k t n v h a in enqueue_goes_on f h _ r.1
+enqueue_of_start k t n v [] m = elim m [ ]
 
 pub dequeue_of_start : (k : ℕ) (h : History) → At k dequeue_started h → (d : Dequeue) × Member (deq d) (calls h) × (d.start ≡ k)
 dequeue_of_start k (f ∷ h) (inl p) = (
@@ -156,6 +160,7 @@ dequeue_of_start k (f ∷ h) (inr a) =
     let r = dequeue_of_start k h a in
     let s = dequeue_goes_on f h r.0 r.1 in
     (_, s.2, r.2)
+dequeue_of_start k [] m = elim m [ ]
 
 abbrev EnqueueEnds : (k n v : ℕ) → History → Type 0
 EnqueueEnds k n v h = (x : Enqueue) × Member (enq x) (calls h) × (x.end ≡ k) × (x.number ≡ n) × (x.value ≡ v)
@@ -171,6 +176,7 @@ enqueue_of_end k t n v (f ∷ h) w (inr a) =
     let r = enqueue_of_end k t n v h (tail_formed f h w) a in
     let b = at_most k _ h a in
     (r.0, ended_stays f h (enq r.0) r.1 (λ z. let q = r.2 in omega arith), r.2, r.3, r.4)
+enqueue_of_end k t n v [] w m = elim m [ ]
 
 abbrev DequeueEnds : ℕ → Answer → History → Type 0
 DequeueEnds k a h = (d : Dequeue) × Member (deq d) (calls h) × (d.end ≡ k) × (d.answer ≡ a)
@@ -195,3 +201,6 @@ dequeue_of_end k (item n v) (f ∷ h) w (inr g) =
 dequeue_of_end k empty (f ∷ h) w (inl p) =
     subst (λ e. well_formed (e ∷ h) ≡ true → DequeueEnds k empty (e ∷ h)) p.1 (rw p.0 (ends_now empty gave_empty h refl refl)) w
 dequeue_of_end k empty (f ∷ h) w (inr g) = ended_on empty f h k (at_most k _ h g).0 (dequeue_of_end k empty h (tail_formed f h w) g)
+dequeue_of_end k nothing h w m = elim m [ ]
+dequeue_of_end k (item n v) [] w m = elim m [ ]
+dequeue_of_end k empty [] w m = elim m [ ]

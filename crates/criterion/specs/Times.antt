@@ -13,12 +13,14 @@ At k e (f ∷ h) = ((k ≡ suc (length h)) × (e ≡ f)) ⊎ At k e h
 pub at_most : (k : ℕ) (e : Event) (h : History) → At k e h → (1 ≤ k) × (k ≤ length h)
 at_most k e (f ∷ h) (inl p) = omega arith
 at_most k e (f ∷ h) (inr a) = let b = at_most k e h a in omega arith
+at_most k e [] m = elim m [ ]
 
 pub at_same : (k : ℕ) (e f : Event) (h : History) → At k e h → At k f h → e ≡ f
 at_same k e f (g ∷ h) (inl p) (inl q) = cc (p.1, q.1)
 at_same k e f (g ∷ h) (inl p) (inr b) = absurd (let c = at_most k f h b in omega arith)
 at_same k e f (g ∷ h) (inr a) (inl q) = absurd (let c = at_most k e h a in omega arith)
 at_same k e f (g ∷ h) (inr a) (inr b) = at_same k e f h a b
+at_same k e f [] m _ = elim m [ ]
 
 -- an earlier moment of a history
 infix 20 ◌⊑◌
@@ -86,10 +88,12 @@ started_when n v (enqueue_ended t m w ∷ h) s = on (started_when n v h s)
 started_when n v (dequeue_started ∷ h) s = on (started_when n v h s)
 started_when n v (gave_item m w ∷ h) s = on (started_when n v h s)
 started_when n v (gave_empty ∷ h) s = on (started_when n v h s)
+started_when n v [] s = elim s [ ]
 
 pub when_started : (k t n v : ℕ) (h : History) → At k (enqueue_started t n v) h → Started n v h
 when_started k t n v (f ∷ h) (inl p) = subst (λ e. Started n v (e ∷ h)) p.1 (inl (refl, refl))
 when_started k t n v (f ∷ h) (inr a) = (grows f h).started n v (when_started k t n v h a)
+when_started k t n v [] m = elim m [ ]
 
 -- the ends of an enqueue
 abbrev pub end_of_item : ℕ → ℕ × ℕ → Event
@@ -102,10 +106,12 @@ ended_when n (enqueue_ended t m w ∷ h) (inr s) = on (ended_when n h s)
 ended_when n (dequeue_started ∷ h) s = on (ended_when n h s)
 ended_when n (gave_item m w ∷ h) s = on (ended_when n h s)
 ended_when n (gave_empty ∷ h) s = on (ended_when n h s)
+ended_when n [] s = elim s [ ]
 
 pub when_ended : (k t n v : ℕ) (h : History) → At k (enqueue_ended t n v) h → Ended n h
 when_ended k t n v (f ∷ h) (inl p) = subst (λ e. Ended n (e ∷ h)) p.1 (inl refl)
 when_ended k t n v (f ∷ h) (inr a) = (grows f h).ended n (when_ended k t n v h a)
+when_ended k t n v [] m = elim m [ ]
 
 -- the taking of an item
 pub taken_when : (n : ℕ) (h : History) → Taken n h → Happened (gave_item n) h
@@ -115,10 +121,12 @@ taken_when n (dequeue_started ∷ h) s = on (taken_when n h s)
 taken_when n (gave_item m w ∷ h) (inl p) = last (gave_item n) w h (gave_item m w) (rw p)
 taken_when n (gave_item m w ∷ h) (inr s) = on (taken_when n h s)
 taken_when n (gave_empty ∷ h) s = on (taken_when n h s)
+taken_when n [] s = elim s [ ]
 
 pub when_taken : (k n v : ℕ) (h : History) → At k (gave_item n v) h → Taken n h
 when_taken k n v (f ∷ h) (inl p) = subst (λ e. Taken n (e ∷ h)) p.1 (inl refl)
 when_taken k n v (f ∷ h) (inr a) = (grows f h).taken n (when_taken k n v h a)
+when_taken k n v [] m = elim m [ ]
 
 -- the end of an enqueue before an event of a family
 pub record EndBefore {I : Type 0} (a : ℕ) (E : I → Event) (h : History) : Type 0 where
@@ -146,6 +154,7 @@ before_when a b (enqueue_ended t m w ∷ h) s = on_both (before_when a b h s)
 before_when a b (dequeue_started ∷ h) s = on_both (before_when a b h s)
 before_when a b (gave_item m w ∷ h) s = on_both (before_when a b h s)
 before_when a b (gave_empty ∷ h) s = on_both (before_when a b h s)
+before_when a b [] s = elim s [ ]
 
 -- an event before the last one is in the shorter history
 at_shorter : (k : ℕ) (e f : Event) (h : History) → At k e (f ∷ h) → k < suc (length h) → At k e h
@@ -158,6 +167,7 @@ when_before i t a v j u b w (f ∷ h) p (inl q) l =
     subst (λ e. EndedBefore a b (e ∷ h)) q.1 (inl (refl, when_ended i t a v h (at_shorter i _ f h p (omega arith))))
 when_before i t a v j u b w (f ∷ h) p (inr q) l =
     (grows f h).before a b (when_before i t a v j u b w h (at_shorter i _ f h p (let c = at_most j _ h q in omega arith)) q l)
+when_before i t a v j u b w [] p _ l = elim p [ ]
 
 -- the end of an enqueue before the last dequeue's start
 abbrev pub asked_at : Unit {0} → Event
@@ -169,6 +179,7 @@ before_dequeue_when a (enqueue_ended t m w ∷ h) s = on_both (before_dequeue_wh
 before_dequeue_when a (dequeue_started ∷ h) s = ends_before a asked_at tt h dequeue_started refl s
 before_dequeue_when a (gave_item m w ∷ h) s = on_both (before_dequeue_when a h s)
 before_dequeue_when a (gave_empty ∷ h) s = on_both (before_dequeue_when a h s)
+before_dequeue_when a [] s = elim s [ ]
 
 pub when_before_dequeue :
     (i t a v j : ℕ) (h : History) → At i (enqueue_ended t a v) h → At j dequeue_started h → i < j → EndedBeforeDequeue a h
@@ -177,3 +188,4 @@ when_before_dequeue i t a v j (f ∷ h) p (inl q) l =
 when_before_dequeue i t a v j (f ∷ h) p (inr q) l =
     let r = at_shorter i _ f h p (let c = at_most j _ h q in omega arith) in
     (grows f h).before_dequeue a (when_ended i t a v h r) (when_before_dequeue i t a v j h r q l)
+when_before_dequeue i t a v j [] p _ l = elim p [ ]

@@ -1,5 +1,5 @@
 -- What was under way when the newest event of a well-formed history happened: `follows`, read by `current`, `Begun` and `dequeuing`.
-use Rattle.std.specs.Prelude.{◌≡◌, refl, true, ◌∷◌, ℕ, suc, length}
+use Rattle.std.specs.Prelude.{◌≡◌, refl, true, ◌∷◌, ℕ, suc, length, []}
 use Rattle.std.proofs.Common.{ap, sym, ◌∙◌, inl, inr, arith, eq-eqb, ne_eqb}
 use Rattle.std.proofs.Math.Option.{Option, none, some}
 use Rattle.history.specs.Lists.{Member}
@@ -27,6 +27,7 @@ begun_is_numbered n (enqueue_ended t m w ∷ h) b = numbered_on (enqueue_ended t
 begun_is_numbered n (dequeue_started ∷ h) b = numbered_on dequeue_started n h (begun_is_numbered n h b)
 begun_is_numbered n (gave_item m w ∷ h) b = numbered_on (gave_item m w) n h (begun_is_numbered n h b)
 begun_is_numbered n (gave_empty ∷ h) b = numbered_on gave_empty n h (begun_is_numbered n h b)
+begun_is_numbered n [] b = elim b [ ]
 
 module _ (t n v : ℕ) (h : History) where
   -- an enqueue starts on an idle thread, with a new number
@@ -83,3 +84,4 @@ begun_is_current n (enqueue_ended t m w ∷ h) f b open-still =
 begun_is_current n (dequeue_started ∷ h) f b open-still = begun_is_current n h (tail_formed dequeue_started h f) b open-still
 begun_is_current n (gave_item m w ∷ h) f b open-still = begun_is_current n h (tail_formed (gave_item m w) h f) b open-still
 begun_is_current n (gave_empty ∷ h) f b open-still = begun_is_current n h (tail_formed gave_empty h f) b open-still
+begun_is_current n [] f b open-still = elim b [ ]

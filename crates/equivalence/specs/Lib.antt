@@ -7,5 +7,3 @@ pub mod Ranks
 pub mod Matched
 pub mod Theorem
 pub mod Same
-pub mod Partner
-pub mod Decides

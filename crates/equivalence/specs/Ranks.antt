@@ -25,6 +25,7 @@ from_own t c (x ∷ cs) m = go (eqb (caller_of x) t) refl m (from_own t c cs)
     go true q (inl e) ih = (inl e, ap caller_of e ∙ eqb-true _ _ q)
     go true q (inr n) ih = let r = ih n in (inr r.0, r.1)
     go false q n ih = let r = ih n in (inr r.0, r.1)
+from_own t c [] m = elim m [ ]
 
 pub in_own : (c : Call) (cs : List Call) → Member c cs → Member c (calls_of (caller_of c) cs)
 in_own c (x ∷ cs) (inl e) = rw (eq-eqb (caller_of x) (caller_of c) (ap caller_of (sym e))) (inl e)
@@ -33,6 +34,7 @@ in_own c (x ∷ cs) (inr m) = go (eqb (caller_of x) (caller_of c)) (in_own c cs 
     go : (b : Bool) → Member c (calls_of (caller_of c) cs) → Member c (cond b (x ∷ calls_of (caller_of c) cs) (calls_of (caller_of c) cs))
     go true n = inr n
     go false n = n
+in_own c [] m = elim m [ ]
 
 own_rise : (t : ℕ) (cs : List Call) → Pairwise Earlier cs → Pairwise Earlier (calls_of t cs)
 own_rise t [] p = tt
@@ -46,6 +48,7 @@ own_rise t (x ∷ cs) p = go (eqb (caller_of x) t) (own_rise t cs p.1)
 placed : (c : Call) (cs : List Call) → Member c cs → (k : ℕ) × (k < length cs) × (c ≡ get_or cs k no_call)
 placed c (x ∷ cs) (inl e) = (0, omega arith, e)
 placed c (x ∷ cs) (inr m) = let r = placed c cs m in (suc r.0, omega (arith, r.1), r.2)
+placed c [] m = elim m [ ]
 
 at_place : (cs : List Call) (k : ℕ) → k < length cs → Member (get_or cs k no_call) cs
 at_place [] k l = absurd (omega arith)

@@ -1,4 +1,4 @@
--- The two premises as computations; Decides.antt has what they mean.
+-- The two premises as computations; proofs/Decides.antt has what they mean.
 use Rattle.std.specs.Prelude.{Bool, true, false, ◌&&◌, ◌||◌, not, cond, List, [], ◌∷◌, ℕ, zero, suc, max, eqb, ltb, length}
 use Rattle.history.specs.Event.{Event, History, enqueue_started, enqueue_ended, dequeue_started, gave_item, gave_empty, most_producers}
 use Rattle.history.specs.Words.{encode}

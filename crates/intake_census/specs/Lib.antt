@@ -1,3 +1,2 @@
 pub mod Statement
-pub mod Contracts
-pub mod Theorem
+pub mod Promises

@@ -1,5 +1,5 @@
 -- The census and demand 3 (document 02, U13): a board that takes the intake's items in the order in which they are handed over is the board of a
--- linearization of the intake's history. Definitions and statements alone; the proofs are in Theorem.antt.
+-- linearization of the intake's history. Definitions and statements alone; the proofs are in proofs/Theorem.antt.
 use Rattle.std.specs.Prelude.{◌≡◌, ◌≢◌, ◌&&◌, cond, List, [], ◌∷◌, ◌++◌, map, ℕ, ◌≤◌, eqb, set}
 use Rattle.history.specs.Lists.{All}
 use Rattle.history.specs.Calls

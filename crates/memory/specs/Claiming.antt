@@ -1,7 +1,7 @@
 -- Claiming a loose record keeps the records' invariant: nothing that anyone can reach changes.
 use Rattle.std.specs.Prelude.{◌≡◌, refl, ◌≢◌, true, List, [], ◌∷◌, ℕ, zero, suc, ◌≤◌, ◌<◌, eqb}
 use Rattle.std.proofs.Common.{ap, sym, ◌∙◌, inl, inr, arith, eq-eqb, ne_eqb, le-leb}
-use Rattle.std.proofs.Math.Bool.{and_false}
+use Rattle.std.proofs.Math.Bool.{and-false}
 use Rattle.std.proofs.Math.Decide.{ℕ_discrete}
 use Rattle.history.specs.Lists.{All}
 use Rattle.rules.specs.Sizes.{Sizes}
@@ -27,7 +27,7 @@ module _ (z : Sizes) (σ : Reader) (g : ChainShape) (m : Memory z σ g) (t r p :
   σ' = after σ (claim_writes t r p)
 
   others : (x : ℕ) → (r ≡ x → ⊥) → Untouched σ σ' x
-  others x n = ((λ k. rw (ne_eqb r x n, and_false (eqb 3 k)) refl), (λ i k. rw (ne_eqb r x n) refl))
+  others x n = ((λ k. rw (ne_eqb r x n, and-false (eqb 3 k)) refl), (λ i k. rw (ne_eqb r x n) refl))
 
   kept : OthersKept t σ σ'
   kept = others_kept z t σ (claim_writes t r p) (claim_in_sort z t r p fits)

@@ -2,7 +2,7 @@
 -- and the one behind it are joined to each other, and its place is a gap.
 use Rattle.std.specs.Prelude.{◌≡◌, refl, List, [], ◌∷◌, ℕ, suc, ◌*◌, ◌≤◌, ◌<◌, eqb}
 use Rattle.std.proofs.Common.{sym, ◌∙◌, mul-le-mul_left, arith, eq-eqb, ne_eqb}
-use Rattle.std.proofs.Math.Bool.{and_false}
+use Rattle.std.proofs.Math.Bool.{and-false}
 use Rattle.rules.specs.Sizes.{Sizes}
 use Rattle.rules.specs.Cell.{Reader, Write, ◌:=◌, all_handled, cursor_record, cursor_position, found_record, place, next, prev, used, state}
 use Rattle.rules.specs.Update.{after}
@@ -72,7 +72,7 @@ module _ (z : Sizes) (σ : Reader) (g : ChainShape) (m : Memory z σ g) (p i k j
         onward = λ e. omega (arith, next_others r r_q, m.chain.nexts k j right);
         places = λ x. refl;
         uses = use-others;
-        others = λ x d y. rw (ne_eqb r x (linked_at x r (m.chain.linked k left.right) d), ne_eqb q x (linked_at x q (m.chain.linked i left.left) d), ne_eqb n x (linked_at x n (m.chain.linked j right.right) d), and_false (eqb 3 y), and_false (eqb 2 y), and_false (eqb 1 y)) refl;
+        others = λ x d y. rw (ne_eqb r x (linked_at x r (m.chain.linked k left.right) d), ne_eqb q x (linked_at x q (m.chain.linked i left.left) d), ne_eqb n x (linked_at x n (m.chain.linked j right.right) d), and-false (eqb 3 y), and-false (eqb 2 y), and-false (eqb 1 y)) refl;
         entries = λ x e y. refl;
         rows = λ u y. refl;
         handled = handled;

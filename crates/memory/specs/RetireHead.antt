@@ -1,7 +1,7 @@
 -- Retiring the head record keeps the records' invariant. The list then begins at the place that it is joined to.
 use Rattle.std.specs.Prelude.{◌≡◌, refl, List, [], ◌∷◌, ℕ, suc, ◌<◌, eqb}
 use Rattle.std.proofs.Common.{sym, arith, eq-eqb, ne_eqb}
-use Rattle.std.proofs.Math.Bool.{and_false}
+use Rattle.std.proofs.Math.Bool.{and-false}
 use Rattle.rules.specs.Sizes.{Sizes}
 use Rattle.rules.specs.Cell.{Reader, Write, ◌:=◌, head_record, head_position, cursor_record, found_record, place, used, state}
 use Rattle.rules.specs.Update.{after}
@@ -48,7 +48,7 @@ module _ (z : Sizes) (σ : Reader) (g : ChainShape) (m : Memory z σ g) (p k : �
         onward = λ e. omega (arith, m.chain.nexts g.lo k first);
         places = λ x. refl;
         uses = others;
-        others = λ x n j. rw (ne_eqb h x (λ e. n (rw (← e) linked_h)), and_false (eqb 3 j)) refl;
+        others = λ x n j. rw (ne_eqb h x (λ e. n (rw (← e) linked_h)), and-false (eqb 3 j)) refl;
         entries = λ x i j. refl;
         rows = λ u j. refl;
         handled = handled;

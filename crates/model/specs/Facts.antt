@@ -1,6 +1,6 @@
 -- Laws of the history's facts, of entries and of functions changed at one place. From the definitions of crate criterion and of
 -- State alone.
-use Rattle.std.specs.Prelude.{◌≡◌, refl, ◌≢◌, Bool, true, false, cond, ◌∷◌, ℕ, eqb}
+use Rattle.std.specs.Prelude.{◌≡◌, refl, ◌≢◌, Bool, true, false, cond, ◌∷◌, ℕ, eqb, []}
 use Rattle.std.proofs.Common.{sym, subst, inl, inr, arith, eqb-true, eq-eqb, ne_eqb}
 use Rattle.std.proofs.lemmas.Bool.{eqb-false}
 use Rattle.history.specs.Event.{History, enqueue_started, enqueue_ended, dequeue_started, gave_item, gave_empty}
@@ -14,6 +14,7 @@ started_begun n v (enqueue_ended t m w ∷ h) e = started_begun n v h e
 started_begun n v (dequeue_started ∷ h) e = started_begun n v h e
 started_begun n v (gave_item m w ∷ h) e = started_begun n v h e
 started_begun n v (gave_empty ∷ h) e = started_begun n v h e
+started_begun n v [] e = elim e [ ]
 
 pub ended_before_ended : (a b : ℕ) (h : History) → EndedBefore a b h → Ended a h
 ended_before_ended a b (enqueue_started t m w ∷ h) (inl e) = e.1
@@ -22,6 +23,7 @@ ended_before_ended a b (enqueue_ended t m w ∷ h) e = inr (ended_before_ended a
 ended_before_ended a b (dequeue_started ∷ h) e = ended_before_ended a b h e
 ended_before_ended a b (gave_item m w ∷ h) e = ended_before_ended a b h e
 ended_before_ended a b (gave_empty ∷ h) e = ended_before_ended a b h e
+ended_before_ended a b [] e = elim e [ ]
 
 pub ended_before_dequeue_ended : (a : ℕ) (h : History) → EndedBeforeDequeue a h → Ended a h
 ended_before_dequeue_ended a (enqueue_started t m w ∷ h) e = ended_before_dequeue_ended a h e
@@ -29,6 +31,7 @@ ended_before_dequeue_ended a (enqueue_ended t m w ∷ h) e = inr (ended_before_d
 ended_before_dequeue_ended a (dequeue_started ∷ h) e = e
 ended_before_dequeue_ended a (gave_item m w ∷ h) e = ended_before_dequeue_ended a h e
 ended_before_dequeue_ended a (gave_empty ∷ h) e = ended_before_dequeue_ended a h e
+ended_before_dequeue_ended a [] e = elim e [ ]
 
 -- an entry has one state
 pub put_not_blank : (e : Entry) → e ≡ put → e ≡ blank → ⊥

@@ -47,6 +47,7 @@ module _ {A : Type 0} where
   member_before : (q : List A) (x y : A) → Member y q → Member y (q ++ (x ∷ []))
   member_before (z ∷ q) x y (inl e) = inl e
   member_before (z ∷ q) x y (inr e) = inr (member_before q x y e)
+  member_before [] x y m = elim m [ ]
 
   member_join : (q : List A) (e : Entry) (x y : A) → Member y q → Member y (join q e x)
   member_join q blank x y m = m

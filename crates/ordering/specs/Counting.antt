@@ -112,7 +112,7 @@ module _ {z : Sizes} {p : Played} {t n : ℕ} (c : Tallied z p t n) (b : List �
         number = sym (same_steps d).1 ∙ ap (λ (x : Cell). suc (τ x)) (count_is t);
         goes_on_lem =
             λ i.
-            let still = f.goes_on ((same_steps d).0 ∙ i) in
+            let still = f.goes_on_lem ((same_steps d).0 ∙ i) in
             let count : after τ ws (count_of t) ≡ suc (τ (count_of t)) = f.counts t (τ (count_of t)) by.0 still (λ b. refl) ∙ rw (eq-eqb t t refl) refl in
             omega (arith, f.paced t by.0 still, ap (λ (l : ℕ). most_left z l t) (f.same_limit ((same_steps d).0 ∙ i)), some_left z (after τ ws) f.goes.next f.goes.good t by.0 still);
       }
@@ -135,7 +135,7 @@ module _ {z : Sizes} {p : Played} {t n : ℕ} (c : Tallied z p t n) (b : List �
       let a = is_accepted in
       let is : suc n ≡ suc (τ (count_of t)) = sym counted_in_list ∙ a.number in (
         omega (arith, m.paced t a.there a.busy, some_left z τ m.beside m.good t a.there a.busy),
-        λ last i. omega (arith, a.goes_on i),
+        λ last i. omega (arith, a.goes_on_lem i),
       )
 
 -- After an open no call is under way.

@@ -1,7 +1,8 @@
 -- The runs that document 01 marks (P), those of the store and those of the judge, as one table and one statement.
 use Rattle.std.specs.Prelude.{◌≡◌, List, [], ◌∷◌, ◌++◌, map}
 use Rattle.history.specs.Lists.{All}
-use Rattle.rules.specs.Runs.{Trial, replay, table, runs_as_written}
+use Rattle.rules.specs.Runs.{Trial, replay, table}
+use Rattle.rules.proofs.Runs.{runs_as_written}
 use Rattle.criterion.specs.Runs.{JudgeRun, judge_runs, Says, Passes, judge_runs_hold}
 
 -- calls on a store with their replies, or a history with the judge's word

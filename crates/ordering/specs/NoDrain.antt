@@ -13,6 +13,7 @@ use Rattle.rules.specs.Rule.{Effect, Reply, refuse, reply, ok, started, going, e
 use Rattle.rules.specs.Request.{Request, start_enqueue, start_dequeue, start_drain, step, Invocation, Result, starting_enqueue, starting_dequeue, effect, result}
 use Rattle.rules.specs.Play.{Played, recorded, history_with, reply_events, events, play_one}
 use Rattle.rules.specs.Readback.{reader_writes}
+use Rattle.rules.specs.Cell.{writes}
 use Rattle.rules.specs.Refusal.{by_applied}
 use Rattle.simulation.specs.Good.{by_cond}
 use Rattle.simulation.specs.DrainWords.{drain_in}
@@ -100,17 +101,17 @@ module _ {z : Sizes} {p : Played} (k : Maintained z p) (none : Undrained z p) wh
   nobody v r ws e = reply_not_refuse e
 
   plain : (q : Request) → NoDrain q → (r : Reply) (ws : List Write) → effect q z σ ≡ reply r ws → Plain r ws
-  plain (start_enqueue zero v) starts_None r ws e = absurd (nobody v r ws e)
-  plain (start_enqueue (suc t) v) starts_None r ws e =
+  plain (start_enqueue zero v) starts_none r ws e = absurd (nobody v r ws e)
+  plain (start_enqueue (suc t) v) starts_none r ws e =
       record {
         still = (subst (Keeps z σ k.beside (start_enqueue (suc t) v)) e (effect_keeps k (start_enqueue (suc t) v))).goes.moved.others drain_limit (λ x. omega arith) ∙ none;
         adds = events_of r (subst (ItemsFit σ) (enqueue_starts (suc t) v r ws e).1 tt);
       }
-  plain start_dequeue starts_None r ws e =
+  plain start_dequeue starts_none r ws e =
       let is = dequeue_starts r ws e in
       record { still = ap (λ (vs : List Write). after σ vs drain_limit) (sym is.1) ∙ none; adds = events_of r (subst (ItemsFit σ) is.0 tt) }
-  plain (start_drain n) starts_None r ws e = absurd starts_None
-  plain (step t) starts_None r ws e =
+  plain (start_drain n) starts_none r ws e = absurd starts_none
+  plain (step t) starts_none r ws e =
       record {
         still = limit_after t r ws (subst (Keeps z σ k.beside (step t)) e (effect_keeps k (step t)));
         adds =
@@ -120,7 +121,7 @@ module _ {z : Sizes} {p : Played} (k : Maintained z p) (none : Undrained z p) wh
 
   -- One call: no drain is under way after it, and its history is the events of its reply.
   pub still_undrained : (v : Invocation) → NoDrain v.request → Undrained z (play_one v p)
-  still_undrained v starts_None =
+  still_undrained v starts_none =
       subst⁻¹ (λ (r : Result). reader z r.words drain_limit ≡ 0) (result_is k v)
       (by_applied (λ r. reader z r.words drain_limit ≡ 0) _ z p.words v.buffer v.from (effect v.request z σ)
       (λ n e. none)
@@ -128,16 +129,16 @@ module _ {z : Sizes} {p : Played} (k : Maintained z p) (none : Undrained z p) wh
       (λ r ws e long.
       ap (λ (τ : Reader). τ drain_limit)
       (reader_writes z p.words ws k.fits (subst (Keeps z σ k.beside v.request) e (effect_keeps k v.request)).goes.there)
-      ∙ (plain v.request starts_None r ws e).still))
+      ∙ (plain v.request starts_none r ws e).still))
 
   pub history_is : (v : Invocation) → NoDrain v.request → (play_one v p).history ≡ events v.request p.history (result v p.words).reply ++ p.history
-  history_is v starts_None =
+  history_is v starts_none =
       rw (cells_are z p.words k.good.range, cells_are z (result v p.words).words (keeps k v).good.range)
       (subst⁻¹ Adds (result_is k v)
       (by_applied Adds _ z p.words v.buffer v.from (effect v.request z σ)
       (λ n e t. refl)
       (λ r ws e short t. refl)
-      (λ r ws e long t. (plain v.request starts_None r ws e).adds v.request _ p.history t))
+      (λ r ws e long t. (plain v.request starts_none r ws e).adds v.request (reader z (writes z p.words ws)) p.history t))
       unmarked)
     where
       Adds : Result → Type 0
@@ -146,4 +147,4 @@ module _ {z : Sizes} {p : Played} (k : Maintained z p) (none : Undrained z p) wh
           → history_with v.request σ (reader z r.words) r.reply p.history ≡ events v.request p.history r.reply ++ p.history
 
       unmarked : reader z (result v p.words).words drain_count ≡ 0
-      unmarked = omega (arith, still_undrained v starts_None, (drain_in z (reader z (result v p.words).words) (keeps k v).good.range.draining).counted)
+      unmarked = omega (arith, still_undrained v starts_none, (drain_in z (reader z (result v p.words).words) (keeps k v).good.range.draining).counted)

@@ -2,7 +2,7 @@
 use Rattle.std.specs.Prelude.{◌≡◌, refl, ◌≢◌, true, List, [], ◌∷◌, ◌++◌, ℕ, zero, suc, ◌≤◌, leb, eqb, get_or, drop}
 use Rattle.std.proofs.Common.{ap, ◌∙◌, arith, eq-eqb, ne_eqb, leb-true}
 use Rattle.std.proofs.Math.Path.{subst⁻¹}
-use Rattle.std.proofs.Math.Bool.{and_false}
+use Rattle.std.proofs.Math.Bool.{and-false}
 use Rattle.history.specs.Lists.{All}
 use Rattle.history.specs.Event.{History}
 use Rattle.criterion.specs.Members.{all_append}
@@ -107,7 +107,7 @@ module _ (z : Sizes) (τ : Reader) (δ : Ghost) (good : Good z τ δ) (n : ℕ) 
       where
         untouched-row : (t k : ℕ) → ((1 ≤ t) × (t ≤ z.P) → ⊥) → with_count τ (suc p) n (producer t k) ≡ 0
         untouched-row t k o =
-            rw (ne_eqb (suc p) t (λ e. o (rw (← e) there)), and_false (eqb 7 k)) (good.memory.outside t k o)
+            rw (ne_eqb (suc p) t (λ e. o (rw (← e) there)), and-false (eqb 7 k)) (good.memory.outside t k o)
 
 -- the count is there
 count_there : (z : Sizes) (t n : ℕ) → t ≤ z.P → WriteThere z (count_of t := n)

@@ -2,7 +2,7 @@
 use Rattle.std.specs.Prelude.{◌≡◌, ◌≢◌, Bool, true, false, ◌&&◌, ◌||◌, not, eqb, ltb, length, get_or}
 use Rattle.std.proofs.Math.Path.{refl, ap}
 use Rattle.std.proofs.Common.{sym, ◌∙◌, subst, mul_comm, length-append}
-use Rattle.std.proofs.Math.Bool.{cond, and_false}
+use Rattle.std.proofs.Math.Bool.{cond, and-false}
 use mathlib.Core.List.{List, [], ◌∷◌, ◌++◌}
 use Prim.Native.Nat.{ℕ, zero, suc, ◌+◌, ◌-◌, ◌*◌, ◌≤◌, ◌<◌}
 use Rattle.std.proofs.Math.Decide.{dec_lt, ℕ_discrete}
@@ -79,7 +79,7 @@ module _ (z : Sizes) (σ : Reader) (γ : Ghost) (good : Good z σ γ) where
   counted_at r j u l = and_true (eq-eqb (σ (used r)) 2 u) (lt-ltb (σ (place r)) j l)
 
   not_at : (r : ℕ) → (eqb (σ (used r)) 2 && ltb (σ (place r)) (σ (place r))) ≡ false
-  not_at r = rw (le-ltb (σ (place r)) (σ (place r)) (omega arith), and_false (eqb (σ (used r)) 2)) refl
+  not_at r = rw (le-ltb (σ (place r)) (σ (place r)) (omega arith), and-false (eqb (σ (used r)) 2)) refl
 
   rank_grows : (r j : ℕ) → σ (used r) ≡ 2 → σ (place r) < j → rank z σ (σ (place r)) < rank z σ j
   rank_grows r j u l =

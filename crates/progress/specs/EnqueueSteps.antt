@@ -2,7 +2,7 @@
 use Rattle.std.specs.Prelude.{◌≡◌, ◌≢◌, Bool, ◌&&◌, List, [], ◌∷◌, leb, ltb, get_or}
 use Rattle.std.proofs.Math.Path.{refl, ap}
 use Rattle.std.proofs.Common.{sym, ◌∙◌, inl, inr, ⊎_elim}
-use Rattle.std.proofs.Math.Bool.{true, false, cond, and_false}
+use Rattle.std.proofs.Math.Bool.{true, false, cond, and-false}
 use Prim.Native.Nat.{ℕ, zero, suc, ◌+◌, ◌*◌, ◌≤◌, ◌<◌}
 use Rattle.std.proofs.Math.Decide.{ℕ_discrete}
 use native.Mathlib.Omega.{arith}
@@ -13,7 +13,7 @@ use Rattle.rules.specs.Cell.{Reader, Write, ◌:=◌, clear_producer, tail, tail
 use Rattle.rules.specs.Update.{after, both, and_true}
 use Rattle.rules.specs.Range.{link, record_number}
 use Rattle.rules.specs.Rule.{refuse, reply, ended, goes, index}
-use Rattle.rules.specs.Producer.{choose, load_tail, look_next, claim, claim_record, linked, link_claimed, shift_tail, go_back, write_entry, set_entry, claim_ahead, link_ahead, producer_rules, producer_step}
+use Rattle.rules.specs.Producer.{choose, load_tail, look_next, claim, claim_record, link_claimed, shift_tail, go_back, write_entry, set_entry, claim_ahead, link_ahead, producer_rules, producer_step}
 use Rattle.rules.specs.Request.{start_writes}
 use Rattle.model.specs.Walking.{producer_clause}
 use Rattle.model.specs.Count.{start_room}
@@ -154,7 +154,7 @@ module _ (z : Sizes) (σ : Reader) (γ : Ghost) (good : Good z σ γ) (p : ℕ) 
     where
       -- of the records that are gone back over none is the tail record, nor one before L's that it holds
       not-tail : (r : ℕ) → tp ≡ σ (place r) → is_between z σ L tp r ≡ false
-      not-tail r e = rw (le-ltb (σ (place r)) tp (omega arith), and_false (ltb L (z.B * σ (place r)))) refl
+      not-tail r e = rw (le-ltb (σ (place r)) tp (omega arith), and-false (ltb L (z.B * σ (place r)))) refl
 
       not_earlier : (r : ℕ) → z.B * σ (place r) ≤ L → is_between z σ L tp r ≡ false
       not_earlier r l = rw (le-ltb L (z.B * σ (place r)) l) refl
@@ -173,7 +173,7 @@ module _ (z : Sizes) (σ : Reader) (γ : Ghost) (good : Good z σ γ) (p : ℕ) 
               let other : r ≢ h = λ i. omega (arith, ap (λ (x : ℕ). z.B * x) (own ∙ ap (λ (x : ℕ). σ (place x)) (sym i) ∙ sym placed)) in
               let fits-too : h < z.N = omega (arith, (own_words z σ γ good (suc p) there 2 e).held) in
               omega (arith, count_below_two z.N (is_between z σ L tp) r h fits fits-too other (not-tail r placed) (not_earlier h (rw own at low)))
-          go false b = rw (and_false (ltb 0 (suc h))) (omega (arith, count_below z.N (is_between z σ L tp) r fits (not-tail r placed)))
+          go false b = rw (and-false (ltb 0 (suc h))) (omega (arith, count_below z.N (is_between z σ L tp) r fits (not-tail r placed)))
 
   -- 3.
   look_lowers : σ (phase (suc p)) ≡ 3 → Lowers z σ (suc p) (look_next z σ (suc p))
@@ -320,7 +320,7 @@ module _ (z : Sizes) (σ : Reader) (γ : Ghost) (good : Good z σ γ) (p : ℕ) 
           and_true b.0 (lt-ltb (σ (place y)) k (omega (arith, ltb-true (σ (place y)) j b.1)))
 
       fails : (r : ℕ) → is_between z σ L (σ (place r)) r ≡ false
-      fails r = rw (le-ltb (σ (place r)) (σ (place r)) (omega arith), and_false (ltb L (z.B * σ (place r)))) refl
+      fails r = rw (le-ltb (σ (place r)) (σ (place r)) (omega arith), and-false (ltb L (z.B * σ (place r)))) refl
 
       -- prev of the held record: of a smaller place, with L before its end
       back : (h r : ℕ) → σ (held (suc p)) ≡ suc h → σ (prev h) ≡ suc r → (σ (place r) < k) × (r < z.N) × (L < z.B * σ (place r))

@@ -1,9 +1,4 @@
 pub mod Statement
-pub mod Answers
-pub mod InOrder
-pub mod Entered
 pub mod Hands
 pub mod Phases
 pub mod EveryCall
-pub mod Recorded
-pub mod Theorem

@@ -1,5 +1,5 @@
 -- What the consumer's caller receives, and in which order, against every linearization. There is one consumer, so dequeues do not overlap.
--- Definitions and statements alone; the proofs are in Theorem.antt.
+-- Definitions and statements alone; the proofs are in proofs/Theorem.antt.
 use Rattle.std.specs.Prelude.{◌≡◌, true, List, [], ◌∷◌, ◌++◌, ℕ}
 use Rattle.history.specs.Event.{History, enqueue_started, enqueue_ended, dequeue_started, gave_item, gave_empty}
 use Rattle.history.specs.Calls

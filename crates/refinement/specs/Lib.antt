@@ -3,4 +3,4 @@ pub mod Effects
 pub mod Beyond
 pub mod Calls
 pub mod Theorem
-pub mod Contracts
+pub mod Promises

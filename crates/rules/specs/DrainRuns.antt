@@ -1,5 +1,5 @@
 -- Runs with drains (document 02, U5), computed: the replies, the history, and what the last call leaves in its buffer and in the drain area.
-use Rattle.std.specs.Prelude.{◌≡◌, true, ◌&&◌, List, [], ◌∷◌, ◌++◌, map, reverse, ℕ, replicate}
+use Rattle.std.specs.Prelude.{◌≡◌, ◌&&◌, List, [], ◌∷◌, ◌++◌, map, reverse, ℕ, replicate}
 use Rattle.std.proofs.Common.{ap, ◌∙◌}
 use Rattle.history.specs.Event.{History, enqueue_started, enqueue_ended, dequeue_started, gave_item, gave_empty}
 use Rattle.history.specs.Linearization.{Item}
@@ -13,9 +13,8 @@ use Rattle.rules.specs.Request.{start_enqueue, start_dequeue, start_drain, step,
 use Rattle.rules.specs.Play.{Played, play_one}
 use Rattle.rules.specs.Quick.{quick_result, result_is, with_result}
 use Rattle.rules.specs.Update.{both}
-use Rattle.rules.specs.Lengths.{lengths_as_written}
-use Rattle.rules.specs.Runs.{sized, times, plain, first, ends, begun, call, placed, enqueue, played_on, quick_on, played_on_lem, replies_to, quick_replies, replies_to_lem, computed}
-use Rattle.rules.specs.Sameness.{passes_after, Sameness, lists, responses, events, word_lists}
+use Rattle.rules.specs.Runs.{sized, times, plain, first, ends, begun, call, placed, enqueue, played_on, quick_on, played_on_lem, replies_to, quick_replies, replies_to_lem}
+use Rattle.rules.specs.Sameness.{Sameness, responses, events, word_lists}
 
 -- Calls on an opened store whose cells were then written so, and a last one; what they come to.
 pub record DrainRun : Type 0 where
@@ -35,7 +34,7 @@ pub record Outcome : Type 0 where
   pub buffer : List ℕ
   pub area : List ℕ
 
-outcomes : Sameness Outcome
+unfoldable pub outcomes : Sameness Outcome
 unfolding responses events word_lists
 outcomes =
     record {
@@ -75,20 +74,20 @@ outcome d =
     let before = played_on d.calls (opened_as d) in outcome_of d (play_one d.last before) (result d.last before.words).buffer
 
 -- The same, quicker to compute.
-unfoldable quick_outcome : DrainRun → Outcome
+unfoldable pub quick_outcome : DrainRun → Outcome
 unfolding quick_on applied effect starting_enqueue starting_dequeue starting_drain phase_step counted stepping opened reader writes free next_free load_tail look_next claim_record link_claimed shift_tail go_back write_entry set_entry claim_ahead link_ahead producer_step front read_tail scan read_entry rescan read_item mark_handled retire_head consumer_step
 quick_outcome d =
     let before = quick_on d.calls (opened_as d) in
     let r = quick_result d.last before.words in
     outcome_of d (with_result d.last before r) r.buffer
 
-outcome_is : (d : DrainRun) → outcome d ≡ quick_outcome d
+pub outcome_is : (d : DrainRun) → outcome d ≡ quick_outcome d
 unfolding outcome quick_outcome
 outcome_is d =
     ap (λ (p : Played). outcome_of d (play_one d.last p) (result d.last p.words).buffer) (played_on_lem d.calls (opened_as d))
     ∙ ap (λ (r : Result). outcome_of d (with_result d.last (quick_on d.calls (opened_as d)) r) r.buffer) (result_is d.last (quick_on d.calls (opened_as d)).words)
 
-abbrev expected : DrainRun → Outcome
+abbrev pub expected : DrainRun → Outcome
 expected d = record { replies = d.replies; history = d.history; buffer = d.buffer; area = d.area }
 
 -- three items of producer 1, in two records of two entries, as calls, replies and history
@@ -252,13 +251,6 @@ drain_runs =
     }
     ∷ []
 
-drain_runs_pass : (lists outcomes).test (map quick_outcome drain_runs) (map expected drain_runs) ≡ true
-unfolding quick_outcome lists responses events word_lists outcomes
-drain_runs_pass = passes_after lengths_as_written
-
-pub drain_runs_as_written : map outcome drain_runs ≡ map expected drain_runs
-drain_runs_as_written = computed outcomes outcome quick_outcome expected outcome_is drain_runs drain_runs_pass
-
 -- Steps of the consumer on stores that the engine did not write: the cells that were written on an opened one, and the reply.
 pub record DrainProbe : Type 0 where
   pub cells : List Write
@@ -267,11 +259,11 @@ pub record DrainProbe : Type 0 where
 unfoldable pub probed : DrainProbe → List Response
 probed p = replies_to (into (replicate 128 0) 0 ∷ []) (writes small (opened small (replicate (store_words small) 0)) p.cells)
 
-unfoldable quick_probed : DrainProbe → List Response
+unfoldable pub quick_probed : DrainProbe → List Response
 unfolding quick_replies opened writes
 quick_probed p = quick_replies (into (replicate 128 0) 0 ∷ []) (writes small (opened small (replicate (store_words small) 0)) p.cells)
 
-probed_is : (p : DrainProbe) → probed p ≡ quick_probed p
+pub probed_is : (p : DrainProbe) → probed p ≡ quick_probed p
 unfolding probed quick_probed
 probed_is p = replies_to_lem (into (replicate 128 0) 0 ∷ []) _
 
@@ -303,10 +295,3 @@ drain_probes =
     ∷ record { cells = marking 2 0 (scanned := 2 ∷ []); reply = refused 3 }
     ∷ record { cells = consumer_phase := 1 ∷ scanned := 1 ∷ []; reply = refused 3 }
     ∷ []
-
-drain_probes_pass : (lists responses).test (map quick_probed drain_probes) (map (λ p. p.reply ∷ []) drain_probes) ≡ true
-unfolding quick_probed lists responses
-drain_probes_pass = passes_after drain_runs_as_written
-
-pub drain_probes_as_written : map probed drain_probes ≡ map (λ p. p.reply ∷ []) drain_probes
-drain_probes_as_written = computed responses probed quick_probed (λ p. p.reply ∷ []) probed_is drain_probes drain_probes_pass

@@ -1,12 +1,11 @@
 -- Runs of the fold (document 02, U6), computed: a day with one stopped producer, single steps on stores that the engine did not write, and which
 -- retired records are free.
-use Rattle.std.specs.Prelude.{◌≡◌, true, List, [], ◌∷◌, ◌++◌, map, ℕ}
+use Rattle.std.specs.Prelude.{List, [], ◌∷◌, ◌++◌, ℕ}
 use Rattle.rules.specs.Cell.{Cell, Write, ◌:=◌, spare, all_handled, tail, tail_record, head_record, consumer_phase, cursor_record, cursor_position, found_record, found_position, phase, held, claimed, place, next, prev, used, state}
 use Rattle.rules.specs.Rule.{Response, refused, accepted, ok, going, ended, empty, item}
 use Rattle.rules.specs.Request.{start_enqueue, start_dequeue, step}
-use Rattle.rules.specs.Runs.{Trial, sized, times, first, ends, call, placed, enqueue, replay, quick_replay, replay_is, computed, runs_as_written}
-use Rattle.rules.specs.Single.{Single, sights, seen_of, quick_seen, seen_as, singles_hold}
-use Rattle.rules.specs.Sameness.{passes_after, lists, responses, word_lists}
+use Rattle.rules.specs.Runs.{Trial, sized, times, first, ends, call, placed, enqueue}
+use Rattle.rules.specs.Single.{Single}
 
 abbrev pub fold_runs : List Trial
 fold_runs =
@@ -53,13 +52,6 @@ fold_runs =
           ++ call ok 6 (item 6 15);
     }
     ∷ []
-
-fold_runs_pass : (lists responses).test (map quick_replay fold_runs) (map (λ t. t.replies) fold_runs) ≡ true
-unfolding quick_replay lists responses
-fold_runs_pass = passes_after runs_as_written
-
-pub fold_runs_as_written : map replay fold_runs ≡ map (λ t. t.replies) fold_runs
-fold_runs_as_written = computed responses replay quick_replay (λ t. t.replies) replay_is fold_runs fold_runs_pass
 
 -- Three linked records, 0, 1 and 2, of places 1, 2 and 3; the first is the head record, the last the tail record; the tail stands at 6. The
 -- cursor stands in record 1.
@@ -127,13 +119,6 @@ singles =
     ∷ single (scanning 3 2 1 (spare 0 := 1 ∷ [])) cursor (refused 3) (2 ∷ 2 ∷ 0 ∷ 0 ∷ 1 ∷ 3 ∷ [])
     ∷ []
 
-singles_pass : (lists sights).test (map quick_seen singles) (map seen_as singles) ≡ true
-unfolding quick_seen lists responses word_lists sights
-singles_pass = passes_after fold_runs_as_written
-
-pub singles_as_written : map seen_of singles ≡ map seen_as singles
-singles_as_written = singles_hold singles singles_pass
-
 -- Producer 1 claims in phase 4, holding record 0; record 1 is retired, of place 4; records 2 and 3 are as these cells say. What the producer's
 -- claimed word holds then, and its phase.
 abbrev claiming : List Write → (thread : ℕ) → Response → List ℕ → Single
@@ -170,10 +155,3 @@ claims =
     -- use 0 is free all the same
     ∷ claiming (used 1 := 0 ∷ used 2 := 3 ∷ place 2 := 5 ∷ phase 2 := 3 ∷ held 2 := 3 ∷ []) 1 going_on taken
     ∷ []
-
-claims_pass : (lists sights).test (map quick_seen claims) (map seen_as claims) ≡ true
-unfolding quick_seen lists responses word_lists sights
-claims_pass = passes_after singles_as_written
-
-pub claims_as_written : map seen_of claims ≡ map seen_as claims
-claims_as_written = singles_hold claims claims_pass

@@ -1,5 +1,5 @@
 -- How many steps an enqueue makes (document 02, U4), computed: runs in which its producer is stepped more often than it can make steps.
-use Rattle.std.specs.Prelude.{◌≡◌, true, List, [], ◌∷◌, ◌++◌, map, ℕ, ◌+◌, ◌*◌, replicate}
+use Rattle.std.specs.Prelude.{◌≡◌, List, [], ◌∷◌, ◌++◌, map, ℕ, ◌+◌, ◌*◌, replicate}
 use Rattle.rules.specs.Sizes.{Sizes, store_words}
 use Rattle.rules.specs.Cell.{reader, writes}
 use Rattle.rules.specs.Free.{free, next_free}
@@ -8,9 +8,7 @@ use Rattle.rules.specs.Consumer.{front, read_tail, scan, read_entry, rescan, rea
 use Rattle.rules.specs.Request.{Request, start_enqueue, start_dequeue, step, Invocation, applied, opened, starting_enqueue, starting_dequeue, starting_drain, phase_step, counted, stepping, effect}
 use Rattle.rules.specs.Play.{Played, steps_made}
 use Rattle.rules.specs.Quick.{quick_steps, steps_are}
-use Rattle.rules.specs.Witnesses.{starting_as_written}
-use Rattle.rules.specs.Runs.{sized, times, plain, filled, computed}
-use Rattle.rules.specs.Sameness.{passes_after, lists, numbers}
+use Rattle.rules.specs.Runs.{sized, times, plain, filled}
 
 -- Calls after an open, and the accepted steps of the enqueue that a producer has under way, if it is then stepped 5 × P + N + 7 times.
 pub record Length : Type 0 where
@@ -30,11 +28,11 @@ unfoldable pub accepted_steps : Length → ℕ
 accepted_steps l = steps_made l.thread (calls l) (opened_as l) 0
 
 -- The same, quicker to compute.
-unfoldable quick_length : Length → ℕ
+unfoldable pub quick_length : Length → ℕ
 unfolding applied effect starting_enqueue starting_dequeue starting_drain phase_step counted stepping opened reader writes free next_free load_tail look_next claim_record link_claimed shift_tail go_back write_entry set_entry claim_ahead link_ahead producer_step front read_tail scan read_entry rescan read_item mark_handled retire_head consumer_step
 quick_length l = quick_steps l.thread (calls l) (opened_as l) 0
 
-length_is : (l : Length) → accepted_steps l ≡ quick_length l
+pub length_is : (l : Length) → accepted_steps l ≡ quick_length l
 unfolding accepted_steps quick_length
 length_is l = steps_are l.thread (calls l) (opened_as l) 0
 
@@ -89,10 +87,3 @@ lengths =
       made = 3;
     }
     ∷ []
-
-lengths_pass : (lists numbers).test (map quick_length lengths) (map (λ l. l.made) lengths) ≡ true
-unfolding quick_length lists numbers
-lengths_pass = passes_after starting_as_written
-
-pub lengths_as_written : map accepted_steps lengths ≡ map (λ l. l.made) lengths
-lengths_as_written = computed numbers accepted_steps quick_length (λ l. l.made) length_is lengths lengths_pass

@@ -1,10 +1,10 @@
--- A refused call changes no word of what was lent.
+-- What a call and an open leave, by whether they are refused. (That a refused call changes no word is in proofs/Refusal.antt.)
 use Rattle.std.specs.Prelude.{◌≡◌, refl, Bool, true, false, ◌||◌, not, cond, List, [], ℕ, ◌≤◌, ltb, length}
 use Rattle.std.proofs.Common.{arith, ltb-false}
 use Rattle.rules.specs.Sizes.{Sizes, sizes_in_range, store_words}
 use Rattle.rules.specs.Rule.{Effect, refuse, reply, refused, accepted, ok}
 use Rattle.rules.specs.Cell.{Write, writes}
-use Rattle.rules.specs.Request.{Invocation, Result, too_short, handed_over, applied, result, sizes_of, opened, open_store}
+use Rattle.rules.specs.Request.{Result, too_short, handed_over, applied, opened, open_store}
 use Rattle.rules.specs.Update.{neither}
 
 -- an accepted call is not refused
@@ -25,15 +25,6 @@ by_applied P k z m b i (reply r ws) down short up = go (too_short b i r) refl
         → P (cond c (record { reply = refused 15; words = m; buffer = b }) (record { reply = accepted r k; words = writes z m ws; buffer = handed_over b i r }))
     go true e = short r ws refl e
     go false e = up r ws refl e
-
-pub refused_changes_nothing : (v : Invocation) (m : List ℕ) (n : ℕ) → (result v m).reply ≡ refused n
-    → ((result v m).words ≡ m) × ((result v m).buffer ≡ v.buffer)
-unfolding result
-refused_changes_nothing v m n =
-    by_applied (λ r. r.reply ≡ refused n → (r.words ≡ m) × (r.buffer ≡ v.buffer)) _ (sizes_of m) m v.buffer v.from _
-    (λ j a e. (refl, refl))
-    (λ r ws a s e. (refl, refl))
-    (λ r ws a s e. absurd (accepted_not_refused e))
 
 -- To show something of what *open* leaves, show it of a refusal, which changes no word, and of an opened store.
 pub by_open : (P : Result → Type 0) (z : Sizes) (m : List ℕ)

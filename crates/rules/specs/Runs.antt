@@ -11,7 +11,7 @@ use Rattle.rules.specs.Consumer.{front, read_tail, scan, read_entry, rescan, rea
 use Rattle.rules.specs.Request.{Request, start_enqueue, start_dequeue, step, Invocation, lending, applied, opened, open_store, starting_enqueue, starting_dequeue, starting_drain, phase_step, counted, stepping, effect}
 use Rattle.rules.specs.Play.{Played, play}
 use Rattle.rules.specs.Quick.{quick_play, play_is}
-use Rattle.rules.specs.Sameness.{passes, Sameness, lists, responses}
+use Rattle.rules.specs.Sameness.{Sameness, lists}
 
 -- An open of a store of so many zero words, the calls after it, and the replies of all of them, in order.
 pub record Trial : Type 0 where
@@ -162,11 +162,3 @@ table =
       replies = first ok ∷ enqueue 1 4 ++ (refused 6 ∷ []);
     }
     ∷ []
-
--- Every run of the table goes as the table says.
-runs_pass : (lists responses).test (map quick_replay table) (map (λ t. t.replies) table) ≡ true
-unfolding quick_replay lists responses
-runs_pass = passes
-
-pub runs_as_written : map replay table ≡ map (λ t. t.replies) table
-runs_as_written = computed responses replay quick_replay (λ t. t.replies) replay_is table runs_pass

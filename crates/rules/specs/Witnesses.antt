@@ -1,13 +1,11 @@
 -- Further runs, computed: that the rules do all that the theorems speak of, and what the traps of document 01 would get wrong.
-use Rattle.std.specs.Prelude.{◌≡◌, true, List, [], ◌∷◌, ◌++◌, map, ℕ, suc, replicate}
+use Rattle.std.specs.Prelude.{◌≡◌, List, [], ◌∷◌, ◌++◌, map, ℕ, suc, replicate}
 use Rattle.rules.specs.Sizes.{Sizes, store_words}
 use Rattle.rules.specs.Cell.{Write, writes, ◌:=◌, last_claimed, tail, tail_record, head_position, starts, consumer_phase, found_record, found_position, item_number, item_value, phase, call as number, value, position, held, claimed, backed, enqueue_steps, step_count, place, next, used}
 use Rattle.rules.specs.Rule.{Response, refused, accepted, ok, started, going, ended, empty, item}
 use Rattle.rules.specs.Request.{Request, start_enqueue, start_dequeue, step, opened}
-use Rattle.rules.specs.FoldRuns as fold
-use Rattle.rules.specs.Runs.{Trial, sized, times, plain, first, goings, ends, begun, call, placed, enqueue, filled, filled_replies, replies_to, quick_replies, replies_to_lem, replay, quick_replay, replay_is, computed}
-use Rattle.rules.specs.Single.{Single, sights, seen_of, quick_seen, seen_as, singles_hold}
-use Rattle.rules.specs.Sameness.{passes_after, lists, responses, word_lists}
+use Rattle.rules.specs.Runs.{Trial, sized, times, plain, first, goings, ends, begun, call, placed, enqueue, filled, filled_replies, replies_to, quick_replies, replies_to_lem}
+use Rattle.rules.specs.Single.{Single}
 
 abbrev pub witnesses : List Trial
 witnesses =
@@ -241,13 +239,6 @@ witnesses =
     }
     ∷ []
 
-witnesses_pass : (lists responses).test (map quick_replay witnesses) (map (λ t. t.replies) witnesses) ≡ true
-unfolding quick_replay lists responses
-witnesses_pass = passes_after fold.claims_as_written
-
-pub witnesses_as_written : map replay witnesses ≡ map (λ t. t.replies) witnesses
-witnesses_as_written = computed responses replay quick_replay (λ t. t.replies) replay_is witnesses witnesses_pass
-
 -- Calls on a store that the engine did not write: an opened one, where some cells were then written.
 pub record Probe : Type 0 where
   pub sizes : Sizes
@@ -258,11 +249,11 @@ pub record Probe : Type 0 where
 unfoldable pub probe : Probe → List Response
 probe p = replies_to (map plain p.requests) (writes p.sizes (opened p.sizes (replicate (store_words p.sizes) 0)) p.cells)
 
-unfoldable quick_probe : Probe → List Response
+unfoldable pub quick_probe : Probe → List Response
 unfolding quick_replies opened writes
 quick_probe p = quick_replies (map plain p.requests) (writes p.sizes (opened p.sizes (replicate (store_words p.sizes) 0)) p.cells)
 
-probe_is : (p : Probe) → probe p ≡ quick_probe p
+pub probe_is : (p : Probe) → probe p ≡ quick_probe p
 unfolding probe quick_probe
 probe_is p = replies_to_lem (map plain p.requests) _
 
@@ -354,13 +345,6 @@ probes =
     ∷ record { sizes = sized 2 2 1 9; cells = step_count 1 := 1 ∷ []; requests = start_dequeue ∷ []; replies = refused 3 ∷ [] }
     ∷ []
 
-probes_pass : (lists responses).test (map quick_probe probes) (map (λ p. p.replies) probes) ≡ true
-unfolding quick_probe lists responses
-probes_pass = passes_after witnesses_as_written
-
-pub probes_as_written : map probe probes ≡ map (λ p. p.replies) probes
-probes_as_written = computed responses probe quick_probe (λ p. p.replies) probe_is probes probes_pass
-
 -- A claim on a store of four records (document 02, U1): by the record claimed last (word 11) and the use of each record, what the producer's
 -- claimed word and word 11 hold afterwards. All record numbers as stored, plus one.
 abbrev pub use_writes : (r : ℕ) → List ℕ → List Write
@@ -402,13 +386,6 @@ claims =
     ∷ finds_none 3 (2 ∷ 2 ∷ 1 ∷ 2 ∷ [])
     ∷ []
 
-claims_pass : (lists sights).test (map quick_seen claims) (map seen_as claims) ≡ true
-unfolding quick_seen lists responses word_lists sights
-claims_pass = passes_after probes_as_written
-
-pub claims_as_written : map seen_of claims ≡ map seen_as claims
-claims_as_written = singles_hold claims claims_pass
-
 -- A start enqueue of producer 2 (document 02, U8) by tail and starts: its reply, and then tail, starts, and all of its words.
 abbrev start : (tail starts : ℕ) → List Write → Response → List ℕ → Single
 start l n more r holds =
@@ -438,10 +415,3 @@ starting =
     ∷ start 0 0 (phase 2 := 1 ∷ []) (refused 3) (0 ∷ 0 ∷ 1 ∷ replicate 7 0)
     ∷ start 1 1 (phase 1 := 1 ∷ number 1 := 1 ∷ value 1 := 7 ∷ []) (refused 3) (1 ∷ 1 ∷ no_words)
     ∷ []
-
-starting_passes : (lists sights).test (map quick_seen starting) (map seen_as starting) ≡ true
-unfolding quick_seen lists responses word_lists sights
-starting_passes = passes_after claims_as_written
-
-pub starting_as_written : map seen_of starting ≡ map seen_as starting
-starting_as_written = singles_hold starting starting_passes

@@ -2,10 +2,10 @@
 use Rattle.std.specs.Prelude.{◌≡◌, ◌≢◌, Bool, true, false, ◌&&◌, ◌||◌, not, cond, eqb, length}
 use Rattle.std.proofs.Math.Path.{refl, subst⁻¹, fun_ext}
 use Rattle.std.proofs.Common.{ap, ap₂, sym, ◌∙◌, subst, true≢false, arith}
-use Rattle.std.proofs.Math.Bool.{and_false}
+use Rattle.std.proofs.Math.Bool.{and-false}
 use mathlib.Core.List.{List, [], ◌∷◌, ◌++◌}
 use Prim.Native.Nat.{ℕ, suc, ◌*◌, ◌≤◌, ◌<◌}
-use borrow.Author.Tests.{eqb-true, eqb-false, eq-eqb, ne_eqb, lt-ltb, not_true}
+use borrow.Author.Tests.{eqb-true, eqb-false, eq-eqb, ne_eqb, lt-ltb, not-true}
 use Rattle.history.specs.Lists.{All}
 use Rattle.history.specs.Event.{History, dequeue_started, gave_item}
 use Rattle.history.specs.Form.{well_formed}
@@ -117,14 +117,14 @@ module _ (z : Sizes) (σ : Reader) (γ : Ghost) (good : Good z σ γ) where
     marked =
         slot_changes z σ (update σ (state r i := 2)) γ.shape m.chain r (σ found_position) s γ.entry (override γ.entry (σ found_position) gone) γ.content γ.content
         (λ p n. (override_other γ.entry (σ found_position) gone p n, refl))
-        (λ y a k n. rw (other_entry r i y a n, and_false (eqb 0 k)) refl)
+        (λ y a k n. rw (other_entry r i y a n, and-false (eqb 0 k)) refl)
         (rw (override_same γ.entry (σ found_position) gone, eq-eqb r r refl, eq-eqb i i refl) refl)
         (slot_number z σ γ r (σ found_position) s good.agrees)
         (slot_value z σ γ r (σ found_position) s good.agrees)
         good.agrees
 
     light : (y : ℕ) → (σ (used y) ≡ 2 → ⊥) → (a k : ℕ) → update σ (state r i := 2) (entry y a k) ≡ σ (entry y a k)
-    light y n a k = rw (other_record σ r s.linked y n, and_false (eqb i a), and_false (eqb 0 k)) refl
+    light y n a k = rw (other_record σ r s.linked y n, and-false (eqb i a), and-false (eqb 0 k)) refl
 
     formed : well_formed (gave_item (σ item_number) (σ item_value) ∷ γ.history) ≡ true
     formed = dequeue_may_give γ.history good.formed (σ item_number) (σ item_value) (good.model.calls.of_consumer_lem ∙ ap is_busy seen)
@@ -144,7 +144,7 @@ module _ (z : Sizes) (σ : Reader) (γ : Ghost) (good : Good z σ γ) where
         (entries : (y j k : ℕ) → after σ ws (entry y j k) ≡ update σ (state r i := 2) (entry y j k))
         (rows : (u k : ℕ) → row_of (after σ ws) u k ≡ row_of σ u k)
         (ends : (after σ ws tail_record ≡ σ tail_record) × (after σ ws head_record ≡ σ head_record))
-        (tails : σ tail ≤ after σ ws tail) (IsWord-same : after σ ws all_handled ≡ σ all_handled) where
+        (tails : σ tail ≤ after σ ws tail) (word_same : after σ ws all_handled ≡ σ all_handled) where
       marking : (consumer_in_range z (after σ ws) ≡ true) × (drain_in_range z (after σ ws) ≡ true)
           → Linked σ (after σ ws cursor_record) × Linked σ (after σ ws found_record)
           → Invariant z.B (view (after σ ws) (with_entries γ (override γ.entry (σ found_position) gone) h))
@@ -157,7 +157,7 @@ module _ (z : Sizes) (σ : Reader) (γ : Ghost) (good : Good z σ γ) where
           rows
           ends
           in_row
-          (IsWord-same ∙ no_scan z σ γ good 7 e refl)
+          (word_same ∙ no_scan z σ γ good 7 e refl)
           linked
           (subst⁻¹ (Agrees z.B γ.shape.lo γ.shape.hi γ.shape.gap γ.shape.at (override γ.entry (σ found_position) gone) γ.content)
           (fun_ext (λ y. fun_ext (λ j. fun_ext (λ k. entries y j k))))
@@ -279,7 +279,7 @@ module _ (z : Sizes) (σ : Reader) (γ : Ghost) (good : Good z σ γ) where
             count = count;
             is_number_lem = pairs c 0 ∙ rw (eq-eqb c c refl) refl;
             is_value = pairs c 1 ∙ rw (eq-eqb c c refl) refl;
-            others = λ j k n. pairs j k ∙ rw (ne_eqb c j (λ y. n (sym y)), and_false (eqb 1 k), and_false (eqb 0 k)) refl;
+            others = λ j k n. pairs j k ∙ rw (ne_eqb c j (λ y. n (sym y)), and-false (eqb 1 k), and-false (eqb 0 k)) refl;
           }
 
       kept_in_range : (ws : List Write) (p : ℕ) → p ≢ 0 → Kept ws p → drain_in_range z (after σ ws) ≡ true
@@ -312,7 +312,7 @@ module _ (z : Sizes) (σ : Reader) (γ : Ghost) (good : Good z σ γ) where
         where
           not-untold : untold (after σ ws) ≡ false
           not-untold =
-              rw (ne_eqb (after σ ws drain_limit) 0 (λ y. draining (sym k.limit ∙ y)), and_false (eqb (after σ ws consumer_phase) 8)) refl
+              rw (ne_eqb (after σ ws drain_limit) 0 (λ y. draining (sym k.limit ∙ y)), and-false (eqb (after σ ws consumer_phase) 8)) refl
 
       fits : c < most_drained
       fits = omega (arith, below_limit, (drain_in z σ good.range.draining).most)
@@ -426,7 +426,7 @@ module _ (z : Sizes) (σ : Reader) (γ : Ghost) (good : Good z σ γ) where
         (λ d.
         let is = both (at_end z σ h (suc (σ head_position))) (not (eqb (σ tail_record) (suc h))) d in
         let placed : σ (place h) ≡ γ.shape.lo = head_record_placed z σ γ good h w in
-        let other : σ (place h) ≢ γ.shape.tp = not_tail_record z σ γ good h (head_record_linked z σ γ good h w) (eqb-false (σ tail_record) (suc h) (not_true (eqb (σ tail_record) (suc h)) is.1)) in
+        let other : σ (place h) ≢ γ.shape.tp = not_tail_record z σ γ good h (head_record_linked z σ γ good h w) (eqb-false (σ tail_record) (suc h) (not-true (eqb (σ tail_record) (suc h)) is.1)) in
         to-8 at room (eqb-true (suc (σ head_position)) (z.B * σ (place h)) is.0 ∙ ap (λ (x : ℕ). z.B * x) placed) (omega (arith, m.head_tail)))
         (λ d. of-front at room))))
         (λ b. of-item)

@@ -2,7 +2,7 @@
 use Rattle.std.specs.Prelude.{◌≡◌, refl, ◌⊎◌, ◌≢◌, Bool, true, ◌&&◌, ◌||◌, cond, List, [], ◌∷◌, ◌++◌, ℕ, zero, suc, ◌+◌, ◌*◌, ◌≤◌, ◌<◌, eqb}
 use Rattle.std.proofs.Common.{ap, ap₂, sym, ◌∙◌, subst, inl, inr, arith, ne_eqb, eqb-true}
 use Rattle.std.proofs.Math.Path.{fun_ext}
-use Rattle.std.proofs.Math.Bool.{and_false}
+use Rattle.std.proofs.Math.Bool.{and-false}
 use Rattle.std.proofs.lemmas.Bool.{false≢true, eqb-false}
 use Rattle.std.proofs.Math.Decide.{dec_le}
 use Rattle.history.specs.Lists.{All}
@@ -294,7 +294,7 @@ module _ (z : Sizes) (σ : Reader) (γ : Ghost) (good : Good z σ γ) (e : σ co
     -- A drain: all is told.
     module _ (draining : σ drain_limit ≢ 0) where
       all_told : told σ γ.history ≡ γ.history
-      all_told = rw (ne_eqb (σ drain_limit) 0 draining, and_false (eqb (σ consumer_phase) 8)) refl
+      all_told = rw (ne_eqb (σ drain_limit) 0 draining, and-false (eqb (σ consumer_phase) 8)) refl
 
       -- it ends: the last item's end moves here
       ends : (c : ℕ) → σ drain_count ≡ suc c → Goes z σ γ (step 0) (drained (items_marked σ (suc c))) (moved z σ γ good k ++ cleared)

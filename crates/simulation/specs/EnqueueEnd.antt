@@ -1,14 +1,14 @@
 -- The end of an enqueue: the event that it adds, and the producer's words, which are zero.
 use Rattle.std.specs.Prelude.{◌≡◌, refl, Bool, true, false, [], ◌∷◌, ◌++◌, ℕ, eqb}
 use Rattle.std.proofs.Common.{ap, sym, ◌∙◌, arith, eqb-true}
-use Rattle.std.proofs.Math.Option.{none, some, none-ne-some, some-injective}
+use Rattle.std.proofs.Math.Option.{some, none-ne-some, some-injective}
 use Rattle.history.specs.Event.{History, enqueue_started, enqueue_ended, dequeue_started, gave_item, gave_empty}
 use Rattle.history.specs.Form.{well_formed}
 use Rattle.history.specs.Linearization.{Item}
 use Rattle.criterion.specs.Explained.{current}
 use Rattle.criterion.specs.Growth.{enqueue_may_end}
 use Rattle.rules.specs.Sizes.{Sizes}
-use Rattle.rules.specs.Cell.{Reader, producer, value}
+use Rattle.rules.specs.Cell.{Reader}
 use Rattle.rules.specs.Range.{last_producer_phase, thread_in_range, producer_sorts}
 use Rattle.rules.specs.Play.{end_of_enqueue}
 use Rattle.model.specs.State.{idle, call_of}

@@ -1,7 +1,7 @@
 -- The entry at a position: where it stands, and what a write of it leaves alone.
 use Rattle.std.specs.Prelude.{◌≡◌, refl, Bool, true, false, ◌&&◌, ℕ, zero, suc, ◌+◌, ◌*◌, ◌/◌, ◌<◌, eqb}
 use Rattle.std.proofs.Common.{ap, sym, ◌∙◌, mul_comm, mul-le-mul_left, arith, lt-ltb, le-leb, ne_eqb}
-use Rattle.std.proofs.Math.Bool.{and_false}
+use Rattle.std.proofs.Math.Bool.{and-false}
 use Rattle.std.proofs.Math.Decide.{ℕ_discrete}
 use Rattle.std.proofs.Math.Arith.{digits_div}
 use Rattle.history.specs.Linearization.{Item}
@@ -91,7 +91,7 @@ other_entry h i x a n = go (ℕ_discrete x h)
   where
     go : Dec (x ≡ h) → (eqb i a && eqb h x) ≡ false
     go (yes e) = rw (ne_eqb i a (λ q. n e (sym q))) refl
-    go (no m) = rw (ne_eqb h x (λ q. m (sym q)), and_false (eqb i a)) refl
+    go (no m) = rw (ne_eqb h x (λ q. m (sym q)), and-false (eqb i a)) refl
 
 -- The entry at position p, inside a record r that is linked: where it stands, on the chain and in the record.
 pub record Slot (z : Sizes) (σ : Reader) (g : ChainShape) (r p : ℕ) : Type 0 where

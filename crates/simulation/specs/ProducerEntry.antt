@@ -2,7 +2,7 @@
 use Rattle.std.specs.Prelude.{◌≡◌, Bool, true, false, ◌&&◌}
 use Rattle.std.proofs.Math.Path.{refl, ap, sym, fun_ext}
 use Rattle.std.proofs.Common.{ap₂, ◌∙◌, subst, mul-le-mul_left}
-use Rattle.std.proofs.Math.Bool.{cond, and_false}
+use Rattle.std.proofs.Math.Bool.{cond, and-false}
 use mathlib.Core.List.{List, [], ◌∷◌, ◌++◌}
 use Rattle.std.proofs.Math.Option.{some}
 use Prim.Native.Nat.{ℕ, suc, ◌≤◌}
@@ -15,7 +15,7 @@ use Rattle.history.specs.Form.{well_formed}
 use Rattle.history.specs.Linearization.{Item}
 use Rattle.rules.specs.Sizes.{Sizes}
 use Rattle.rules.specs.Update.{after, both, update, area_of, OtherKind, owner_of, Own, own_leaves}
-use Rattle.rules.specs.Cell.{Cell, Reader, Write, ◌:=◌, clear_producer, tail, tail_record, head_record, head_position, starts, cursor_record, found_record, consumer, producer, part, entry, place, state, entry_number, entry_value, phase, call, value, position, held, backed, of_producer}
+use Rattle.rules.specs.Cell.{Cell, Reader, Write, ◌:=◌, clear_producer, tail, tail_record, head_record, head_position, starts, cursor_record, found_record, consumer, part, entry, place, state, entry_number, entry_value, phase, call, value, position, held, backed, of_producer}
 use Rattle.rules.specs.Range.{number, placed_sorts, producer_in_range}
 use Rattle.rules.specs.Rule.{Reply, going, ended, goes, reply, index}
 use Rattle.rules.specs.Producer.{write_entry, set_entry}
@@ -88,7 +88,7 @@ module _ (z : Sizes) (σ : Reader) (γ : Ghost) (good : Good z σ γ) (t : ℕ) 
           producer_goes z σ γ good t a-producer going tt ws γ.shape.tp γ.entry (override γ.content (σ (position t)) what) γ.history
           in_sort
           ((s.fits, s.here.below, omega arith), ((s.fits, s.here.below, omega arith), ((a-producer.0, a-producer.1, omega arith), tt)))
-          (record { parts = λ x j. refl; entries = λ x n b j. rw (other_record σ h s.linked x n, and_false (eqb (index z σ h (σ (position t))) b), and_false (eqb 2 j), and_false (eqb 1 j)) refl })
+          (record { parts = λ x j. refl; entries = λ x n b j. rw (other_record σ h s.linked x n, and-false (eqb (index z σ h (σ (position t))) b), and-false (eqb 2 j), and-false (eqb 1 j)) refl })
           (refl, refl, refl, refl)
           (producer_row_of z (row_of σ' t) 9 nine (omega arith) (record { call = old.call; value = old.value; position = old.position; held = old.held; claimed = old.claimed; backed = old.backed; steps = old.steps }))
           (unclaimed z σ (row_of σ' t) (good.memory.threads t).holding old.claimed
@@ -97,7 +97,7 @@ module _ (z : Sizes) (σ : Reader) (γ : Ghost) (good : Good z σ γ) (t : ℕ) 
           (omega arith, good.memory.tail_last, good.memory.tail_is)
           (slot_changes z σ σ' γ.shape good.memory.chain h (σ (position t)) s γ.entry γ.entry γ.content (override γ.content (σ (position t)) what)
           (λ p n. (refl, override_other γ.content (σ (position t)) what p n))
-          (λ y a j n. rw (other_entry h i y a n, and_false (eqb 2 j), and_false (eqb 1 j)) refl)
+          (λ y a j n. rw (other_entry h i y a n, and-false (eqb 2 j), and-false (eqb 1 j)) refl)
           (slot_state z σ γ h (σ (position t)) s good.agrees)
           (rw (override_same γ.content (σ (position t)) what, eq-eqb h h refl, eq-eqb i i refl) refl)
           (rw (override_same γ.content (σ (position t)) what, eq-eqb h h refl, eq-eqb i i refl) refl)
@@ -155,7 +155,7 @@ module _ (z : Sizes) (σ : Reader) (γ : Ghost) (good : Good z σ γ) (t : ℕ) 
         ((s.fits, s.here.below, omega arith), own_there z t (of_producer t) (of_producer_lem z t a-producer) rest own)
         (record {
           parts = λ y j. same (part y j) refl;
-          entries = λ y n a j. same (entry y a j) refl ∙ rw (other_record σ h s.linked y n, and_false (eqb i a), and_false (eqb 0 j)) refl;
+          entries = λ y n a j. same (entry y a j) refl ∙ rw (other_record σ h s.linked y n, and-false (eqb i a), and-false (eqb 0 j)) refl;
         })
         (same head_record refl, same cursor_record refl, same found_record refl, same head_position refl)
         in_row
@@ -164,7 +164,7 @@ module _ (z : Sizes) (σ : Reader) (γ : Ghost) (good : Good z σ γ) (t : ℕ) 
         (omega arith, good.memory.tail_last, same tail_record refl ∙ good.memory.tail_is)
         (slot_changes z σ σ' γ.shape good.memory.chain h (σ (position t)) s γ.entry (override γ.entry (σ (position t)) put) γ.content γ.content
         (λ p n. (override_other γ.entry (σ (position t)) put p n, refl))
-        (λ y a j n. same (entry y a j) refl ∙ rw (other_entry h i y a n, and_false (eqb 0 j)) refl)
+        (λ y a j n. same (entry y a j) refl ∙ rw (other_entry h i y a n, and-false (eqb 0 j)) refl)
         (same (entry h i 0) refl ∙ rw (override_same γ.entry (σ (position t)) put, eq-eqb h h refl, eq-eqb i i refl) refl)
         (same (entry h i 1) refl ∙ slot_number z σ γ h (σ (position t)) s good.agrees)
         (same (entry h i 2) refl ∙ slot_value z σ γ h (σ (position t)) s good.agrees)

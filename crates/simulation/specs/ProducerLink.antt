@@ -2,7 +2,7 @@
 use Rattle.std.specs.Prelude.{◌≡◌, ◌⊎◌, List, [], ◌∷◌, ◌++◌, ℕ, suc, ◌*◌, ◌≤◌, ◌<◌}
 use Rattle.std.proofs.Math.Path.{refl, ap}
 use Rattle.std.proofs.Common.{sym, ◌∙◌, inl, inr, ⊎_elim, mul-le-mul_left, arith}
-use Rattle.std.proofs.Math.Bool.{true, false, and_false}
+use Rattle.std.proofs.Math.Bool.{true, false, and-false}
 use Rattle.std.proofs.Math.Option.{some}
 use Rattle.std.proofs.Math.Decide.{ℕ_discrete}
 use Rattle.std.proofs.Math.Dec.{eqb}
@@ -122,7 +122,7 @@ module _ (z : Sizes) (σ : Reader) (γ : Ghost) (good : Good z σ γ) (t : ℕ) 
 
           others : (y : ℕ) → (y ≡ c → ⊥) → Untouched σ σ' y
           others y n =
-              ((λ k. same (part y k) refl ∙ rw (ne_eqb c y (λ e. n (sym e)), and_false (eqb 3 k)) refl), (λ i k. same (entry y i k) refl))
+              ((λ k. same (part y k) refl ∙ rw (ne_eqb c y (λ e. n (sym e)), and-false (eqb 3 k)) refl), (λ i k. same (entry y i k) refl))
 
           places : (y : ℕ) → (y ≡ c → ⊥) → σ' (place y) ≡ σ (place y)
           places y n = (others y n).0 0

@@ -8,7 +8,7 @@ use Rattle.history.specs.Event.{History}
 use Rattle.history.specs.Form.{well_formed}
 use Rattle.history.specs.Linearization.{Item}
 use Rattle.rules.specs.Sizes.{Sizes}
-use Rattle.rules.specs.Cell.{Reader, Write, tail, consumer, producer, tail_record, head_record, head_position, cursor_record, found_record, phase, call, value, position, held}
+use Rattle.rules.specs.Cell.{Reader, Write, tail, consumer, tail_record, head_record, head_position, cursor_record, found_record, phase, call, value, position, held}
 use Rattle.rules.specs.Update.{after}
 use Rattle.rules.specs.Range.{producer_sorts, producer_in_range}
 use Rattle.rules.specs.Rule.{Reply}

@@ -1,0 +1,2 @@
+pub mod Upkeep
+pub mod Theorem
