@@ -1,5 +1,7 @@
 // Admission: refusals 2 and 3 (document 01, "Where a call is turned down"), in one pass over the lent words; `threads`, `records` and `area` look at
 // the threads, the records and the drain area.
+#![tactic(auto)]
+
 ghost use Rattle.std.specs.Prelude.{◌≡◌, ◌≤◌, length};
 ghost use Rattle.history.specs.Event.{most_producers};
 ghost use Rattle.rules.specs.Sizes.{sizes_in_range, store_words, most_entries, most_records, most_words};

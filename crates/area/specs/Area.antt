@@ -1,7 +1,7 @@
 -- The range test of the drain area as the code makes it: the pairs below the count, then the words behind them.
 use Rattle.std.specs.Prelude.{◌≡◌, refl, Bool, true, false, ◌&&◌, cond, List, ℕ, zero, suc, ◌+◌, ◌-◌, ◌*◌, ◌≤◌, ◌<◌, leb, eqb, get_or}
 use Rattle.std.proofs.Common.{ap, ap₂, sym, ◌∙◌, arith, lt-ltb, le-ltb}
-use Rattle.std.proofs.Math.Bool.{and_true}
+use Rattle.std.proofs.Math.Bool.{and-true}
 use Rattle.rules.specs.Sizes.{Sizes, content_words, first_drain, most_drained}
 use Rattle.rules.specs.Cell.{reader, consumer, drain, pair}
 use Rattle.rules.specs.Range.{every, pair_in_range, area_in_range, drain_in_range}
@@ -14,7 +14,7 @@ group false b x = refl
 
 -- the first numbers, then those behind
 every_then : (c k : ℕ) (p : ℕ → Bool) → every (c + k) p ≡ (every c p && every k (λ i. p (c + i)))
-every_then c zero p = ap (λ (n : ℕ). every n p) {x = c + 0} {y = c} (omega arith) ∙ sym (and_true (every c p))
+every_then c zero p = ap (λ (n : ℕ). every n p) {x = c + 0} {y = c} (omega arith) ∙ sym (and-true (every c p))
 every_then c (suc k) p =
     ap (λ (n : ℕ). every n p) {x = c + suc k} {y = suc (c + k)} (omega arith)
     ∙ ap (λ (b : Bool). b && p (c + k)) (every_then c k p)
@@ -47,12 +47,12 @@ module _ (z : Sizes) (m : List ℕ) (at : ℕ) (e : at ≡ first_drain z) where
       zeros j = eqb (get_or m (at + 2 + 2 * c + j) 0) 0
 
       below : (i : ℕ) → i < c → test i ≡ leb (get_or m (at + 2 + 2 * i) 0) z.M
-      below i l = rw (lt-ltb i c l, word i 0 (at + 2 + 2 * i) (omega arith) (omega arith) (omega arith)) (and_true (leb (get_or m (at + 2 + 2 * i) 0) z.M))
+      below i l = rw (lt-ltb i c l, word i 0 (at + 2 + 2 * i) (omega arith) (omega arith) (omega arith)) (and-true (leb (get_or m (at + 2 + 2 * i) 0) z.M))
 
       behind : (i : ℕ) → i < most_drained - c → test (c + i) ≡ (zeros (2 * i) && zeros (2 * i + 1))
       behind i l =
           rw (le-ltb (c + i) c (omega arith), word (c + i) 0 (at + 2 + 2 * c + 2 * i) (omega arith) (omega arith) (omega arith), word (c + i) 1 (at + 2 + 2 * c + (2 * i + 1)) (omega arith) (omega arith) (omega arith))
-          (ap (λ (b : Bool). zeros (2 * i) && b) (and_true (zeros (2 * i + 1))))
+          (ap (λ (b : Bool). zeros (2 * i) && b) (and-true (zeros (2 * i + 1))))
 
   -- the words that the test goes by
   pub area_words : drain_in_range z (reader z m) ≡ area_in_range z (get_or m content_words 0) (get_or m at 0) (get_or m (at + 1) 0) (λ i k. reader z m (pair i k))

@@ -1,4 +1,6 @@
 // The range of the drain area's words (document 02, U5): refusal 3.
+#![tactic(auto)]
+
 ghost use Rattle.std.specs.Prelude.{◌≡◌, ◌+◌, ◌*◌, ◌≤◌, leb, eqb, length, get_or};
 ghost use Rattle.rules.specs.Cell.{reader};
 ghost use Rattle.rules.specs.Range.{every, drain_in_range};

@@ -1,4 +1,6 @@
 // The next free record, and the phases that claim one (document 01, "Calls"; document 02, U1 and U7). The words are admitted.
+#![tactic(auto)]
+
 ghost use Rattle.std.specs.Prelude.{◌≡◌, ◌≤◌};
 ghost use Rattle.rules.specs.Sizes.{most_records};
 ghost use Rattle.rules.specs.Cell.{reader};

@@ -1,6 +1,7 @@
 -- From a phase's step to the counted step: its reply carries the number, and the thread's word holds it where the call goes on.
 use mathlib.Core.Path.{◌≡◌, refl, ap, ap₂, sym, ◌∙◌}
 use mathlib.Core.Bool.{Bool, true, false}
+use mathlib.Core.Logic.{inl, inr}
 use mathlib.Core.List.{List, [], ◌∷◌, ◌++◌, append-nil}
 use Prim.Native.Nat.{ℕ, suc, ◌<◌}
 use borrow.Author.Tests.{le-leb}
@@ -30,6 +31,17 @@ recounted b i k Ended = refl
 recounted b i k Empty = refl
 recounted b i k (Item n v) = refl
 recounted b i k (Drained n) = refl
+
+-- what is not going is one of the others
+pub another_reply : (r : Reply) → (r ≡ Going → ⊥) → NotGoing r
+another_reply (Refused n) d = inl refl
+another_reply Ok d = inr (inl refl)
+another_reply (Started n) d = inr (inr (inl refl))
+another_reply Going d = absurd (d refl)
+another_reply Ended d = inr (inr (inr (inl refl)))
+another_reply Empty d = inr (inr (inr (inr (inl refl))))
+another_reply (Item n v) d = inr (inr (inr (inr (inr (inl refl)))))
+another_reply (Drained n) d = inr (inr (inr (inr (inr (inr refl)))))
 
 -- a reply but going keeps no number
 keeps_none : (b : List ℕ) (i : ℕ) (r : Reply) (a : rule.Reply) (c : Cell) (k : ℕ) → response_in b i 0 r ≡ accepted a 0 → NotGoing r → count_kept c k a ≡ []

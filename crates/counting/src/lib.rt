@@ -1,4 +1,6 @@
 // *Step* (thread) on admitted words: one phase, and its number (document 01, "Calls"; document 02, U3).
+#![tactic(auto)]
+
 ghost use Rattle.std.specs.Prelude.{◌≡◌, ◌≤◌};
 ghost use Rattle.rules.specs.Sizes.{most_steps};
 ghost use Rattle.rules.specs.Cell.{reader, step_count};

@@ -1,4 +1,6 @@
 // What C gets of a reply: the returned number, and the four words of the reply.
+#![tactic(auto)]
+
 ghost use Rattle.std.specs.Prelude.{◌≡◌};
 ghost use Rattle.store.specs.Outcome.{response, response_after};
 ghost use Rattle.delivery.specs.Export.{code, reply_words};

@@ -1,5 +1,7 @@
 // The consumer's phases 1 and 2, a function each, and crossings (document 01, "Calls"). The words are admitted. A phase that may end a drain is
 // lent the buffer (document 02, U5).
+#![tactic(auto)]
+
 ghost use Rattle.std.specs.Prelude.{◌≡◌, [], ◌∷◌, ◌<◌};
 ghost use Rattle.rules.specs.Cell.{writes, ◌:=◌, head_record, head_position, used};
 ghost use Rattle.rules.specs.Rule.{goes};
@@ -16,7 +18,7 @@ use store::{
 };
 
 // Where a crossing leads: a link and the first position of its record, or nowhere, where it is refused.
-#[derive(Drop)]
+#[derive(Clone, Copy)]
 pub enum Crossing {
     None,
     To { link: u32, position: u32 },

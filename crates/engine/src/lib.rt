@@ -1,5 +1,7 @@
 // The calls *start enqueue*, *start dequeue*, *start drain* and *step* on the lent words (document 01, "Calls"; document 02, U5), and the C
 // interface of all five.
+#![tactic(auto)]
+
 ghost use Rattle.std.specs.Prelude.{◌≡◌, []};
 ghost use Rattle.rules.specs.Request.{start_enqueue, start_dequeue, start_drain, step, open_store};
 ghost use Rattle.store.specs.Outcome.{left, left_after};
@@ -61,8 +63,7 @@ pub fn step(s: &mut [u32], t: u32, b: &mut [u32], from: u32) -> Counted
 }
 
 // *Open* a store of these sizes.
-#[unsafe(no_mangle)]
-pub extern "C" fn intake_open(
+pub fn intake_open(
     store: &mut [u32],
     entries: u32,
     records: u32,
@@ -81,8 +82,7 @@ pub extern "C" fn intake_open(
 }
 
 // *Start enqueue*; the call number goes to word 0 of the reply, and 1 to word 2: the take is the call's first step.
-#[unsafe(no_mangle)]
-pub extern "C" fn intake_start_enqueue(
+pub fn intake_start_enqueue(
     store: &mut [u32],
     producer: u32,
     value: u32,
@@ -98,16 +98,14 @@ pub extern "C" fn intake_start_enqueue(
 }
 
 // *Start dequeue*.
-#[unsafe(no_mangle)]
-pub extern "C" fn intake_start_dequeue(store: &mut [u32]) -> u32
+pub fn intake_start_dequeue(store: &mut [u32]) -> u32
     ensures { record { number = result; store = store.new } ≡ returned (called start_dequeue store.old [] 0) }
 {
     returned_code(start_dequeue(store))
 }
 
 // *Start drain*.
-#[unsafe(no_mangle)]
-pub extern "C" fn intake_start_drain(store: &mut [u32], limit: u32) -> u32
+pub fn intake_start_drain(store: &mut [u32], limit: u32) -> u32
     ensures { record { number = result; store = store.new } ≡ returned (called (start_drain limit) store.old [] 0) }
 {
     returned_code(start_drain(store, limit))
@@ -115,8 +113,7 @@ pub extern "C" fn intake_start_drain(store: &mut [u32], limit: u32) -> u32
 
 // *Step*; an item's call number and value go to words 0 and 1 of the reply, how many items a drain handed over to word 0, the accepted steps
 // of the call to word 2. Those items go into the buffer from word `from` on.
-#[unsafe(no_mangle)]
-pub extern "C" fn intake_step(
+pub fn intake_step(
     store: &mut [u32],
     thread: u32,
     buffer: &mut [u32],

@@ -1,4 +1,6 @@
 // The producer's phases 2, 3 and 6 to 9, a function each (document 01, "Calls"). The words are admitted and t is a producer.
+#![tactic(auto)]
+
 ghost use Rattle.std.specs.Prelude.{◌≡◌, ◌≤◌, ◌<◌};
 ghost use Rattle.rules.specs.Cell.{reader};
 ghost use Rattle.rules.specs.Producer.{choose, load_tail, look_next, shift_tail, go_back, write_entry, set_entry};

@@ -1,4 +1,6 @@
 // The fold (document 02, U6): whether a record that the scan leaves is folded, and what joins its prev and next. The words are admitted.
+#![tactic(auto)]
+
 ghost use Rattle.std.specs.Prelude.{◌≡◌, ◌<◌};
 ghost use Rattle.rules.specs.Cell.{reader, writes};
 ghost use Rattle.rules.specs.Consumer.{folded, is_read};

@@ -2,7 +2,7 @@
 use Rattle.std.specs.Prelude.{◌≡◌, refl, Bool, true, false, ◌||◌, ℕ, suc, ◌+◌, ◌-◌, ◌*◌, ◌/◌, ◌%◌, ◌^◌, ◌<◌, ◌≤◌, eqb}
 use Rattle.std.proofs.Common.{ap, ◌∙◌, zero-add, one-mul, add-one, shl_exact, ne_eqb, eq-eqb, le-ltb, leb-true}
 use Rattle.std.proofs.Math.Path.{ap₂, sym}
-use Rattle.std.proofs.Math.Bool.{not, and_false}
+use Rattle.std.proofs.Math.Bool.{not, and-false}
 use Rattle.std.proofs.Math.Decide.{ℕ_discrete}
 use native.Mathlib.Omega.{arith}
 use Rattle.std.specs.Int.Bits.{bit_or, or_zero_r}
@@ -54,10 +54,10 @@ module _ (z : Sizes) (σ : Reader) where
       record { place = rw (p, le-ltb k.place 0 (omega arith)) refl; records = sym (ap (λ (m : ℕ). bit_or k.records m) none ∙ or_zero_r k.records) }
 
   pub none_named : (k : Kept) → KeepsToo z σ 0 k k
-  none_named k = adds_nothing {link = 0} k refl (λ r. rw (ne_eqb 0 (suc r) (λ e. omega arith)) (and_false (eqb (σ (used r)) 3)))
+  none_named k = adds_nothing {link = 0} k refl (λ r. rw (ne_eqb 0 (suc r) (λ e. omega arith)) (and-false (eqb (σ (used r)) 3)))
 
   names_another : (x r : ℕ) → (r ≡ x → ⊥) → names σ (suc x) r ≡ false
-  names_another x r n = rw (ne_eqb (suc x) (suc r) (λ e. n (omega arith))) (and_false (eqb (σ (used r)) 3))
+  names_another x r n = rw (ne_eqb (suc x) (suc r) (λ e. n (omega arith))) (and-false (eqb (σ (used r)) 3))
 
   module _ {link x : ℕ} (is : link ≡ suc x) where
     pub none_retired : (k : Kept) → (σ (used x) ≡ 3 → ⊥) → KeepsToo z σ link k k

@@ -1,4 +1,6 @@
 // The free records as the digits of one word (document 02, U6 and U7). The words are admitted.
+#![tactic(auto)]
+
 ghost use Rattle.std.specs.Prelude.{◌≡◌, ◌≤◌, ◌<◌};
 ghost use Rattle.rules.specs.Cell.{reader};
 ghost use Rattle.rules.specs.Free.{free};
@@ -16,7 +18,7 @@ const NEVER: u32 = 4294967295;
 
 // The retired records that producers hold: the greatest place of them, 0 where there are none, and the records as digits of a word, record 0
 // the lowest.
-#[derive(Drop)]
+#[derive(Clone, Copy)]
 struct Kept {
     place: u32,
     records: u64,

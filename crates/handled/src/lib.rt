@@ -1,4 +1,6 @@
 // The parts of the consumer's phase 7 (document 01, "Calls"; document 02, U2 and U5): what the mark of the found entry leads to, and what it writes.
+#![tactic(auto)]
+
 ghost use Rattle.std.specs.Prelude.{◌≡◌, ◌<◌};
 ghost use Rattle.rules.specs.Sizes.{most_drained};
 ghost use Rattle.rules.specs.Cell.{reader, writes};
@@ -22,7 +24,7 @@ fn drained_at(s: &[u32], z: Shape, h: u32, position: u32) -> bool
 }
 
 // What the mark of the found entry leads to: nowhere, where it is refused; to phase 8; or the item is given.
-#[derive(Drop)]
+#[derive(Clone, Copy)]
 pub enum Mark {
     None,
     Retires,

@@ -1,4 +1,6 @@
 // The producer's phases 5 and 11, which link the claimed record or give it back (document 01, "Calls"). The words are admitted and t is a producer.
+#![tactic(auto)]
+
 ghost use Rattle.std.specs.Prelude.{◌≡◌, ◌≤◌, ◌<◌};
 ghost use Rattle.rules.specs.Producer.{link_claimed, link_ahead};
 ghost use Rattle.store.specs.Shape.{sizes};

@@ -2,7 +2,7 @@
 use Rattle.std.specs.Prelude.{◌≡◌, true, false, List, [], ◌++◌, ℕ, ◌≤◌, ◌<◌, length, drop, replicate}
 use Rattle.std.proofs.Math.Path.{refl}
 use Rattle.std.proofs.Common.{◌∙◌, zero-add, arith}
-use Rattle.std.proofs.Math.Bool.{or_true}
+use Rattle.std.proofs.Math.Bool.{or-true}
 use Rattle.std.proofs.lemmas.List.{length-replicate}
 use Rattle.std.proofs.lemmas.List.Edits.{sets, sets-eq}
 use borrow.Author.Tests.{lt-ltb, le-ltb}
@@ -18,7 +18,7 @@ module _ (z : Sizes) (m : List ℕ) where
 
   pub open_short : sizes_in_range z ≡ true → length m < store_words z → left (Refused 2) m [] 0 ≡ open_store z m
   unfolding open_store
-  open_short e h = rw (e, lt-ltb (length m) (store_words z) h, or_true) refl
+  open_short e h = rw (e, lt-ltb (length m) (store_words z) h, or-true) refl
 
   pub open_made : sizes_in_range z ≡ true → store_words z ≤ length m → 16 ≤ length m → left Ok (opened z m) [] 0 ≡ open_store z m
   unfolding open_store

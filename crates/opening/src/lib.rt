@@ -1,4 +1,6 @@
 // *Open* (document 01, "Calls"), on any words.
+#![tactic(auto)]
+
 ghost use Rattle.std.specs.Prelude.{◌≡◌, [], ◌∷◌};
 ghost use Rattle.rules.specs.Sizes.{content_words, first_record};
 ghost use Rattle.rules.specs.Cell.{writes, ◌:=◌, content, last_claimed, tail_record, head_record, place, used};

@@ -1,4 +1,6 @@
 // The words of a start enqueue (document 01, "Calls"; document 02, U8).
+#![tactic(auto)]
+
 ghost use Rattle.std.specs.Prelude.{◌≡◌, suc, ◌≤◌, ◌<◌};
 ghost use Rattle.rules.specs.Cell.{reader, writes, tail, starts};
 ghost use Rattle.rules.specs.Request.{start_writes};

@@ -2,7 +2,7 @@
 use Rattle.std.specs.Prelude.{◌≡◌, Bool, true, false, ◌&&◌, List, [], ◌∷◌, leb, length, set}
 use Rattle.std.proofs.Math.Path.{refl, ap}
 use Rattle.std.proofs.Common.{ap₂, sym, ◌∙◌, arith, le-leb}
-use Rattle.std.proofs.Math.Bool.{and_true, and_assoc}
+use Rattle.std.proofs.Math.Bool.{and-true, and_assoc}
 use Prim.Native.Nat.{ℕ, zero, suc, ◌+◌, ◌-◌, ◌*◌, ◌≤◌, ◌<◌}
 use Rattle.std.proofs.Math.Decide.{dec_lt}
 use Rattle.std.proofs.Math.ListN.{get_or, length-set}
@@ -140,7 +140,7 @@ module _ (row : List ℕ) (z : Sizes) (fits : 3 * z.B + 4 ≤ length row) (All-a
 -- a row of four words and n times three
 by_entries : (q : ℕ → Bool) (n : ℕ)
     → every (3 * n + 4) q ≡ ((q 0 && (q 1 && (q 2 && q 3))) && every n (λ i. q (4 + 3 * i) && (q (5 + 3 * i) && q (6 + 3 * i))))
-by_entries q zero = simp (and_assoc, and_true)
+by_entries q zero = simp (and_assoc, and-true)
 by_entries q (suc n) =
     ap (λ (k : ℕ). every k q) {x = 3 * suc n + 4} {y = suc (suc (suc (3 * n + 4)))} (omega arith)
     ∙ three (every (3 * n + 4) q) (q 0 && (q 1 && (q 2 && q 3))) (every n (λ i. q (4 + 3 * i) && (q (5 + 3 * i) && q (6 + 3 * i))))
@@ -189,7 +189,7 @@ module _ (z : Sizes) (m b : List ℕ) (is : Bounded z b) (r at : ℕ) (h : r < z
       parts =
           ap₂ ◌&&◌ (bound (at + 0) 0 most_place refl is.of_place)
           (ap₂ ◌&&◌ (bound (at + 1) 1 z.N refl is.of_next)
-          (ap₂ ◌&&◌ (bound (at + 2) 2 z.N refl is.of_prev) (and_true _ ∙ bound (at + 3) 3 3 refl is.of_use)))
+          (ap₂ ◌&&◌ (bound (at + 2) 2 z.N refl is.of_prev) (and-true _ ∙ bound (at + 3) 3 3 refl is.of_use)))
 
       entries : (i : ℕ) → i < z.B → at_most (from m (at + 4 + 3 * i)) 0 (2 ∷ z.M ∷ []) ≡ (q (4 + 3 * i) && (q (5 + 3 * i) && q (6 + 3 * i)))
       entries i l =

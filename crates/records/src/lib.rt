@@ -1,4 +1,6 @@
 // The range of every word of the records (document 01, "Where a call is turned down"): most of the words that admission looks at.
+#![tactic(auto)]
+
 ghost use Rattle.std.specs.Prelude.{◌≡◌, ◌&&◌, [], ◌∷◌, ◌+◌, ◌*◌, ◌≤◌, ◌<◌, length};
 ghost use Rattle.rules.specs.Sizes.{record_words, most_entries, most_place};
 ghost use Rattle.rules.specs.Cell.{reader};

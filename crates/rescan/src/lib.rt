@@ -1,4 +1,6 @@
 // The consumer's phase 5 (document 01, "Calls"). The words are admitted.
+#![tactic(auto)]
+
 ghost use Rattle.std.specs.Prelude.{◌≡◌, ◌<◌};
 ghost use Rattle.rules.specs.Cell.{reader, writes};
 ghost use Rattle.rules.specs.Rule.{cross};

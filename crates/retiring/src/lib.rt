@@ -1,4 +1,6 @@
 // The consumer's phase 8 (document 02, U2 and U5): the head record is retired, and the item is given. The words are admitted.
+#![tactic(auto)]
+
 ghost use Rattle.std.specs.Prelude.{◌≡◌, ◌<◌};
 ghost use Rattle.rules.specs.Consumer.{retire_head};
 ghost use Rattle.store.specs.Shape.{sizes};

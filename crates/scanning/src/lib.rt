@@ -1,5 +1,7 @@
 // The consumer's phases 3 and 4, the scan (document 01, "Calls"); what it has read it folds (document 02, U6). The words are admitted. A phase
 // that may end a drain is lent the buffer (document 02, U5).
+#![tactic(auto)]
+
 ghost use Rattle.std.specs.Prelude.{◌≡◌, cond, [], ◌∷◌, ◌<◌, eqb};
 ghost use Rattle.rules.specs.Cell.{reader, writes, ◌:=◌, all_handled, cursor_record, cursor_position};
 ghost use Rattle.rules.specs.Consumer.{scan_crosses, scan, read_entry};

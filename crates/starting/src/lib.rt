@@ -1,4 +1,6 @@
 // *Start enqueue* (document 01, "Calls"; document 02, U8), *start dequeue* (document 01) and *start drain* (document 02, U5), on admitted words.
+#![tactic(auto)]
+
 ghost use Rattle.std.specs.Prelude.{◌≡◌, eqb};
 ghost use Rattle.rules.specs.Cell.{reader, consumer_phase};
 ghost use Rattle.rules.specs.Request.{starting_enqueue, starting_dequeue, starting_drain};

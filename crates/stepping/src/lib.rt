@@ -1,4 +1,6 @@
 // One phase of a thread, by its number (document 01, "Calls"). The words are admitted and the thread is there.
+#![tactic(auto)]
+
 ghost use Rattle.std.specs.Prelude.{◌≡◌, ◌≤◌};
 ghost use Rattle.rules.specs.Free.{next_free};
 ghost use Rattle.rules.specs.Request.{phase_step};

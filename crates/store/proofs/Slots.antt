@@ -1,12 +1,8 @@
 -- What a phase knows of a slot once it has looked at its case, and the refusals. The link and the position are words of the store.
 use mathlib.Core.Path.{◌≡◌, refl, ap, sym}
 use mathlib.Core.Bool.{cond}
-use mathlib.Core.Logic.{inl, inr}
-use mathlib.Core.List.{List, [], ◌∷◌}
+use mathlib.Core.List.{List}
 use Prim.Native.Nat.{ℕ, ◌<◌}
-use native.Mathlib.Omega.{arith}
-use denote.Enum.Declared.{tag_of}
-use types.Run.{OneOf}
 use Rattle.rules.specs.Sizes.{Sizes}
 use Rattle.rules.specs.Cell.{reader}
 use Rattle.rules.specs.Rule.{Effect, refuse, need, at_end, within}
@@ -16,7 +12,6 @@ use Rattle.store.specs.declared.Slot.{Slot}
 use Rattle.store.specs.declared.Slot.TheVariants.{None, End, At}
 use Rattle.store.specs.Outcome.{left, leaves}
 use Rattle.store.specs.Slot.{StandsEnd, StandsAt, Slotted}
-use Rattle.store.specs.contracts.Slot.{the_type}
 
 -- the record and the index are there
 module _ {z : Sizes} {m : List ℕ} {l p : ℕ} {x : Slot} (s : Slotted z m l p x) where
@@ -38,20 +33,17 @@ module _ {z : Sizes} {m : List ℕ} {l p link position : ℕ} (a : link ≡ l) (
   stands_at s e = rw (a, b) (rw e at s.stands)
 
   -- not in the record
-  pub not_inside : (f : ℕ → Effect) (x : Slot) → Slotted z m l p x → OneOf (0 ∷ 1 ∷ []) (tag_of the_type x)
+  pub not_inside : (f : ℕ → Effect) (x : Slot) → Slotted z m l p x → ((r i : ℕ) → x ≡ At r i → ⊥)
       → left (Refused 9) m ≡ leaves z m (need link (λ r. cond (within z (reader z m) r position) (f r) (refuse 9)))
   unfolding applied
   not_inside f None s k = rw (a, b) (ap (leaves z m) (sym (s.stands.outside f)))
   not_inside f (End r) s k = rw (a, b, s.stands.link, s.stands.outside) refl
-  not_inside f (At r i) s (inl k) = absurd (omega arith)
-  not_inside f (At r i) s (inr k) = absurd (omega arith)
+  not_inside f (At r i) s k = absurd (k r i refl)
 
   -- neither at the record's end nor in it
-  pub nowhere : (f g : ℕ → Effect) (x : Slot) → Slotted z m l p x → OneOf (0 ∷ 2 ∷ []) (tag_of the_type x) → OneOf (0 ∷ 1 ∷ []) (tag_of the_type x)
+  pub nowhere : (f g : ℕ → Effect) (x : Slot) → Slotted z m l p x → ((r : ℕ) → x ≡ End r → ⊥) → ((r i : ℕ) → x ≡ At r i → ⊥)
       → left (Refused 9) m ≡ leaves z m (need link (λ r. cond (at_end z (reader z m) r position) (f r) (cond (within z (reader z m) r position) (g r) (refuse 9))))
   unfolding applied
   nowhere f g None s j k = rw (a, b) (ap (leaves z m) (sym (s.stands.refused f g)))
-  nowhere f g (End r) s (inl j) k = absurd (omega arith)
-  nowhere f g (End r) s (inr j) k = absurd (omega arith)
-  nowhere f g (At r i) s j (inl k) = absurd (omega arith)
-  nowhere f g (At r i) s j (inr k) = absurd (omega arith)
+  nowhere f g (End r) s j k = absurd (j r refl)
+  nowhere f g (At r i) s j k = absurd (k r i refl)

@@ -1,4 +1,6 @@
 // The lent words of a store by name: what a word holds, and stores to it (document 01, "Store").
+#![tactic(auto)]
+
 ghost use Rattle.std.specs.Prelude.{◌≡◌, cond, ◌+◌, ◌*◌, ◌<◌, ◌≤◌, length, set, replicate};
 ghost use Rattle.std.proofs.lemmas.List.Edits.{sets};
 ghost use Rattle.history.specs.Event.{most_producers};
@@ -18,7 +20,7 @@ pub mod usage;
 pub mod word;
 
 // The sizes of a store: entries in a record (B), records (N), producers (P), enqueue starts allowed (M).
-#[derive(Drop)]
+#[derive(Clone, Copy)]
 pub struct Shape {
     pub entries: u32,
     pub records: u32,
@@ -27,7 +29,7 @@ pub struct Shape {
 }
 
 // What a call replies.
-#[derive(Drop)]
+#[derive(Clone, Copy)]
 pub enum Reply {
     Refused(u32),
     Ok,
@@ -41,14 +43,14 @@ pub enum Reply {
 }
 
 // A reply with the number of accepted steps of its call so far.
-#[derive(Drop)]
+#[derive(Clone, Copy)]
 pub struct Counted {
     pub reply: Reply,
     pub steps: u32,
 }
 
 // Words 6 to 10 of the contents: the queue's two ends, and the enqueue starts.
-#[derive(Drop)]
+#[derive(Clone, Copy)]
 pub struct Contents {
     pub tail: u32,
     pub tail_record: u32,
@@ -58,7 +60,7 @@ pub struct Contents {
 }
 
 // The consumer's words.
-#[derive(Drop)]
+#[derive(Clone, Copy)]
 pub struct Consumer {
     pub phase: u32,
     pub cursor_record: u32,
@@ -70,7 +72,7 @@ pub struct Consumer {
 }
 
 // A producer's words.
-#[derive(Drop)]
+#[derive(Clone, Copy)]
 pub struct Producer {
     pub phase: u32,
     pub call: u32,
@@ -82,7 +84,7 @@ pub struct Producer {
 }
 
 // The drain area's words before its pairs.
-#[derive(Drop)]
+#[derive(Clone, Copy)]
 pub struct Drain {
     pub limit: u32,
     pub count: u32,
@@ -90,7 +92,7 @@ pub struct Drain {
 
 // Where a position stands in the record that a link names: at its end, at an index of it, or neither, which is also where the
 // link is none.
-#[derive(Drop)]
+#[derive(Clone, Copy)]
 pub enum Slot {
     None,
     End { record: u32 },

@@ -26,7 +26,7 @@ module _ (z : Sizes) (m : List ℕ) (fits : store_words z ≤ length m) (ws : Li
       let below : items_marked τ c ≡ items_marked (reader z m) c =
       same_items τ σ' c (λ j l. let d = ne_eqb c j (λ e. omega arith) in (rw d refl, rw d refl)) ∙ items_left_lem z m fits ws there other c in
       let at = eq-eqb c c refl in
-      rw read (ap₂ (λ (xs : List Item) (x : Item). xs ++ (x ∷ [])) below (ap₂ (λ (a b : ℕ). record { number = a; value = b }) (rw at refl) (rw at refl)))
+      ap (λ (σ : Reader). items_marked σ (suc c)) read ∙ (ap₂ (λ (xs : List Item) (x : Item). xs ++ (x ∷ [])) below (ap₂ (λ (a b : ℕ). record { number = a; value = b }) (rw at refl) (rw at refl)))
 
 -- The writes of the mark, and of the move past the head record's end.
 module _ (z : Sizes) (σ : Reader) (r i : ℕ) (h : r < z.N) (l : i < z.B) where

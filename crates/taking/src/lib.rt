@@ -1,5 +1,7 @@
 // The consumer's phases 6 and 7, a function each (document 01, "Calls"; document 02, U2 and U5): the item is read, taken and given. The words are
 // admitted.
+#![tactic(auto)]
+
 ghost use Rattle.std.specs.Prelude.{◌≡◌, [], ◌++◌, ◌<◌};
 ghost use Rattle.rules.specs.Cell.{reader, drain_limit, drain_count};
 ghost use Rattle.rules.specs.Consumer.{read_item, marks, keep_item, replies_item, mark_handled};

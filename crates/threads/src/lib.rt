@@ -1,4 +1,6 @@
 // The range of the threads' words (document 01, "Where a call is turned down"): refusal 3.
+#![tactic(auto)]
+
 ghost use Rattle.std.specs.Prelude.{◌≡◌, [], ◌∷◌, suc, ◌+◌, ◌≤◌, ◌<◌, length};
 ghost use Rattle.rules.specs.Sizes.{most_words};
 ghost use Rattle.rules.specs.Cell.{reader};

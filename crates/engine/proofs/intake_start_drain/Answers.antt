@@ -1,0 +1,8 @@
+-- `engine::intake_start_drain` meets its contract.
+use Rattle.std.proofs.Common.{[]}
+use Rattle.store.specs.Items.{lent}
+use Rattle.delivery.specs.Delivery.{returned_of}
+use Rattle.engine.proofs.intake_start_drain.Goals as goal
+
+pub returns : goal.returns
+returns c = returned_of c.start_drain.result c.returned_code.ensures (lent c.start_drain.ensures [] 0)

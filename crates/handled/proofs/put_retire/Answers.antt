@@ -1,0 +1,8 @@
+-- `handled::put_retire` meets its contract.
+use Rattle.std.proofs.Common.{refl}
+use Rattle.rules.specs.Cell.{writes}
+use Rattle.handled.proofs.put_retire.Goals as goal
+
+pub returns : goal.returns
+unfolding writes
+returns c = rw (c.put_consumer.ensures, c.put_found.ensures) refl

@@ -1,0 +1,11 @@
+-- `rescan::move_cursor` meets its contract.
+use Rattle.std.proofs.Common.{refl, eq-eqb, ne_eqb}
+use Rattle.rules.specs.Cell.{writes}
+use Rattle.rescan.proofs.move_cursor.Goals as goal
+
+pub returns-then-position-found : goal.returns-then-position-found
+returns-then-position-found c = rw (eq-eqb _ _ c.if-position-found.true) c.settle.ensures
+
+pub returns : goal.returns
+unfolding writes
+returns c = rw (ne_eqb _ _ c.if-position-found.false, c.put_cursor.ensures) refl

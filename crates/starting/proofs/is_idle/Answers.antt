@@ -1,0 +1,6 @@
+-- `starting::is_idle` meets its contract.
+use Rattle.std.proofs.Common.{refl}
+use Rattle.starting.proofs.is_idle.Goals as goal
+
+pub returns : goal.returns
+returns c = rw c.read_consumer.ensures.phase refl

@@ -1,0 +1,5 @@
+-- `store::put_drain` meets its contract.
+use Rattle.store.proofs.put_drain.Goals as goal
+
+pub returns : goal.returns
+returns c = rw (← c.drain_at.ensures.0) c.put_word.ensures
