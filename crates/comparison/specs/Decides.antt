@@ -12,7 +12,7 @@ use Rattle.criterion.specs.Criterion.{verdict}
 use Rattle.reading.specs.Admitted.{Refusal, refused_by_10_12_or_13}
 use Rattle.equivalence.specs.Statement as carried
 use Rattle.equivalence.specs.Tests.{same_calls, keeps_precedence}
-use Rattle.equivalence.specs.Decides.{same_exactly, keeps_exactly}
+use Rattle.equivalence.proofs.Decides.{same_exactly, keeps_exactly}
 use Rattle.equivalence.specs.Theorem.{linearizable_carries_over}
 use Rattle.matching.specs.Spelled.{Spelled, read_spells}
 use Rattle.comparison.specs.declared.Recording.{Recording}

@@ -1,5 +1,7 @@
 // Two recordings of one run compared (document 02, U10): whether they have the same calls, and the rest of the longer one after their
 // longest shared beginning. Its meaning is in specs/Compared.antt; what a yes of keeps_precedence gives, in specs/Decides.antt.
+#![tactic(auto)]
+
 ghost use Rattle.std.specs.Prelude.{◌≡◌, cond, ◌≤◌, min, leb, drop};
 ghost use Rattle.history.specs.Form.{most_events, read};
 ghost use Rattle.matching.specs.Rows.{events_in};
@@ -12,14 +14,14 @@ use matching::same_event;
 use reading::{Entered, MEMORY, MOST_EVENTS, read};
 
 // One of the two recordings.
-#[derive(Drop)]
+#[derive(Clone, Copy)]
 pub enum Recording {
     First,
     Second,
 }
 
 // The reply: whose words were refused with which number, or whether both recordings have the same calls.
-#[derive(Drop)]
+#[derive(Clone, Copy)]
 pub enum Reply {
     Refused(Recording, u32),
     SameCalls,
@@ -27,13 +29,13 @@ pub enum Reply {
 }
 
 // A part of one of the recordings, from a word on to its end.
-#[derive(Drop)]
+#[derive(Clone, Copy)]
 pub struct Rest {
     pub recording: Recording,
     pub from: usize,
 }
 
-#[derive(Drop)]
+#[derive(Clone, Copy)]
 pub struct Compared {
     pub reply: Reply,
     pub rest: Rest,
@@ -265,16 +267,14 @@ fn deliver(compared: Compared, said: &mut [u32; 4]) -> u32
 }
 
 // Compares two recordings, for programs in C.
-#[unsafe(no_mangle)]
-pub extern "C" fn recordings_compare(first: &[u32], second: &[u32], reply: &mut [u32; 4]) -> u32
+pub fn recordings_compare(first: &[u32], second: &[u32], reply: &mut [u32; 4]) -> u32
     ensures { Replies first.now second.now reply.old reply.new result }
 {
     deliver(compare(first, second), reply)
 }
 
 // Whether the second recording may be trusted on the word of the first: 0 yes, 1 no.
-#[unsafe(no_mangle)]
-pub extern "C" fn recordings_keep_precedence(first: &[u32], second: &[u32]) -> u32
+pub fn recordings_keep_precedence(first: &[u32], second: &[u32]) -> u32
     ensures { result ≡ cond (keeps_to (read most_events first.now) (read most_events second.now)) 0 1 }
 {
     if keeps_precedence(first, second) {

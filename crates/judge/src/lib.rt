@@ -1,5 +1,7 @@
 // The judge: whether a history of events is explained by a first-in first-out queue (document 01, "Judge"), and by which order of its
 // calls (document 02, U9).
+#![tactic(auto)]
+
 ghost use Rattle.std.specs.Prelude.{◌≡◌, true, ◌&&◌, ◌+◌, ◌≤◌, ◌<◌, length, get_or, replicate};
 ghost use Rattle.history.specs.Calls.{row};
 ghost use Rattle.history.specs.Form.{most_events};
@@ -12,7 +14,7 @@ use marking::{Marked, marks};
 use reading::{ANSWER, END, Entered, MEMORY, MOST_EVENTS, START, THREAD, read};
 
 // The judge's reply: a refusal's number, or whether the history is explained, and by how many words of order (specs/Contract.antt).
-#[derive(Drop)]
+#[derive(Clone, Copy)]
 pub enum Verdict {
     Refused(u32),
     Explained(u32),
@@ -21,7 +23,7 @@ pub enum Verdict {
 
 // An entry of the working table, a started call: kind 1 or 3, start event, end event or 0, the item's call number or 0.
 #[repr(C)]
-#[derive(Drop)]
+#[derive(Clone, Copy)]
 pub struct Call {
     pub kind: u32,
     pub start: u32,
@@ -31,7 +33,7 @@ pub struct Call {
 
 // What reading and the verdict's pass find: the refusal's number or 0, the calls started, how many entries the last test looks at, the
 // mark that the pass leaves, and whether it goes through.
-#[derive(Drop)]
+#[derive(Clone, Copy)]
 struct Findings {
     refusal: u32,
     calls: usize,
@@ -169,8 +171,7 @@ fn stays(call: Call, flags: &[u32; MOST_EVENTS], j: usize, mark: u32) -> bool
     (call.kind != 1) | ((flags[j] == 1) | ((call.end == 0) | (mark <= call.end)))
 }
 
-// The first n calls go into the table, in starting order. The functions from here on are proved by walks of their MIR, by hand,
-// since each has a reference to a slice of structs.
+// The first n calls go into the table, in starting order.
 fn fill_calls(table: &mut [Call], m: &[u32; MEMORY], n: usize)
     requires { (n ≤ length table.old) × (n ≤ most_events) }
     ensures { table.new ≡ filled m.now n table.old }

@@ -1,5 +1,7 @@
 // The judge for programs in C, over a working table of call structs and a word buffer for the order, and the check of an order
 // (specs/Reply.antt). The check says yes to each order that the judge writes (specs/Accepted.antt).
+#![tactic(auto)]
+
 ghost use Rattle.std.specs.Prelude.{◌≡◌};
 ghost use Rattle.history.specs.Form.{most_events, read};
 ghost use Rattle.order_check.specs.Check.{checked};
@@ -26,7 +28,7 @@ fn deliver(verdict: Verdict, reply: &mut [u32; 4]) -> u32
     }
 }
 
-// Judges a history. Proved by a walk of its MIR, by hand, since it has a reference to a slice of structs.
+// Judges a history.
 #[unsafe(no_mangle)]
 pub extern "C" fn judge_history(
     history: &[u32],

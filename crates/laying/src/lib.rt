@@ -1,4 +1,6 @@
 // The order of the calls of an explained history, laid into a buffer: each enqueue as late as it may stand (crates/criterion/specs/Order.antt).
+#![tactic(auto)]
+
 ghost use Rattle.std.specs.Prelude.{◌≡◌, ◌≢◌, ◌++◌, ◌+◌, ◌≤◌, ◌<◌, length, get_or, drop};
 ghost use Rattle.history.specs.Form.{most_events};
 ghost use Rattle.criterion.specs.Order.{ended_before};

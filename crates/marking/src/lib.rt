@@ -1,5 +1,7 @@
 // The verdict's pass over the calls of a history: whether each dequeue's answer was in order, the mark that is left, the items given,
 // and where each was found.
+#![tactic(auto)]
+
 ghost use Rattle.std.specs.Prelude.{◌≡◌, ◌≢◌, [], ◌+◌, ◌≤◌, ◌<◌, length};
 ghost use Rattle.history.specs.Form.{most_events};
 ghost use Rattle.reading.specs.Table.{thread_at, end_at, answer_at};
@@ -9,14 +11,14 @@ use reading::{ANSWER, END, MEMORY, MOST_EVENTS, START, THREAD, VALUE, larger, sc
 
 // What one call does to the verdict's pass: the pass is stuck, or goes on with another mark, and with the place where the
 // next item is looked for first.
-#[derive(Drop)]
+#[derive(Clone, Copy)]
 enum Moved {
     Stuck,
     To { mark: u32, hint: usize },
 }
 
 // Where the verdict's pass ends: it fails, or leaves a mark.
-#[derive(Drop)]
+#[derive(Clone, Copy)]
 pub enum Marked {
     Fails,
     Mark(u32),

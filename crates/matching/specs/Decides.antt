@@ -11,7 +11,7 @@ use Rattle.equivalence.specs.Threads.{events_of}
 use Rattle.equivalence.specs.Statement.{SameCalls}
 use Rattle.equivalence.specs.Tests.{same_calls, keeps_precedence}
 use Rattle.equivalence.specs.Same.{encode_tells, no_event}
-use Rattle.equivalence.specs.Decides.{same_exactly}
+use Rattle.equivalence.proofs.Decides.{same_exactly}
 use Rattle.matching.specs.Rows.{events_in, thread_in, rows_of, Threaded, ordered}
 use Rattle.matching.specs.Match.{Placed, Matches}
 use Rattle.matching.specs.Spelled.{Thread, Spelled}

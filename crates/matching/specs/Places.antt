@@ -69,7 +69,9 @@ words_more e h rest = append_assoc (words_of h) (encode e) rest
 -- A thread's rows are the words of its events.
 pub rows_are : (t : ℕ) (h : History) (rest : List ℕ) → rows_of t (words_of h ++ rest) (length h) ≡ map encode (events_of t h)
 rows_are t [] rest = refl
-rows_are t (e ∷ h) rest = rw words_more (go (ℕ_discrete (thread_of e) t) (rows_are t h (encode e ++ rest)))
+rows_are t (e ∷ h) rest =
+    subst (λ ws. rows_of t ws (suc (length h)) ≡ map encode (events_of t (e ∷ h))) (sym (words_more e h rest))
+    (go (ℕ_discrete (thread_of e) t) (rows_are t h (encode e ++ rest)))
   where
     go : Dec (thread_of e ≡ t) → rows_of t (words h e rest) (length h) ≡ map encode (events_of t h) → rows_of t (words h e rest) (suc (length h)) ≡ map encode (events_of t (e ∷ h))
     go (yes q) ih =

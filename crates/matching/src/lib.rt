@@ -1,4 +1,6 @@
 // The events of two recordings matched by thread and rank on it (document 02, U10). Each recording is gone over once.
+#![tactic(auto)]
+
 ghost use Rattle.std.specs.Prelude.{◌≡◌, cond, ◌+◌, ◌*◌, ◌≤◌, ◌<◌, max, length, replicate};
 ghost use Rattle.history.specs.Event.{most_producers};
 ghost use Rattle.history.specs.Form.{most_events};

@@ -1,13 +1,13 @@
 -- Single tests of the walk: a number's range, and a dequeue's answer with the front of the queue.
 use mathlib.Core.Path.{◌≡◌, refl, sym, ◌∙◌}
 use mathlib.Core.Logic.{◌≢◌}
-use mathlib.Core.Bool.{Bool, true, false, ◌&&◌, ◌||◌, not, cond, and_false}
+use mathlib.Core.Bool.{Bool, true, false, ◌&&◌, ◌||◌, not, cond, and-false}
 use mathlib.Core.List.{List, [], ◌∷◌}
 use mathlib.Core.Option.{none, some}
 use Prim.Native.Nat.{ℕ, zero, suc, ◌-◌, ◌≤◌, ◌<◌}
 use lib.ListN.{get_or}
 use lib.Dec.{leb, ltb, eqb}
-use borrow.Author.Tests.{leb-true, ltb-true, ltb-false, lt-ltb, le-ltb, eq-eqb, ne_eqb, not_true, not-false}
+use borrow.Author.Tests.{leb-true, ltb-true, ltb-false, lt-ltb, le-ltb, eq-eqb, ne_eqb, not-true, not-false}
 use Rattle.history.specs.Calls.{item, empty}
 use Rattle.history.specs.Linearization.{Item, Queue, dequeue}
 use Rattle.reading.specs.Table.{end_at, answer_at, number_at, value_at, answer_of}
@@ -30,12 +30,12 @@ in_range r n c e t =
 -- A number that is out of range is not admitted; another one by the tests that are left.
 module _ (m seen : List ℕ) (c n latest : ℕ) where
   pub not_admitted : (r : Bool) → r ≡ (leb 1 n && leb n c) → not r ≡ true → false ≡ admits_at m seen c n latest
-  not_admitted r e t = rw (sym e ∙ not_true r t)
+  not_admitted r e t = rw (sym e ∙ not-true r t)
 
   -- its call stands at j
   module _ (j : ℕ) (at : j ≡ n - 1) where
     pub seen_before : get_or seen j 0 ≡ 1 → false ≡ admits_at m seen c n latest
-    seen_before e = rw (← at, e) (sym (and_false (leb 1 n && leb n c)))
+    seen_before e = rw (← at, e) (sym (and-false (leb 1 n && leb n c)))
 
     pub admitted_as :
         (r : Bool) → r ≡ (leb 1 n && leb n c) → not r ≡ false → get_or seen j 0 ≢ 1
@@ -66,7 +66,7 @@ module _ (m : List ℕ) (i j : ℕ) where
   number_differs d = rw (ne_eqb (number_at m i) (answer_at m j) d)
 
   pub value_differs : value_at m i ≢ value_at m j → false ≡ gives_at m i j
-  value_differs d = rw (ne_eqb (value_at m i) (value_at m j) d) (sym (and_false (eqb (number_at m i) (answer_at m j))))
+  value_differs d = rw (ne_eqb (value_at m i) (value_at m j) d) (sym (and-false (eqb (number_at m i) (answer_at m j))))
 
   pub same_item : number_at m i ≡ answer_at m j → value_at m i ≡ value_at m j → true ≡ gives_at m i j
   same_item n v = rw (eq-eqb (number_at m i) (answer_at m j) n, eq-eqb (value_at m i) (value_at m j) v)

@@ -1,13 +1,13 @@
 -- The whole check from its parts: the walk begins with nothing listed, the flags that it leaves tell whether all ended calls are kept,
 -- and the reply follows.
 use mathlib.Core.Path.{◌≡◌, refl, sym, ap, ◌∙◌}
-use mathlib.Core.Bool.{Bool, true, false, ◌&&◌, ◌||◌, not, cond, and_true, and_assoc}
+use mathlib.Core.Bool.{Bool, true, false, ◌&&◌, ◌||◌, not, cond, and-true, and_assoc}
 use mathlib.Core.List.{List, [], ◌∷◌, ◌++◌}
 use Prim.Native.Nat.{ℕ, zero, suc, ◌+◌, ◌/◌, ◌≤◌}
 use native.Mathlib.Omega.{arith}
 use lib.Dec.{eqb, leb-zero}
 use lib.ListN.{length, length-replicate}
-use borrow.Author.Tests.{not_true, not-false}
+use borrow.Author.Tests.{not-true, not-false}
 use Rattle.history.specs.Event.{History}
 use Rattle.history.specs.Calls.{Call, end_of, calls}
 use Rattle.history.specs.Form.{Reading, refused, history, most_events, read}
@@ -40,7 +40,7 @@ keeps_last :
     → keeps k (cs ++ (x ∷ [])) ns ≡ (keeps k cs ns && (eqb (end_of x) 0 || has i ns))
 keeps_last k i [] x ns e =
     let z : k ≡ i = omega arith in
-    and_true (eqb (end_of x) 0 || has k ns) ∙ ap (λ j. eqb (end_of x) 0 || has j ns) z
+    and-true (eqb (end_of x) 0 || has k ns) ∙ ap (λ j. eqb (end_of x) 0 || has j ns) z
 keeps_last k i (c ∷ cs) x ns e =
     ap (λ b. (eqb (end_of c) 0 || has k ns) && b) (keeps_last (suc k) i cs x ns (omega arith))
     ∙ sym (and_assoc (eqb (end_of c) 0 || has k ns) (keeps (suc k) cs ns) (eqb (end_of x) 0 || has i ns))
@@ -59,7 +59,7 @@ module _ (m ns seen : List ℕ) (c : ℕ) (r : Bool) (walks : Walks m ns seen c 
   tests = orderly (calls_in m c) ns && keeps 1 (calls_in m c) ns
 
   pub walk_says_no : not r ≡ true → false ≡ tests
-  walk_says_no t = ap (λ b. b && keeps 1 (calls_in m c) ns) (sym (not_true r t) ∙ walks.decides)
+  walk_says_no t = ap (λ b. b && keeps 1 (calls_in m c) ns) (sym (not-true r t) ∙ walks.decides)
 
   pub flags_decide : not r ≡ false → (all : Bool) → all ≡ all_seen m seen c → all ≡ tests
   flags_decide t all e =

@@ -29,7 +29,7 @@ module _ {A : Type 0} where
   every_append p (x ∷ xs) ys = ap (λ b. p x && b) (every_append p xs ys) ∙ sym (and_assoc (p x) (every p xs) (every p ys))
 
   pub every_last : (p : A → Bool) (xs : List A) (y : A) → every p (xs ++ (y ∷ [])) ≡ (every p xs && p y)
-  every_last p xs y = every_append p xs (y ∷ []) ∙ ap (λ b. every p xs && b) (bool.and_true (p y))
+  every_last p xs y = every_append p xs (y ∷ []) ∙ ap (λ b. every p xs && b) (bool.and-true (p y))
 
   every_two_last : (r : A → A → Bool) (xs : List A) (y : A) → every_two r (xs ++ (y ∷ [])) ≡ (every_two r xs && every (λ a. r a y) xs)
   every_two_last r [] y = refl
@@ -62,7 +62,7 @@ items_append (enq x ∷ xs) ys = ap (λ q. record { number = x.number; value = x
 items_append (deq d ∷ xs) ys = items_append xs ys
 
 pub has_last : (k : ℕ) (ns : List ℕ) (n : ℕ) → has k (ns ++ (n ∷ [])) ≡ (has k ns || eqb n k)
-has_last k [] n = bool.or_false (eqb n k)
+has_last k [] n = bool.or-false (eqb n k)
 has_last k (x ∷ ns) n = ap (λ b. eqb x k || b) (has_last k ns n) ∙ sym (or_assoc (eqb x k) (has k ns) (eqb n k))
 
 -- On a queue one call after another.

@@ -11,7 +11,7 @@ use native.Mathlib.Numerals.{add-one}
 use lib.Dec.{leb, ltb, eqb}
 use lib.ListN.{length, get_or, take, drop, set, length-set, drop_of_length-le}
 use lib.Seq.{take-suc, drop-cons, length-take-le, get_or-take, drop-append-le, get_or-set_same, get_or-set_other, take-length}
-use borrow.Author.Tests.{leb-true, eq-eqb, ne_eqb, ltb-true, ltb-false, not_true, not-false}
+use borrow.Author.Tests.{leb-true, eq-eqb, ne_eqb, ltb-true, ltb-false, not-true, not-false}
 use Rattle.history.specs.Calls.{Answer, Call, start_of, end_of}
 use Rattle.history.specs.Linearization.{Queue, dequeue, perform, run}
 use Rattle.history.specs.Shows.{no_call, numbered, listed}
@@ -165,12 +165,12 @@ module _ (m ns : List ℕ) (c : ℕ) where
                 let r = is_number_then in
                 let a = eq-eqb n (suc j) (omega (arith, r)) in
                 let b = get_or-set_same seen (n - 1) 1 0 (omega (arith, w.seen_are.size, r)) in
-                rw (a, e, b) (bool.or_true (has (suc (n - 1)) p))
+                rw (a, e, b) (bool.or-true (has (suc (n - 1)) p))
             go j l (inr d) =
                 let r = is_number_then in
                 let a = ne_eqb n (suc j) (λ z. d (omega arith)) in
                 let b = get_or-set_other seen (n - 1) j 1 0 d in
-                rw (a, b) (bool.or_false (has (suc j) p) ∙ w.seen_are.flagged j l)
+                rw (a, b) (bool.or-false (has (suc j) p) ∙ w.seen_are.flagged j l)
 
         latest_then :
             (late : ℕ) → late ≡ max latest (start_at m (n - 1)) → (e : ℕ) → every (λ a. leb (start_of a) e) (listed cs (take (suc k) ns)) ≡ leb late e
@@ -251,7 +251,7 @@ module _ (m ns : List ℕ) (c : ℕ) where
 module _ (m ns seen : List ℕ) (c latest front k : ℕ) (w : Walked m ns seen c latest front k) (few : c ≤ 4096) (more : k < length ns) (r : Bool)
     (admits : r ≡ admits_at m seen c (get_or ns k 0) latest) where
   pub wrong_number : not r ≡ true → orderly (calls_in m c) (take (k + 1) ns) ≡ false
-  wrong_number t = not_admitted m ns c seen latest front k w few more (sym admits ∙ not_true r t)
+  wrong_number t = not_admitted m ns c seen latest front k w few more (sym admits ∙ not-true r t)
 
   module _ (t : not r ≡ false) where
     admitted : admits_at m seen c (get_or ns k 0) latest ≡ true
@@ -274,7 +274,7 @@ module _ (m ns seen : List ℕ) (c latest front k : ℕ) (w : Walked m ns seen c
         pub wrong_answer : not a ≡ true → orderly (calls_in m c) (take (k + 1) ns) ≡ false
         wrong_answer e =
             answers_wrong m ns c seen latest front k w few more admitted is_dequeue f is_front
-            (sym (ap (answers_at m ns f k) at) ∙ sym answers ∙ not_true a e)
+            (sym (ap (answers_at m ns f k) at) ∙ sym answers ∙ not-true a e)
 
         pub dequeue_placed : not a ≡ false → Walked m ns (set seen j 1) c late (f + 1) (k + 1)
         dequeue_placed e =

@@ -2,7 +2,7 @@
 use Rattle.std.specs.Prelude.{◌≡◌, refl, ◌⊎◌, Bool, true, false, ◌&&◌, ◌||◌, not, List, [], ◌∷◌, map, ℕ, zero, suc, ◌-◌, ◌<◌, leb, ltb, eqb, length, get_or}
 use Rattle.std.proofs.Common.{sym, subst, inl, inr, arith, eqb-true, leb-true, le-leb, lt-ltb, ltb-true, eq-eqb, ne_eqb}
 use Rattle.std.proofs.Math.Bool.{and-eq-true_iff}
-use Rattle.std.proofs.lemmas.Bool.{false≢true, eqb-false, not_true}
+use Rattle.std.proofs.lemmas.Bool.{false≢true, eqb-false, not-true}
 use Rattle.std.proofs.Math.Option.{Option, none, some}
 use Rattle.history.specs.Lists.{All, Pairwise, Member}
 use Rattle.history.specs.Calls.{Call, start_of, end_of}
@@ -65,15 +65,18 @@ module _ {A : Type 0} where
   member_at (x ∷ xs) (suc i) d l = inr (member_at xs i d (omega arith))
 
   pub all_at : (P : A → Type 0) (xs : List A) → All P xs → (a : A) → Member a xs → P a
+  all_at P [] p a m = elim m [ ]
   all_at P (x ∷ xs) p a (inl e) = subst P (sym e) p.0
   all_at P (x ∷ xs) p a (inr m) = all_at P xs p.1 a m
 
 module _ {A B : Type 0} where
   pub in_map : (f : A → B) (a : A) (xs : List A) → Member a xs → Member (f a) (map f xs)
+  in_map f a [] m = elim m [ ]
   in_map f a (x ∷ xs) (inl e) = inl (subst (λ z. f a ≡ f z) e refl)
   in_map f a (x ∷ xs) (inr m) = inr (in_map f a xs m)
 
   pub from_map : (f : A → B) (b : B) (xs : List A) → Member b (map f xs) → (a : A) × Member a xs × (b ≡ f a)
+  from_map f b [] m = elim m [ ]
   from_map f b (x ∷ xs) (inl e) = (x, inl refl, e)
   from_map f b (x ∷ xs) (inr m) = let r = from_map f b xs m in (r.0, inr r.1, r.2)
 
@@ -89,6 +92,7 @@ has_member n (k ∷ ns) e = elim (either (eqb k n) (has n ns) e) [
 ]
 
 pub member_has : (n : ℕ) (ns : List ℕ) → Member n ns → has n ns ≡ true
+member_has n [] m = elim m [ ]
 member_has n (k ∷ ns) (inl e) = rw (eq-eqb k n (sym e))
 member_has n (k ∷ ns) (inr m) = or_right (eqb k n) (has n ns) (member_has n ns m)
 
@@ -107,4 +111,4 @@ precedes_true a b p = rw (ne_eqb (end_of a) 0 p.0, lt-ltb (end_of a) (start_of b
 pub true_precedes : (a b : Call) → precedes a b ≡ true → Precedes a b
 true_precedes a b e =
     let p = both (not (eqb (end_of a) 0)) (ltb (end_of a) (start_of b)) e in
-    (eqb-false (end_of a) 0 (not_true (eqb (end_of a) 0) p.0), ltb-true (end_of a) (start_of b) p.1)
+    (eqb-false (end_of a) 0 (not-true (eqb (end_of a) 0) p.0), ltb-true (end_of a) (start_of b) p.1)

@@ -1,5 +1,7 @@
 // The check of an order (document 02, U9): whether the numbers that it is lent are a linearization of the history that it is lent.
 // It takes nothing from the judge.
+#![tactic(auto)]
+
 ghost use Rattle.std.specs.Prelude.{◌≡◌, ◌&&◌, ◌||◌, ◌+◌, ◌-◌, ◌≤◌, ◌<◌, leb, eqb, length};
 ghost use Rattle.history.specs.Form.{most_events, read};
 ghost use Rattle.reading.specs.Table.{end_at, calls_in};
@@ -14,7 +16,7 @@ use reading::{
 const FIRST: u32 = 1;
 
 // The check's reply: a refusal's number, or whether the order is a linearization (specs/Check.antt).
-#[derive(Drop)]
+#[derive(Clone, Copy)]
 pub enum Checked {
     Refused(u32),
     Yes,
@@ -23,7 +25,7 @@ pub enum Checked {
 
 // What one number of the order does to the walk: it is wrong, or the walk goes on with the latest start so far, and with the place
 // of the order from which the front of the queue is looked for.
-#[derive(Drop)]
+#[derive(Clone, Copy)]
 enum Placed {
     Wrong,
     To { latest: u32, front: usize },

@@ -1,4 +1,6 @@
 // A history taken in: refusals 10 to 13, and its calls in the working memory (document 01, "Judge").
+#![tactic(auto)]
+
 ghost use Rattle.std.specs.Prelude.{◌≡◌, ◌≢◌, ◌&&◌, ◌||◌, [], ℕ, ◌+◌, ◌*◌, ◌/◌, ◌≤◌, ◌<◌, max, leb, eqb, length};
 ghost use Rattle.history.specs.Event.{decode, is_producer};
 ghost use Rattle.history.specs.Form.{most_events, read_events, read};
@@ -30,7 +32,7 @@ pub const NUMBER: usize = 5 * MOST_EVENTS;
 pub const VALUE: usize = 6 * MOST_EVENTS;
 
 // What the words read so far give: a refusal's number, or how many calls have been started.
-#[derive(Drop)]
+#[derive(Clone, Copy)]
 pub enum Entered {
     Refused(u32),
     Calls(usize),

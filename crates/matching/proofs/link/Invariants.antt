@@ -1,0 +1,9 @@
+-- `matching::link` meets its contract. Assumes nothing.
+use Rattle.matching.specs.Match.{Linked}
+use Rattle.matching.proofs.link.Given as goal
+
+abbrev pub invariant-loop-p : goal.invariant-loop-p
+invariant-loop-p l = Linked l.words l.links l.heads l.p
+
+abbrev pub decreases-loop-p : goal.decreases-loop-p
+decreases-loop-p l = l.p
