@@ -1,4 +1,6 @@
 // A bed board's words (document 02, U13): the look at them, the rule table on it, the counts made afresh.
+#![tactic(auto)]
+
 ghost use Rattle.std.specs.Prelude.{◌≡◌, true, ◌≤◌, ◌<◌, ◌+◌, length};
 ghost use Rattle.std.proofs.Math.Seq.{slice};
 ghost use Rattle.census_rules.specs.Board.{at_most, states_on, in_range, row_at, rules_on, with_row, with_rules, with_counts, counted};

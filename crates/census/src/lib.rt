@@ -1,5 +1,7 @@
 // The census of a hospital's beds (document 02, U13): a bed board, the offices' rule table on it, and their counts, kept up item by item. What
 // each call does is in crates/census_rules/specs/Census.antt.
+#![tactic(auto)]
+
 ghost use Rattle.std.specs.Prelude.{◌≡◌, ◌<◌, set};
 ghost use Rattle.census_rules.specs.Board.{with_counts};
 ghost use Rattle.census_rules.specs.Census.{Outcome, open_board, all_changed, taking, reading_table, counting};
@@ -12,8 +14,7 @@ use rule_table::{LAST_OFFICE, is_table, rules_in};
 use tally::{all_changed, all_stay};
 
 // Opens a board: all beds free, nothing counted.
-#[unsafe(no_mangle)]
-pub extern "C" fn census_open(board: &mut [u32; WORDS]) -> u32
+pub fn census_open(board: &mut [u32; WORDS]) -> u32
     ensures { (result ≡ 0) × (board.new ≡ open_board) }
 {
     *board = [0u32; WORDS];
@@ -31,8 +32,7 @@ fn move_bed(board: &mut [u32; WORDS], rules: [[u32; 5]; 4], bed: usize, old: usi
 }
 
 // Takes an item.
-#[unsafe(no_mangle)]
-pub extern "C" fn census_take(board: &mut [u32; WORDS], value: u32) -> u32
+pub fn census_take(board: &mut [u32; WORDS], value: u32) -> u32
     ensures { ◌≡◌ {A = Outcome} (record { number = result; words = board.new }) (taking value board.old) }
 {
     if !in_range(board) {
@@ -57,8 +57,7 @@ pub extern "C" fn census_take(board: &mut [u32; WORDS], value: u32) -> u32
 }
 
 // Reads a table; the counts are made afresh.
-#[unsafe(no_mangle)]
-pub extern "C" fn census_table(board: &mut [u32; WORDS], rows: &[u32]) -> u32
+pub fn census_table(board: &mut [u32; WORDS], rows: &[u32]) -> u32
     ensures { ◌≡◌ {A = Outcome} (record { number = result; words = board.new }) (reading_table rows.now board.old) }
 {
     if !in_range(board) {
@@ -75,8 +74,7 @@ pub extern "C" fn census_table(board: &mut [u32; WORDS], rows: &[u32]) -> u32
 }
 
 // The census of an office, into word 0 of the reply.
-#[unsafe(no_mangle)]
-pub extern "C" fn census_count(board: &[u32; WORDS], office: u32, reply: &mut [u32; 4]) -> u32
+pub fn census_count(board: &[u32; WORDS], office: u32, reply: &mut [u32; 4]) -> u32
     ensures { ◌≡◌ {A = Outcome} (record { number = result; words = reply.new }) (counting office board.now reply.old) }
 {
     if !in_range(board) {

@@ -1,4 +1,6 @@
 // A table as a hospital writes it (document 02, U13): refusal 20, and the rule table that it gives.
+#![tactic(auto)]
+
 ghost use Rattle.std.specs.Prelude.{◌≡◌, ◌<◌, length};
 ghost use Rattle.census_rules.specs.Table.{is_row, are_rows, is_for, once, each_once, is_table, rule_for, row_for, rules_in};
 

@@ -1,4 +1,6 @@
 // The offices' counts as a bed goes from one state to another (document 02, U13).
+#![tactic(auto)]
+
 ghost use Rattle.std.specs.Prelude.{◌≡◌, true, ◌≤◌, ◌<◌};
 ghost use Rattle.census_rules.specs.Board.{at_most};
 ghost use Rattle.census_rules.specs.Census.{stays, changed, all_stay, all_changed};
