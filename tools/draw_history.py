@@ -16,7 +16,7 @@ import sys
 import xml.etree.ElementTree as xml
 from typing import NamedTuple
 
-VERDICT = pathlib.Path(__file__).resolve().parent.parent / 'target' / 'bin' / 'verdict'
+VERDICT = pathlib.Path(__file__).resolve().parent.parent / 'crates' / 'verdict' / 'out' / 'verdict'
 ENQUEUE, ENQUEUED, DEQUEUE, ITEM, EMPTY = range(1, 6)
 # sizes in pixels
 LETTER, SMALL_LETTER, LEFT, RIGHT, LEAST_WIDTH = 8.2, 7, 100, 20, 620
@@ -218,7 +218,7 @@ def judged(verdict, text):
 def main():
     parser = argparse.ArgumentParser(description=__doc__.split('\n')[0])
     parser.add_argument('file', nargs='?', help='the recording; standard input if none is named')
-    parser.add_argument('--verdict', default=VERDICT, help='the program that judges it (target/bin/verdict)')
+    parser.add_argument('--verdict', default=VERDICT, help='the program that judges it (crates/verdict/out/verdict)')
     given = parser.parse_args()
     text = pathlib.Path(given.file).read_bytes() if given.file else sys.stdin.buffer.read()
     word, order = judged(given.verdict, text)

@@ -1,4 +1,6 @@
 // A history as words in a lent buffer, four for each event: what a call adds to it.
+#![tactic(auto)]
+
 ghost use Rattle.std.specs.Prelude.{◌≡◌, [], ◌∷◌, ◌+◌, ◌*◌, ◌≤◌, length};
 ghost use Rattle.std.proofs.lemmas.List.Edits.{sets};
 ghost use Rattle.history.specs.Event.{History};
@@ -10,7 +12,7 @@ ghost use Rattle.events.specs.Events.{start_found, noted_events, Records};
 use store::Reply;
 
 // What a call adds to the history: nothing, an enqueue's start or its end, a dequeue's start, its item or that it is empty.
-#[derive(Drop)]
+#[derive(Clone, Copy)]
 pub enum Noted {
     Nothing,
     Started(u32, u32, u32),
@@ -21,7 +23,7 @@ pub enum Noted {
 }
 
 // Where a thread's last start is in the history.
-#[derive(Drop)]
+#[derive(Clone, Copy)]
 pub enum Found {
     At(usize),
     Missing,

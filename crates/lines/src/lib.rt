@@ -1,4 +1,6 @@
 // Lines of four decimal numbers: their meaning is in specs/Lines.antt.
+#![tactic(auto)]
+
 ghost use Rattle.std.specs.Prelude.{◌≡◌};
 ghost use Rattle.lines.specs.Lines.{separator, line_after, ending, Parses};
 
@@ -8,7 +10,7 @@ use text::Number;
 pub const MOST_NUMBERS: usize = 32_768;
 
 // What a text holds: more numbers than the buffer has entries, a bad line, the first by its number, or so many numbers.
-#[derive(Drop)]
+#[derive(Clone, Copy)]
 pub enum Parsed {
     TooLong,
     BadLine(usize),

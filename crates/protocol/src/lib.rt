@@ -1,4 +1,6 @@
 // The lines of the program's input, and the lines that it prints.
+#![tactic(auto)]
+
 ghost use Rattle.std.specs.Prelude.{◌≡◌, ◌++◌, ◌+◌, ◌≤◌, length, drop};
 ghost use Rattle.store.specs.Outcome.{response_after};
 ghost use Rattle.text.specs.Wrote.{Wrote};
@@ -11,7 +13,7 @@ use text::Number;
 
 // What a line asks: an open with its four sizes, a start enqueue with its thread and value, a start dequeue, a step with its
 // thread, or nothing that the program knows.
-#[derive(Drop)]
+#[derive(Clone, Copy)]
 pub enum Line {
     Open(u32, u32, u32, u32),
     Enqueue(u32, u32),
@@ -21,6 +23,7 @@ pub enum Line {
 }
 
 // The position of the first newline from a position on, or the end.
+#[tactic(auto, using(crate::specs::Laws::line_ends))]
 pub fn line_end(s: &[u8], at: usize) -> usize
     ensures { result ≡ at + line_length (drop at s.now) }
 {
@@ -52,6 +55,7 @@ fn starts_with(s: &[u8], word: &[u8]) -> bool
 }
 
 // A number that one space follows.
+#[tactic(auto, unfolding(crate::specs::Line::field_at))]
 fn read_field(s: &[u8], at: usize) -> Number
     ensures { result ≡ field_at s.now at }
 {

@@ -1,4 +1,6 @@
 // What is printed for a recording: the judge's word on a history's words, and on a text of lines, one event each.
+#![tactic(auto)]
+
 ghost use Rattle.std.specs.Prelude.{◌+◌, ◌≤◌, length};
 ghost use Rattle.history.specs.Form.{most_events, read};
 ghost use Rattle.text.specs.Wrote.{Wrote};

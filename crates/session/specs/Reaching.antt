@@ -16,7 +16,7 @@ use Rattle.rules.specs.Sizes.{Sizes, sizes_in_range, store_words}
 use Rattle.rules.specs.Cell.{Reader, reader, tail, starts, phase, drain_limit}
 use Rattle.rules.specs.Update.{neither}
 use Rattle.rules.specs.Range.{in_range}
-use Rattle.rules.specs.Rule.{Effect, refuse, reply, Response, refused, accepted, ok, started, going, ended, empty, item, drained}
+use Rattle.rules.specs.Rule.{Effect, refuse, Response, refused, accepted, ok, started, going, ended, empty, item, drained}
 use Rattle.rules.specs.Refusal.{accepted_not_refused}
 use Rattle.rules.specs.Request.{Result, Request, start_enqueue, start_dequeue, start_drain, step, applied, open_store, opened, starting_enqueue, effect, sizes_of, admitted, result}
 use Rattle.rules.specs.Play.{Played, events, end_of_enqueue, play_one, play, thread_of}

@@ -1,4 +1,6 @@
 // What the program prints, from the bytes that it reads.
+#![tactic(auto)]
+
 ghost use Rattle.std.specs.Prelude.{◌≡◌, List, ℕ, ◌+◌, ◌*◌, ◌≤◌, length};
 ghost use Rattle.history.specs.Event.{History};
 ghost use Rattle.history.specs.Form.{most_events};
@@ -17,14 +19,14 @@ use store::size::MOST_WORDS;
 use store::{Reply, Shape};
 
 // Where the next event and the next printed byte go.
-#[derive(Drop)]
+#[derive(Clone, Copy)]
 pub struct Place {
     pub events: usize,
     pub bytes: usize,
 }
 
 // What a line leaves: the run stops, and the output ends at a position; or it goes on.
-#[derive(Drop)]
+#[derive(Clone, Copy)]
 pub enum Next {
     Stop(usize),
     On(Place),
@@ -142,6 +144,7 @@ fn run_lines(input: &[u8], store: &mut [u32], history: &mut [u32], out: &mut [u8
 
 // What the program prints, from the bytes that it reads; the answer is how many bytes. The judge refuses no history of a run
 // (specs/Reaching.antt).
+#[tactic(auto, using(crate::proofs::Long::output_long))]
 pub fn run(input: &[u8], out: &mut [u8; 155_679]) -> usize
     ensures { Wrote out.old 0 (output input.now) out.new result }
 {

@@ -2,9 +2,8 @@
 use Rattle.std.specs.Prelude.{◌≡◌, refl, true, false, ℕ, zero, suc, ◌≤◌, ◌<◌, T, ℤ, pos, negsuc, nat_abs}
 use Rattle.std.proofs.Common.{sym, true≢false, arith, ltb-true, ltb-false}
 use Rattle.std.specs.Int.Signed.{lt_z, non_neg}
-use Rattle.libc.specs.Io.{Moved}
 use Rattle.stdio.specs.declared.Got.TheVariants.{Failed, Ended, More}
-use Rattle.stdio.specs.Input.{read_answer}
+use Rattle.stdio.specs.Input.{read_answer, Moved}
 
 pub below : (z : ℤ) → lt_z z (pos 0) ≡ true → Failed ≡ read_answer z
 below (pos n) e = absurd (omega (arith, ltb-true n 0 e))

@@ -1,10 +1,12 @@
 // Decimal numbers in bytes: read at a position and written at one.
+#![tactic(auto)]
+
 ghost use Rattle.std.specs.Prelude.{◌≡◌, ◌+◌, ◌≤◌, length, get_or, drop};
 ghost use Rattle.text.specs.Decimal.{digits_from, after_zero, number_at, digits, decimal};
 ghost use Rattle.text.specs.Wrote.{Wrote};
 
 // What reading a number finds: none, or its value and the position after it.
-#[derive(Drop)]
+#[derive(Clone, Copy)]
 pub enum Number {
     Bad,
     Read(u32, usize),
@@ -60,6 +62,7 @@ fn after_zero(s: &[u8], at: usize) -> Number
 }
 
 // The number at a position.
+#[tactic(auto, using(crate::proofs::Leading::zero_leads))]
 pub fn read_number(s: &[u8], at: usize) -> Number
     ensures { result ≡ number_at s.now at }
 {

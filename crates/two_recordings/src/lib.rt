@@ -1,5 +1,7 @@
 // What is printed for two recordings in one text, one event a line, with an empty line between them: their comparison. What is
 // printed for which text is in specs/Report.antt.
+#![tactic(auto)]
+
 ghost use Rattle.std.specs.Prelude.{◌≡◌, cond, ◌++◌, ◌+◌, ◌*◌, ◌≤◌, length};
 ghost use Rattle.history.specs.Form.{most_events, read};
 ghost use Rattle.comparison.specs.Compared.{keeps_to};

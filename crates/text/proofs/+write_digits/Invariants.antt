@@ -1,0 +1,5 @@
+-- The measure is how many digits are left.
+use Rattle.text.proofs.+write_digits.Given as goal
+
+abbrev pub decreases-write_digits : goal.decreases-write_digits
+decreases-write_digits l = l.k

@@ -1,0 +1,8 @@
+-- `two_recordings::print_kept` meets its contract.
+use Rattle.two_recordings.proofs.print_kept.Goals as goal
+
+pub returns-then-kept : goal.returns-then-kept
+returns-then-kept c = rw c.if-kept.true c.write_bytes.ensures
+
+pub returns : goal.returns
+returns c = rw c.if-kept.false c.write_bytes-2.ensures

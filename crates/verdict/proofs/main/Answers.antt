@@ -1,0 +1,16 @@
+-- `verdict::main` meets its contract: what was read and what was printed lie within their buffers.
+use Rattle.std.proofs.Common.{sym, ℕ, length-take-le}
+use lib.ListN.{length-replicate}
+use Rattle.text.specs.Laws.{wrote_within}
+use Rattle.recording.specs.Laws.{length_reported}
+use Rattle.verdict.proofs.main.Goals as goal
+
+pub slice_bounds-text-end : goal.slice_bounds-text-end
+slice_bounds-text-end c = rw c.in-Bytes.is at c.read_input.ensures
+
+pub slice_bounds-out-end : goal.slice_bounds-out-end
+slice_bounds-out-end c = wrote_within c.report-printed.ensures (length-replicate {A = ℕ} 45082 0) (length_reported _)
+
+pub slice_bounds-print-end : goal.slice_bounds-print-end
+slice_bounds-print-end c =
+    sym (length-take-le _ _ (wrote_within c.report-printed.ensures (length-replicate {A = ℕ} 45082 0) (length_reported _)))
