@@ -6,7 +6,7 @@ import re
 
 ROOT = pathlib.Path(__file__).resolve().parent.parent
 MARKS = r'(?:(?:pub|abbrev|unfoldable) )*'
-MODULE = re.compile(r'Rattle·(\w+?)(?:·specs)?\.specs\.([\w.]+)')
+MODULE = re.compile(r'Rattle\.(\w+)\.(specs|proofs)\.([\w.]+)')
 
 
 class Source:
@@ -53,9 +53,10 @@ def source(path):
     return Source(path)
 
 
-def file_of(crate, module):
-    """The file of a module of a crate's specs; none for a type that the code declares."""
-    return None if module.startswith('declared') else f'crates/{crate}/specs/{module.replace(".", "/")}.antt'
+def file_of(crate, part, module):
+    """The file of a module of a crate's specs or proofs; none for a type that the code declares, what a check makes, and a library of the toolchain."""
+    path = f'crates/{crate}/{part}/{module.replace(".", "/")}.antt'
+    return path if (ROOT / path).is_file() else None
 
 
 def code(path, name):
@@ -71,11 +72,21 @@ def statement(path, name):
     """What a declaration says: a function's clauses, a theorem's type, a definition whole."""
     lines = code(path, name)
     if path.endswith('.rt'):
-        return ' '.join(re.findall(r'(?:ensures|requires) \{(.*)\}', '\n'.join(lines)))
+        return ' '.join(clauses('\n'.join(lines)))
     if is_definition(path, name):
         return '\n'.join(lines)
     ends = [n for n, line in enumerate(lines) if n and not line.startswith(' ')]
     return '\n'.join(lines[: ends[0]] if ends else lines).split(' :', 1)[1]
+
+
+def clauses(text):
+    """What the braces of a function's clauses hold."""
+    for found in re.finditer(r'\b(?:ensures|requires)\*?(?: \w+)? \{', text):
+        depth, end = 1, found.end()
+        while depth:
+            depth += {'{': 1, '}': -1}.get(text[end], 0)
+            end += 1
+        yield text[found.end() : end - 1]
 
 
 @functools.cache
@@ -88,14 +99,15 @@ def rests_on(path, name, shut=frozenset()):
         for token in re.split(r'[\s(){}\[\],;|]+', text):
             token = token.lstrip('λ').rstrip('.')
             module, _, last = token.rpartition('.')
+            head = token.split('.')[0]
             if whole := MODULE.fullmatch(module):
                 target = file_of(*whole.groups()), last
             elif module in file.modules:
                 target = file_of(*file.modules[module]), last
-            elif token in file.imports:
-                target = file_of(*file.imports[token]), token
-            elif token in file.blocks:
-                target = at, token
+            elif head in file.imports:
+                target = file_of(*file.imports[head]), head
+            elif head in file.blocks:
+                target = at, head
             else:
                 continue
             if target[0] and target[1] not in shut:

@@ -1,4 +1,4 @@
-"""The static libraries for C that the tests link."""
+"""The static libraries for C that the tests link, and the programs that they run."""
 
 import ctypes
 import pathlib
@@ -11,10 +11,16 @@ ROOT = pathlib.Path(__file__).resolve().parent.parent
 def archive(crate):
     """The crate's static library; proved and built where there is none, or where a file of the crates is newer."""
     path = ROOT / 'target' / 'staticlib' / f'lib{crate}.a'
-    newest = max(file.stat().st_mtime for file in (ROOT / 'crates').rglob('*'))
+    files = (file for part in ('src', 'specs', 'proofs') for file in (ROOT / 'crates').glob(f'*/{part}/**/*'))
+    newest = max(file.stat().st_mtime for file in files)
     if not path.exists() or path.stat().st_mtime < newest:
-        subprocess.run(['rt', 'staticlib', crate], cwd=ROOT, check=True, stdout=subprocess.DEVNULL)
+        subprocess.run([ROOT / 'tools' / 'archive', crate], check=True, stdout=subprocess.DEVNULL)
     return path
+
+
+def program(crate):
+    """The crate's program, which `rt ci`, and `rt run` in the crate's folder, leave there."""
+    return ROOT / 'crates' / crate / 'out' / crate
 
 
 def shared(sources, name, *flags, compiler='gcc'):

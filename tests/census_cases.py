@@ -113,7 +113,7 @@ def rules_term(rows):
 def statement_term(call):
     """A call as Statement.antt writes it; a census is lent one word."""
     name, given = call
-    return {'take': 'take {}', 'table': 'readTable ({})', 'count': 'count {} (7 ∷ [])'}[name].format(words_term(given) if name == 'table' else given)
+    return {'take': 'take {}', 'table': 'read_table ({})', 'count': 'count {} (7 ∷ [])'}[name].format(words_term(given) if name == 'table' else given)
 
 
 def plain_board(rng, counts=None):
@@ -216,25 +216,19 @@ def owed(seed, count):
 
 
 HEAD = """-- Generated: calls on a bed board, words that may be a table, boards, and what the model says of them.
-use mathlib.Core.Path.{_≡_, refl}
-use mathlib.Core.Bool.{Bool, true, false}
-use mathlib.Core.List.{List, [], _∷_, _++_}
-use Prim.Native.Nat.{ℕ}
-use lib.ListN.{replicate}
-use Rattle·census_rules.specs.Board.{Rules}
-use Rattle·census_rules.specs.Statement.{Call, take, read_table, count}
-use Rattle·tables.specs.Census.{Open, Take, ReadTable, Count, Calls, After, make, rules, admitted, Owed, owe}
+use Rattle.std.specs.Prelude.{◌≡◌, refl, Bool, true, false, List, [], ◌∷◌, ◌++◌, ℕ, replicate}
+use Rattle.census_rules.specs.Board.{Rules}
+use Rattle.census_rules.specs.Statement.{Call, take, read_table, count}
+use Rattle.tables.specs.Census.{Open, Take, ReadTable, Count, Calls, After, make, rules, admitted, Owed, owe}
 """
 
 # The definitions, put together as the tables need them.
 CENSUS = """-- Calls on a bed board as the definitions answer them.
-use mathlib.Core.Bool.{Bool, cond}
-use mathlib.Core.List.{List, [], _∷_, reverse}
-use Prim.Native.Nat.{ℕ, zero, suc}
-use Rattle·census_rules.specs.Board.{beds, Rules, in_range}
-use Rattle·census_rules.specs.Table.{are_rows, times_in, is_table, word_in, rules_in}
-use Rattle·census_rules.specs.Census.{Outcome, open_board, moved, taking, ruled, reading_table, counting}
-use Rattle·census_rules.specs.Statement.{Call, board_after, state_after, rules_after, no_rules, how_many, census_of}
+use Rattle.std.specs.Prelude.{Bool, cond, List, [], ◌∷◌, reverse, ℕ, zero, suc}
+use Rattle.census_rules.specs.Board.{beds, Rules, in_range}
+use Rattle.census_rules.specs.Table.{are_rows, times_in, is_table, word_in, rules_in}
+use Rattle.census_rules.specs.Census.{Outcome, open_board, moved, taking, ruled, reading_table, counting}
+use Rattle.census_rules.specs.Statement.{Call, board_after, state_after, rules_after, no_rules, how_many, census_of}
 
 pub data Made : Type 0 where
   Open : Made
@@ -255,28 +249,28 @@ pub record After : Type 0 where
   pub reply : List ℕ
 
 -- the newest number first
-abbrev on-board : Outcome → After → After
-on-board o a = record { numbers = o .number ∷ a .numbers; board = o .words; reply = a .reply }
+abbrev on_board : Outcome → After → After
+on_board o a = record { numbers = o.number ∷ a.numbers; board = o.words; reply = a.reply }
 
-abbrev in-reply : Outcome → After → After
-in-reply o a = record { numbers = o .number ∷ a .numbers; board = a .board; reply = o .words }
+abbrev in_reply : Outcome → After → After
+in_reply o a = record { numbers = o.number ∷ a.numbers; board = a.board; reply = o.words }
 
 abbrev after : Made → After → After
-after Open a = record { numbers = 0 ∷ a .numbers; board = open_board; reply = a .reply }
-after (Take v) a = on-board (taking v (a .board)) a
-after (ReadTable ws) a = on-board (reading_table ws (a .board)) a
-after (Count office) a = in-reply (counting office (a .board) (a .reply)) a
+after Open a = record { numbers = 0 ∷ a.numbers; board = open_board; reply = a.reply }
+after (Take v) a = on_board (taking v a.board) a
+after (ReadTable ws) a = on_board (reading_table ws a.board) a
+after (Count office) a = in_reply (counting office a.board a.reply) a
 
 abbrev made : List Made → After → After
 made [] a = a
 made (c ∷ cs) a = made cs (after c a)
 
 abbrev in_order : After → After
-in_order a = record { numbers = reverse (a .numbers); board = a .board; reply = a .reply }
+in_order a = record { numbers = reverse a.numbers; board = a.board; reply = a.reply }
 
 unfoldable pub make : Calls → After
 unfolding in_range are_rows times_in is_table word_in moved taking ruled reading_table counting
-make c = in_order (made (c .calls) (record { numbers = []; board = c .board; reply = c .reply }))
+make c = in_order (made c.calls (record { numbers = []; board = c.board; reply = c.reply }))
 
 -- the rule table of words; none if they are no table
 unfoldable pub rules : List ℕ → Rules

@@ -132,26 +132,22 @@ def keepings(seed, count):
 
 
 HEAD = """-- Generated: the words of two recordings, and what the model says of them.
-use mathlib.Core.Path.{_≡_, refl}
-use mathlib.Core.Bool.{Bool, true, false}
-use mathlib.Core.List.{List, [], _∷_, _++_}
-use Rattle·comparison.specs.declared.Recording.the-variants.{First, Second}
-use Rattle·comparison.specs.declared.Reply.the-variants.{Refused, SameCalls, OtherCalls}
-use Rattle·tables.specs.Store.{zeros}
-use Rattle·tables.specs.Compare.{Lent, Outcome, compare, keep}
+use Rattle.std.specs.Prelude.{◌≡◌, refl, Bool, true, false, List, [], ◌∷◌, ◌++◌}
+use Rattle.comparison.specs.declared.Recording.TheVariants.{First, Second}
+use Rattle.comparison.specs.declared.Reply.TheVariants.{Refused, SameCalls, OtherCalls}
+use Rattle.tables.specs.Store.{zeros}
+use Rattle.tables.specs.Compare.{Lent, Outcome, compare, keep}
 """
 
 # The definitions, put together as the tables need them.
 COMPARE = """-- Two recordings as the definitions compare them.
-use mathlib.Core.Bool.{Bool}
-use mathlib.Core.List.{List}
-use Prim.Native.Nat.{ℕ}
-use Rattle·history.specs.Event.{decode}
-use Rattle·history.specs.Form.{most_events, read}
-use Rattle·equivalence.specs.Tests.{same_calls, keeps_precedence}
-use Rattle·comparison.specs.declared.Compared.{Compared}
-use Rattle·comparison.specs.Compared.{shared, compared, handed_back, keeps_to}
-use Rattle·comparison.specs.Reply.{number_of, reply_words}
+use Rattle.std.specs.Prelude.{Bool, List, ℕ}
+use Rattle.history.specs.Event.{decode}
+use Rattle.history.specs.Form.{most_events, read}
+use Rattle.equivalence.specs.Tests.{same_calls, keeps_precedence}
+use Rattle.comparison.specs.declared.Compared.{Compared}
+use Rattle.comparison.specs.Compared.{shared, compared, handed_back, keeps_to}
+use Rattle.comparison.specs.Reply.{number_of, reply_words}
 
 -- the words of two recordings, and those of the reply before
 pub record Lent : Type 0 where
@@ -169,12 +165,12 @@ pub record Outcome : Type 0 where
 unfoldable pub compare : Lent → Outcome
 unfolding decode read same_calls shared
 compare l =
-    let c = compared (l .first) (l .second) in
-    record { compared = c; part = handed_back (l .first) (l .second); number = number_of (c .reply); said = reply_words c (l .said) }
+    let c = compared l.first l.second in
+    record { compared = c; part = handed_back l.first l.second; number = number_of c.reply; said = reply_words c l.said }
 
 unfoldable pub keep : Lent → Bool
 unfolding decode read same_calls keeps_precedence
-keep l = keeps_to (read most_events (l .first)) (read most_events (l .second))
+keep l = keeps_to (read most_events l.first) (read most_events l.second)
 """
 
 

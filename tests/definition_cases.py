@@ -36,7 +36,7 @@ for others in (oc, cc, census):
 # the kinds that have their terms and their wrong twins by themselves
 OTHERS = oc.KINDS + cc.KINDS + census.KINDS
 # what is computed in place of the function, and proved to be the same
-QUICKER = {'schedule': 'quickFollow', 'count': 'quickCount', 'single': 'quickCall'}
+QUICKER = {'schedule': 'quick_follow', 'count': 'quick_count', 'single': 'quick_call'}
 
 
 class Schedule(NamedTuple):
@@ -741,10 +741,10 @@ def reached(cases):
 
 def request_term(call):
     if call[0] == 'd':
-        return 'startDequeue'
+        return 'start_dequeue'
     if call[0] == 'drain':
-        return f'startDrain {call[1]}'
-    return f'startEnqueue {call[1]} {call[2]}' if call[0] == 'e' else f'step {call[1]}'
+        return f'start_drain {call[1]}'
+    return f'start_enqueue {call[1]} {call[2]}' if call[0] == 'e' else f'step {call[1]}'
 
 
 def invocation_term(call):
@@ -817,45 +817,39 @@ abbrev {name}-expected : {ANSWERS[kind]}
 
 pub {name} : {FUNCTIONS[kind]} {name}-given ≡ {name}-expected
 unfolding {QUICKER.get(kind, FUNCTIONS[kind])}
-{name} = {f"{FUNCTIONS[kind]}-is {name}-given" if kind in QUICKER else f"refl {{a = {name}-expected}}"}
+{name} = {f"{FUNCTIONS[kind]}_is {name}-given" if kind in QUICKER else f"refl {{a = {name}-expected}}"}
 """
 
 
 STORE_HEAD = """-- Generated: calls on a store, and what the model answers.
-use mathlib.Core.Path.{_≡_, refl}
-use mathlib.Core.List.{List, [], _∷_, _++_}
-use Prim.Native.Nat.{ℕ}
-use Rattle·history.specs.Event.{enqueue_started, enqueue_ended, dequeue_started, gave_item, gave_empty}
-use Rattle·rules.specs.Rule.{refused, accepted, ok, started, going, ended, empty, item, drained}
-use Rattle·rules.specs.Request.{Result, start_enqueue, start_dequeue, start_drain, step}
-use Rattle·tables.specs.Store.{Schedule, Outcome, follow, quickFollow, follow-is, count, quickCount, count_is, Single, opening, calling, call, quickCall, call_is, next, zeros}
+use Rattle.std.specs.Prelude.{◌≡◌, refl, List, [], ◌∷◌, ◌++◌, ℕ}
+use Rattle.history.specs.Event.{enqueue_started, enqueue_ended, dequeue_started, gave_item, gave_empty}
+use Rattle.rules.specs.Rule.{refused, accepted, ok, started, going, ended, empty, item, drained}
+use Rattle.rules.specs.Request.{Result, start_enqueue, start_dequeue, start_drain, step}
+use Rattle.tables.specs.Store.{Schedule, Outcome, follow, quick_follow, follow_is, count, quick_count, count_is, Single, opening, calling, call, quick_call, call_is, next, zeros}
 """
 
 HISTORY_HEAD = """-- Generated: words for the judge, and the model's verdict.
-use mathlib.Core.Path.{_≡_, refl}
-use mathlib.Core.Bool.{true, false}
-use mathlib.Core.List.{[], _∷_, _++_}
-use Rattle·tables.specs.Store.{zeros}
-use Rattle·tables.specs.Judge.{Words, Verdict, refused, judged, judge}
+use Rattle.std.specs.Prelude.{◌≡◌, refl, true, false, [], ◌∷◌, ◌++◌}
+use Rattle.tables.specs.Store.{zeros}
+use Rattle.tables.specs.Judge.{Words, Verdict, refused, judged, judge}
 """
 
 # The definitions, put together as the tables need them.
 STORE = """-- Calls on a store as the definitions answer them.
-use mathlib.Core.Path.{_≡_, refl, ap, ap₂}
-use mathlib.Core.List.{List, [], _∷_, reverse}
-use Prim.Native.Nat.{ℕ}
-use lib.ListN.{replicate}
-use Rattle·history.specs.Event.{History}
-use Rattle·history.specs.Linearization.{Queue}
-use Rattle·rules.specs.Sizes.{Sizes}
-use Rattle·rules.specs.Cell.{reader, writes}
-use Rattle·rules.specs.Free.{free, next_free}
-use Rattle·rules.specs.Rule.{Response}
-use Rattle·rules.specs.Producer.{load_tail, look_next, claim_record, link_claimed, shift_tail, go_back, write_entry, set_entry, claim_ahead, link_ahead, producer_step}
-use Rattle·rules.specs.Consumer.{front, read_tail, scan, read_entry, rescan, read_item, mark_handled, retire_head, consumer_step}
-use Rattle·rules.specs.Request.{Invocation, Result, applied, opened, open_store, starting_enqueue, starting_dequeue, starting_drain, phase_step, counted, stepping, effect, sizes_of, result}
-use Rattle·rules.specs.Play.{Played, play, steps_made, items_left}
-use Rattle·rules.specs.Quick.{quick_result, result_is, quick_play, play_is, quick_steps, steps_are}
+use Rattle.std.specs.Prelude.{◌≡◌, refl, List, [], ◌∷◌, reverse, ℕ, replicate}
+use Rattle.std.proofs.Common.{ap, ap₂}
+use Rattle.history.specs.Event.{History}
+use Rattle.history.specs.Linearization.{Queue}
+use Rattle.rules.specs.Sizes.{Sizes}
+use Rattle.rules.specs.Cell.{reader, writes}
+use Rattle.rules.specs.Free.{free, next_free}
+use Rattle.rules.specs.Rule.{Response}
+use Rattle.rules.specs.Producer.{load_tail, look_next, claim_record, link_claimed, shift_tail, go_back, write_entry, set_entry, claim_ahead, link_ahead, producer_step}
+use Rattle.rules.specs.Consumer.{front, read_tail, scan, read_entry, rescan, read_item, mark_handled, retire_head, consumer_step}
+use Rattle.rules.specs.Request.{Invocation, Result, applied, opened, open_store, starting_enqueue, starting_dequeue, starting_drain, phase_step, counted, stepping, effect, sizes_of, result}
+use Rattle.rules.specs.Play.{Played, play, steps_made, items_left}
+use Rattle.rules.specs.Quick.{quick_result, result_is, quick_play, play_is, quick_steps, steps_are}
 
 -- so many words that are zero
 abbrev pub zeros : ℕ → List ℕ
@@ -876,36 +870,36 @@ pub record Outcome : Type 0 where
 
 abbrev pub outcome : Played → Outcome
 outcome p =
-    let z = sizes_of (p .words) in
-    record { replies = reverse (p .replies); words = p .words; left = items_left z (reader z (p .words)); history = p .history }
+    let z = sizes_of p.words in
+    record { replies = reverse p.replies; words = p.words; left = items_left z (reader z p.words); history = p.history }
 
 -- what stands after the open
-abbrev opened-by : Schedule → Played
-opened-by s = let o = open_store (s .sizes) (s .lent) in record { words = o .words; replies = o .reply ∷ []; history = [] }
+abbrev opened_by : Schedule → Played
+opened_by s = let o = open_store s.sizes s.lent in record { words = o.words; replies = o.reply ∷ []; history = [] }
 
 unfoldable pub follow : Schedule → Outcome
-follow s = outcome (play (s .calls) (opened-by s))
+follow s = outcome (play s.calls (opened_by s))
 
 -- the same, quicker to compute
-unfoldable pub quickFollow : Schedule → Outcome
+unfoldable pub quick_follow : Schedule → Outcome
 unfolding UNFOLDED items_left
-quickFollow s = outcome (quick_play (s .calls) (opened-by s))
+quick_follow s = outcome (quick_play s.calls (opened_by s))
 
-pub follow-is : (s : Schedule) → follow s ≡ quickFollow s
-unfolding follow quickFollow
-follow-is s = ap outcome (play_is (s .calls) (opened-by s))
+pub follow_is : (s : Schedule) → follow s ≡ quick_follow s
+unfolding follow quick_follow
+follow_is s = ap outcome (play_is s.calls (opened_by s))
 
 -- the accepted steps of threads 0 and 1, counted in the list
 unfoldable pub count : Schedule → List ℕ
-count s = steps_made 0 (s .calls) (opened-by s) 0 ∷ steps_made 1 (s .calls) (opened-by s) 0 ∷ []
+count s = steps_made 0 s.calls (opened_by s) 0 ∷ steps_made 1 s.calls (opened_by s) 0 ∷ []
 
-unfoldable pub quickCount : Schedule → List ℕ
+unfoldable pub quick_count : Schedule → List ℕ
 unfolding UNFOLDED
-quickCount s = quick_steps 0 (s .calls) (opened-by s) 0 ∷ quick_steps 1 (s .calls) (opened-by s) 0 ∷ []
+quick_count s = quick_steps 0 s.calls (opened_by s) 0 ∷ quick_steps 1 s.calls (opened_by s) 0 ∷ []
 
-pub count_is : (s : Schedule) → count s ≡ quickCount s
-unfolding count quickCount
-count_is s = ap₂ (λ (a b : ℕ). a ∷ b ∷ []) (steps_are 0 (s .calls) (opened-by s) 0) (steps_are 1 (s .calls) (opened-by s) 0)
+pub count_is : (s : Schedule) → count s ≡ quick_count s
+unfolding count quick_count
+count_is s = ap₂ (λ (a b : ℕ). a ∷ b ∷ []) (steps_are 0 s.calls (opened_by s) 0) (steps_are 1 s.calls (opened_by s) 0)
 
 -- one call on any words
 pub data Made : Type 0 where
@@ -916,28 +910,28 @@ pub record Single : Type 0 where
   pub words : List ℕ
   pub made : Made
 
-abbrev pub made-on : List ℕ → Made → Result
-made-on m (opening z) = open_store z m
-made-on m (calling v) = result v m
+abbrev pub made_on : List ℕ → Made → Result
+made_on m (opening z) = open_store z m
+made_on m (calling v) = result v m
 
 unfoldable pub call : Single → Result
-call s = made-on (s .words) (s .made)
+call s = made_on s.words s.made
 
 abbrev pub quick_on : List ℕ → Made → Result
 quick_on m (opening z) = open_store z m
 quick_on m (calling v) = quick_result v m
 
-unfoldable pub quickCall : Single → Result
+unfoldable pub quick_call : Single → Result
 unfolding UNFOLDED
-quickCall s = quick_on (s .words) (s .made)
+quick_call s = quick_on s.words s.made
 
-made-is : (m : List ℕ) (k : Made) → made-on m k ≡ quick_on m k
-made-is m (opening z) = refl
-made-is m (calling v) = result_is v m
+made_is : (m : List ℕ) (k : Made) → made_on m k ≡ quick_on m k
+made_is m (opening z) = refl
+made_is m (calling v) = result_is v m
 
-pub call_is : (s : Single) → call s ≡ quickCall s
-unfolding call quickCall
-call_is s = made-is (s .words) (s .made)
+pub call_is : (s : Single) → call s ≡ quick_call s
+unfolding call quick_call
+call_is s = made_is s.words s.made
 
 -- the record that a claim takes on these words, plus one; 0 for none
 unfoldable pub next : List ℕ → ℕ
@@ -948,18 +942,16 @@ STORE = STORE.replace(
     'UNFOLDED',
     'applied effect starting_enqueue starting_dequeue starting_drain stepping counted phase_step open_store opened reader '
     'writes free next_free load_tail look_next claim_record link_claimed shift_tail go_back write_entry '
-    'setEntry claim_ahead link_ahead producer_step front read_tail scan read_entry rescan read_item mark_handled retire_head '
-    'consumerStep',
+    'set_entry claim_ahead link_ahead producer_step front read_tail scan read_entry rescan read_item mark_handled retire_head '
+    'consumer_step',
 )
 
 JUDGE = """-- Words as the definitions judge them.
-use mathlib.Core.Bool.{Bool}
-use mathlib.Core.List.{List}
-use Prim.Native.Nat.{ℕ}
-use Rattle·history.specs.Event.{decode}
-use Rattle·history.specs.Calls.{Row, rows}
-use Rattle·history.specs.Form.{Reading, read}
-use Rattle·criterion.specs.Pass.{explains}
+use Rattle.std.specs.Prelude.{Bool, List, ℕ}
+use Rattle.history.specs.Event.{decode}
+use Rattle.history.specs.Calls.{Row, rows}
+use Rattle.history.specs.Form.{Reading, read}
+use Rattle.criterion.specs.Pass.{explains}
 
 pub record Words : Type 0 where
   pub entries : ℕ
@@ -975,7 +967,7 @@ verdict (Reading.history h) = judged (explains h) (rows h)
 
 unfoldable pub judge : Words → Verdict
 unfolding read decode explains
-judge w = verdict (read (w .entries) (w .words))
+judge w = verdict (read w.entries w.words)
 """
 
 
@@ -1018,7 +1010,7 @@ def write_repository(folder, crates):
     lines = ['history:', 'criterion: history', 'rules: history', 'order_check: history', 'equivalence: history', 'matching: history']
     lines += ['comparison: history equivalence matching', 'census_rules:']
     for name in ('history', 'criterion', 'rules'):
-        shutil.copytree(CRATES / name, folder / 'crates' / name, ignore=shutil.ignore_patterns('must-fail'))
+        shutil.copytree(CRATES / name, folder / 'crates' / name, ignore=shutil.ignore_patterns('must-fail', 'out'))
     write_crate(folder, 'order_check', {'Check': oc.check_alone(definitions('order_check', 'Check')['Check'])})
     write_crate(folder, 'equivalence', definitions('equivalence', 'Threads', 'Tests'))
     write_crate(folder, 'matching', definitions('matching', 'Rows'))

@@ -21,7 +21,7 @@ def item(call, value=7):
 
 
 def run_of_calls(rng, events, producers=3, wrong=0.15, reach=2):
-    """A well_formed history: overlapping calls, some wrong, calls under way at the end. Items come from the first
+    """A well-formed history: overlapping calls, some wrong, calls under way at the end. Items come from the first
     `reach` that wait; with a reach of 1 a dequeue is empty only where none does."""
     history, running, started, waiting = [], {}, [], []
     numbers = iter(rng.sample(range(1, 40), 30) if rng.random() < 0.5 else range(1, 400))

@@ -3,9 +3,9 @@
 import ctypes
 from typing import NamedTuple
 
-from archives import ROOT, archive, shared
+from archives import archive, program, shared
 
-PROGRAM = ROOT / 'target' / 'bin' / 'verdict'
+PROGRAM = program('verdict')
 WORDS = {0: 'explained', 1: 'unexplained'}
 ANSWERS = {0: 'yes', 1: 'no'}
 REPLY = (0xBEEF, 0xBEE, 0xBE, 0xB)  # what stands where the judge replies how many words the order has

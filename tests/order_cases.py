@@ -153,26 +153,21 @@ def checks(seed, count):
 
 
 HEAD = """-- Generated: histories and orders of their calls, and what the model says of them.
-use mathlib.Core.Path.{_≡_, refl}
-use mathlib.Core.Bool.{Bool, true, false}
-use mathlib.Core.List.{List, [], _∷_, _++_}
-use Prim.Native.Nat.{ℕ}
-use Rattle·history.specs.Event.{History, enqueue_started, enqueue_ended, dequeue_started, gave_item, gave_empty}
-use Rattle·history.specs.Calls.{Call, enq, deq, nothing, item, empty}
-use Rattle·tables.specs.Store.{zeros}
-use Rattle·tables.specs.Order.{Numbered, list, late, check}
+use Rattle.std.specs.Prelude.{◌≡◌, refl, Bool, true, false, List, [], ◌∷◌, ◌++◌, ℕ}
+use Rattle.history.specs.Event.{History, enqueue_started, enqueue_ended, dequeue_started, gave_item, gave_empty}
+use Rattle.history.specs.Calls.{Call, enq, deq, nothing, item, empty}
+use Rattle.tables.specs.Store.{zeros}
+use Rattle.tables.specs.Order.{Numbered, list, late, check}
 """
 
 # The definitions, put together as the tables need them.
 ORDER = """-- Orders of calls as the definitions have them.
-use mathlib.Core.Bool.{Bool}
-use mathlib.Core.List.{List}
-use Prim.Native.Nat.{ℕ}
-use Rattle·history.specs.Event.{History}
-use Rattle·history.specs.Calls.{Call, calls}
-use Rattle·history.specs.Shows.{listed}
-use Rattle·criterion.specs.Order.{ordered, order_numbers}
-use Rattle·order_check.specs.Check.{orderly, is_order}
+use Rattle.std.specs.Prelude.{Bool, List, ℕ}
+use Rattle.history.specs.Event.{History}
+use Rattle.history.specs.Calls.{Call, calls}
+use Rattle.history.specs.Shows.{listed}
+use Rattle.criterion.specs.Order.{ordered, order_numbers}
+use Rattle.order_check.specs.Check.{orderly, is_order}
 
 -- a history and starting numbers of its calls
 pub record Numbered : Type 0 where
@@ -180,7 +175,7 @@ pub record Numbered : Type 0 where
   pub numbers : List ℕ
 
 unfoldable pub list : Numbered → List Call
-list n = listed (calls (n .history)) (n .numbers)
+list n = listed (calls n.history) n.numbers
 
 unfoldable pub late : History → List ℕ
 unfolding ordered order_numbers
@@ -188,7 +183,7 @@ late h = order_numbers (calls h)
 
 unfoldable pub check : Numbered → Bool
 unfolding orderly is_order
-check n = is_order (n .history) (n .numbers)
+check n = is_order n.history n.numbers
 """
 
 

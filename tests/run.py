@@ -4,7 +4,7 @@ that has ended, with its seconds, and what it wrote if a test failed (target/tes
 
     python3 tests/run.py [model | others] [FOLDER]
 
-With model only the tests that need nothing of target/: of the definitions and of the model. With others only those that do. FOLDER is kept in
+With model only the tests that need nothing of target/ and of the crates' out/: of the definitions and of the model. With others only those that do. FOLDER is kept in
 place of target/tests."""
 
 import concurrent.futures

@@ -28,11 +28,11 @@ def event_term(event):
     """An event of four words."""
     kind, thread, call, value = event
     return (
-        f'enqueueStarted {thread} {call} {value}',
-        f'enqueueEnded {thread} {call} {value}',
-        'dequeueStarted',
-        f'gaveItem {call} {value}',
-        'gaveEmpty',
+        f'enqueue_started {thread} {call} {value}',
+        f'enqueue_ended {thread} {call} {value}',
+        'dequeue_started',
+        f'gave_item {call} {value}',
+        'gave_empty',
     )[kind - 1]
 
 

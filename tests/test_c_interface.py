@@ -15,7 +15,7 @@ import unittest
 import dry_runs
 import intake_model as im
 import measures
-from archives import ROOT, archive, shared
+from archives import ROOT, archive, program, shared
 from engine_library import Engine, load
 from intake_model import USE_LINKED
 from longest_enqueue import Run
@@ -316,7 +316,7 @@ class Stack(unittest.TestCase):
 
     def run_with(self, name, text, stack):
         limit = lambda: resource.setrlimit(resource.RLIMIT_STACK, (stack, stack))
-        return subprocess.run([ROOT / 'target' / 'bin' / name], input=text, capture_output=True, text=True, preexec_fn=limit)
+        return subprocess.run([program(name)], input=text, capture_output=True, text=True, preexec_fn=limit)
 
 
 if __name__ == '__main__':

@@ -19,11 +19,11 @@ BESIDE = re.compile(r',? (?:and |or |of |in |\()?')
 # what is quoted and is no name: commands, what the tools and the programs print, words of the language, libraries
 QUOTED = re.compile(
     r'(?:rt|wc|make|python3|gcc)(?: .*)?|\.ci/run|rattle-kit-.*|[\w-]+=\S+|requires|main|memset|io|libc|libc::\w+|[≡<]|length|take'
-    r'|(?:bad line|too long|unreadable|explained|unexplained|refused|going|end|empty|item|ok)(?: \w+)*|order(?: \d+)+|same calls|other calls|precedence(?: not)? kept'
+    r'|os::c::\w+|(?:bad line|too long|unreadable|explained|unexplained|refused|going|end|empty|item|ok)(?: \w+)*|order(?: \d+)+|same calls|other calls|precedence(?: not)? kept'
 )
 # computations of which theorems on the page say all that is asked, in definitions that are listed: `verdict`, `order_shows`, `is_order_exactly_when_shows`,
 # `same_exactly`, `keeps_exactly`
-SHOWN = frozenset({'explains', 'orderNumbers', 'isOrder', 'sameCalls', 'keepsPrecedence'})
+SHOWN = frozenset({'explains', 'order_numbers', 'is_order', 'same_calls', 'keeps_precedence'})
 BELIEVED, ASSUMED, REFUSED = '## What must be believed', '## What is assumed and not proved', '## Wrong programs that are refused'
 
 

@@ -3,6 +3,9 @@
 What a table expects comes from `intake_model`, `judge_model`, `comparison_model` and `census_model` alone. A statement that does not hold is
 named by the checker, with the number of its case."""
 
+import concurrent.futures
+import os
+import pathlib
 import re
 import subprocess
 import tempfile
@@ -65,16 +68,22 @@ class Tables(unittest.TestCase):
             'twins': dc.twins(4, cls.sample),
         }
         dc.write_repository(cls.folder.name, crates)
-        cls.ended, cls.output = cls.check(*(name for name in crates if name != 'twins'))
+        # the definitions first, then the tables over them
+        cls.said = {'tables': cls.check('tables')}
+        with concurrent.futures.ThreadPoolExecutor(os.cpu_count()) as pool:
+            cls.said |= dict(zip(crates, pool.map(cls.check, crates)))
 
     @classmethod
-    def check(cls, *names):
-        """The exit status and the words of `rt check`."""
-        run = subprocess.run(['rt', 'check', *names], cwd=cls.folder.name, capture_output=True, text=True)
+    def check(cls, name):
+        """The exit status and the words of `rt check` in a crate's folder."""
+        folder = pathlib.Path(cls.folder.name) / 'crates' / name
+        run = subprocess.run(['rt', 'check'], cwd=folder, capture_output=True, text=True)
         return run.returncode, run.stdout + run.stderr
 
     def assert_proved(self, name):
-        self.assertRegex(self.output, rf'(?m)^rt: {name} proved', self.output[-4000:])
+        ended, output = self.said[name]
+        self.assertEqual(ended, 0, output[-4000:])
+        self.assertRegex(output, '(?m)^logic=proved', output[-4000:])
 
     def test_schedules(self):
         """A rule, a range, a check or its number, a write, a number of steps, the items left or an event of the history,
@@ -136,12 +145,13 @@ class Tables(unittest.TestCase):
 
     def test_all_is_proved(self):
         """A crate of definitions that is not proved by itself."""
-        self.assertEqual(self.ended, 0, self.output[-4000:])
+        self.assert_proved('tables')
+        self.assertEqual({name for name, (ended, _) in self.said.items() if ended}, {'twins'})
 
     def test_one_wrong_value_is_refused(self):
         """A table that the checker does not compute, or of which it leaves a value out: the right one of two twins
         is to pass and the other not."""
-        ended, output = self.check('twins')
+        ended, output = self.said['twins']
         self.assertEqual(ended, 1, output[-4000:])
         self.assertEqual(errors(output), {f'wrong-{k}' for k in range(len(self.sample))})
 

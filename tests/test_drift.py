@@ -5,16 +5,16 @@ import re
 import subprocess
 import unittest
 
+import archives
 import comparison_model as cm
 import judge_model as jm
 import program_streams
 import recordings
-from archives import ROOT
 from histories import DEQ, EMPTY, SHAPES, done, enq, item, run_of_calls
 from judge_model import flatten
 from program_streams import lines_of
 
-PROGRAM = ROOT / 'target' / 'bin' / 'drift'
+PROGRAM = archives.program('drift')
 MOST_EVENTS_READ, MOST_NUMBER = 8_192, 2**32 - 1
 LINE = re.compile(rb'(0|[1-9][0-9]*) (0|[1-9][0-9]*) (0|[1-9][0-9]*) (0|[1-9][0-9]*)')
 LONG = '4294967295 4294967295 4294967295 4294967295\n'

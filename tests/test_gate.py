@@ -11,10 +11,12 @@ ROOT = pathlib.Path(__file__).resolve().parent.parent
 RT = r'''case $1 in
 ci)
     echo 'library std: modules loaded=0'
-    echo 'rt: one proved (3 s)'
-    echo 'rt: two proved (5 s)'
-    echo 'rt: must-fail one/wrong: refused, as it must be (first at src/lib.rt:1:1; 2 s)'
-    echo "rt: must-fail two/wrong: $EDIT (2 s)"
+    echo 'rt: one is kept: an earlier run on this machine proved the same files over the same libraries'
+    echo 'rt: two proved'
+    echo 'rt: two: its tests are proved'
+    echo 'rt: must-fail one/wrong.edit: refused, as it must be: note: src/lib.rt:1:1: it is not proved that what the function ensures holds'
+    echo "rt: must-fail two/wrong.edit: $EDIT"
+    echo "$WORD"
     echo "$CI"
     case $CI in *' 0 failed') ;; *) exit 1 ;; esac
     ;;
@@ -26,7 +28,8 @@ echo "tests: 1 of 1: test_one took 0 s, $passed passed, $failed failed"
 echo "$passed passed, $failed failed"
 exit "$failed"
 '''
-PASSING = {'EDIT': 'refused, as it must be', 'CI': '4 passed, 0 failed'}
+OK = 'rt: ok; handles allowed: none; must-fail edits: 2 refused; done in this run: 1 of the 3 proofs; the others are kept'
+PASSING = {'EDIT': 'refused, as it must be', 'WORD': OK, 'CI': '4 passed, 0 failed'}
 
 
 class Gate(unittest.TestCase):
@@ -41,10 +44,15 @@ class Gate(unittest.TestCase):
             (edits / 'wrong.edit').touch()
         (self.top / 'crates.txt').write_text('# crates\none:\ntwo: one\n')
         shutil.copytree(ROOT / '.ci', self.top / '.ci')
+        (self.top / 'tools').mkdir()
         self.tools.mkdir()
         for tool, text in (('rt', RT), ('python3', PYTHON), ('gcc', ''), ('make', 'exit "${HOST:-0}"')):
-            (self.tools / tool).write_text('#!/bin/sh\n' + text)
-            (self.tools / tool).chmod(0o755)
+            self.write(self.tools / tool, text)
+        self.write(self.top / 'tools' / 'archive', 'exit "${ARCHIVE:-0}"')
+
+    def write(self, path, text):
+        path.write_text('#!/bin/sh\n' + text)
+        path.chmod(0o755)
 
     def gate(self, **settings):
         """The gate's exit status and lines; the stand-ins hide the tools of the machine."""
@@ -58,9 +66,11 @@ class Gate(unittest.TestCase):
     def test_passes(self):
         """A gate that counts wrongly, shows nothing on its way or loses what a part wrote."""
         status, lines = self.gate()
-        self.assertEqual((status, lines[-1]), (0, '11 passed, 0 failed'))
-        self.assertIn('gate: crate 2 of 2: two proved (5 s)', lines)
-        self.assertIn('gate: edit 1 of 2: one/wrong: refused, as it must be (first at src/lib.rt:1:1; 2 s)', lines)
+        self.assertEqual((status, lines[-1]), (0, '10 passed, 0 failed'))
+        self.assertTrue(any(line.startswith('gate: crate 1 of 2: one is kept: ') for line in lines))
+        self.assertIn('gate: crate 2 of 2: two proved', lines)
+        self.assertTrue(any(line.startswith('gate: edit 1 of 2: one/wrong.edit: refused, as it must be: note: src/lib.rt:1:1: ') for line in lines))
+        self.assertIn(f'gate: {OK}', lines)
         self.assertTrue(any(line.startswith('gate: proofs took ') for line in lines))
         self.assertIn('library std', (self.top / 'target' / 'gate' / 'proofs').read_text())
 
@@ -76,15 +86,28 @@ class Gate(unittest.TestCase):
     def test_a_part_fails(self):
         """A gate that is green although a part fails, with or without a tally of its own, or says not where to look."""
         status, lines = self.gate(HOST='1')
-        self.assertEqual((status, lines[-1]), (1, '10 passed, 1 failed'))
+        self.assertEqual((status, lines[-1]), (1, '9 passed, 1 failed'))
         self.assertTrue(any('host FAILED' in line and 'target/gate/host' in line for line in lines))
-        status, lines = self.gate(EDIT='NOT REFUSED: the crate is still proved with this edit', CI='3 passed, 1 failed')
-        self.assertEqual((status, lines[-1]), (1, '10 passed, 1 failed'))
-        self.assertIn('gate: edit 2 of 2: two/wrong: NOT REFUSED: the crate is still proved with this edit (2 s)', lines)
+        failed = 'rt: FAILED: two/wrong.edit'
+        status, lines = self.gate(EDIT='NOT REFUSED: the crate is still proved with this edit', WORD=failed, CI='3 passed, 1 failed')
+        self.assertEqual((status, lines[-1]), (1, '9 passed, 1 failed'))
+        self.assertIn('gate: edit 2 of 2: two/wrong.edit: NOT REFUSED: the crate is still proved with this edit', lines)
+        self.assertIn(f'gate: {failed}', lines)
         self.assertTrue((self.top / 'target' / 'gate' / 'proofs').exists())
         status, lines = self.gate(MODEL='1')
-        self.assertEqual((status, lines[-1]), (1, '11 passed, 1 failed'))
+        self.assertEqual((status, lines[-1]), (1, '10 passed, 1 failed'))
         self.assertTrue(any('model FAILED' in line and 'target/gate/model' in line for line in lines))
+        status, lines = self.gate(ARCHIVE='1')
+        self.assertEqual((status, lines[-1]), (1, '8 passed, 2 failed'))
+        self.assertTrue(any('judge FAILED' in line for line in lines))
+
+    def test_an_edit_is_bad(self):
+        """A gate that is green although an edit could not be tried, which rt ci passes."""
+        bad = OK.replace('2 refused', '1 refused, 1 bad')
+        status, lines = self.gate(EDIT='BAD EDIT: the text does not stand in src/lib.rt', WORD=bad, CI='3 passed, 0 failed')
+        self.assertEqual((status, lines[-1]), (1, '6 passed, 1 failed'))
+        self.assertIn('gate: edit 2 of 2: two/wrong.edit: BAD EDIT: the text does not stand in src/lib.rt', lines)
+        self.assertTrue(any('proofs FAILED' in line for line in lines))
 
 
 if __name__ == '__main__':

@@ -1,6 +1,6 @@
 """The program `intake` against run files, the limits of its input, input and output that fail, and random inputs of
-every class of program_scripts.py, which the independent model and judge answer. Needs target/bin/intake, which
-`rt check intake` builds."""
+every class of program_scripts.py, which the independent model and judge answer. Needs crates/intake/out/intake, which
+`rt ci` builds, and `rt run` in crates/intake."""
 
 import collections
 import concurrent.futures
@@ -11,6 +11,7 @@ import subprocess
 import tempfile
 import unittest
 
+import archives
 import intake_model as im
 import judge_model as jm
 import program_streams
@@ -18,7 +19,7 @@ from program_scripts import CLASSES, MOST_INPUT
 from program_streams import lines_of
 
 HERE = pathlib.Path(__file__).resolve().parent
-PROGRAM = HERE.parent / 'target' / 'bin' / 'intake'
+PROGRAM = archives.program('intake')
 STORE_WORDS = 12_826
 
 NUMBER = rb'(0|[1-9][0-9]{0,9})'

@@ -6,20 +6,19 @@ import subprocess
 import tempfile
 import unittest
 
-from archives import ROOT, archive
+from archives import ROOT, archive, program
 
 CENSUS = 'target/host/census 19'
-VERDICT = r"printf '1 1 1 7\n2 1 1 7\n3 0 0 0\n4 0 1 7\n' | target/bin/verdict"
+TRY = '(cd crates/intake && rt try < stdin)'
+INTAKE, DRIFT = '(cd crates/intake && rt run < stdin)', '(cd crates/drift && rt run < stdin)'
+VERDICT = r"printf '1 1 1 7\n2 1 1 7\n3 0 0 0\n4 0 1 7\n' | (cd crates/verdict && rt run)"
 GATE = '.ci/run'
 # what the README says that each command prints at last
 LAST = {
-    'rt try intake': "rt: intake ran, on the interpreter and compiled three ways, and wrote what its 'stdout' has",
+    TRY: 'explained',
     'make -C host': "8000 items received, each producer's in its order",
-    'rt check intake': 'rt: ok, ',
-    'rt check verdict': 'rt: ok, ',
-    'rt check drift': 'rt: ok, ',
-    'target/bin/intake < crates/intake/stdin': 'explained',
-    'target/bin/drift < crates/drift/stdin': '4 0 1 7',
+    INTAKE: 'explained',
+    DRIFT: '4 0 1 7',
     CENSUS: '40 events counted, not one bed out',
     './example': 'call 1, value 700',
     VERDICT: 'order 1 2',
@@ -33,7 +32,13 @@ def readme():
 
 def commands():
     text = re.sub(r'```.*?```', '', readme(), flags=re.S)
-    return re.findall(r'^    ((?:make |rt |gcc |target/|printf |\./).*|\.ci/run)$', text, re.M)
+    return re.findall(r'^    ((?:make |rt |gcc |target/|printf |\(cd |\./).*|\.ci/run)$', text, re.M)
+
+
+def as_run(command):
+    """The command, with the program that stands in the crate's out/ in the place of `rt run`, which proves the crates below once more before it runs that."""
+    name = re.search(r'cd crates/(\w+) && rt run', command)
+    return command.replace('rt run', f'out/{name[1]}') if name and program(name[1]).exists() else command
 
 
 class Readme(unittest.TestCase):
@@ -59,16 +64,17 @@ class Readme(unittest.TestCase):
     def test_commands(self):
         """A command of the README that fails as it is written, or ends with something else than the README says. `.ci/run` is the gate
         itself, which runs this test."""
-        printed = {command: self.run_command(command) for command in commands() if command != GATE and 'example' not in command}
+        printed = {command: self.run_command(as_run(command)) for command in commands() if command != GATE and 'example' not in command}
         self.assertEqual(set(printed) | {'./example', GATE}, set(LAST) | {GATE})
         for command, lines in printed.items():
             self.assertTrue(lines[-1].startswith(LAST[command]), f'{command}: {lines[-1]}')
-        shown = readme().split('crates/intake/stdin\n\n')[1].split('\n\n')[0].splitlines()
-        self.assertEqual(printed['target/bin/intake < crates/intake/stdin'], [line[21:33].strip() for line in shown])
+        shown = readme().split(f'{INTAKE}\n\n')[1].split('\n\n')[0].splitlines()
+        self.assertEqual(printed[INTAKE], [line[21:33].strip() for line in shown])
+        self.assertEqual(printed[TRY], printed[INTAKE])
         with open(os.path.join(ROOT, 'crates', 'intake', 'stdin'), encoding='utf-8') as file:
             self.assertEqual(file.read().splitlines(), [line[4:21].strip() for line in shown[:-1]])
-        shown = readme().split('crates/drift/stdin\n\n')[1].split('\n\n')[0].splitlines()[1:]
-        self.assertEqual(printed['target/bin/drift < crates/drift/stdin'], [line[28:47].strip() for line in shown])
+        shown = readme().split(f'{DRIFT}\n\n')[1].split('\n\n')[0].splitlines()[1:]
+        self.assertEqual(printed[DRIFT], [line[28:47].strip() for line in shown])
         with open(os.path.join(ROOT, 'crates', 'drift', 'stdin'), encoding='utf-8') as file:
             for column, recording in zip((4, 16), file.read().split('\n\n'), strict=True):
                 self.assertEqual(recording.splitlines(), [line[column : column + 12].strip() for line in shown[:-1]])
@@ -90,7 +96,7 @@ class Readme(unittest.TestCase):
             ('2 1 1 7\n', 'refused 13'),
             ('1 1 1 7\n1 2 1 7\n', 'refused 13'),
         ):
-            done = subprocess.run([ROOT / 'target' / 'bin' / 'verdict'], input=text, capture_output=True, text=True)
+            done = subprocess.run([program('verdict')], input=text, capture_output=True, text=True)
             self.assertEqual(done.stdout.split('\n')[0], word, text[:40])
 
 
