@@ -16,11 +16,11 @@ returns-then-limit-eq0 c = rw (c.is_idle.ensures ∙ c.if-not-is_idle.false, c.i
 
 pub returns-then-limit-gt-MOST_DRAINED : goal.returns-then-limit-gt-MOST_DRAINED
 unfolding starting_drain applied
-returns-then-limit-gt-MOST_DRAINED c = rw (c.is_idle.ensures ∙ c.if-not-is_idle.false, le-leb 1 c.args.limit (omega arith), lt-leb c.args.limit most_drained c.if-limit-gt-MOST_DRAINED.true) refl
+returns-then-limit-gt-MOST_DRAINED c = rw (c.is_idle.ensures ∙ c.if-not-is_idle.false, le-leb 1 c.args.limit (omega arith), lt-leb c.args.limit most_drained (omega arith)) refl
 
 pub returns : goal.returns
 unfolding starting_drain applied writes
 returns c =
     let least = le-leb 1 c.args.limit (omega (arith, c.if-limit-eq0)) in
-    let most = le-leb c.args.limit most_drained c.if-limit-gt-MOST_DRAINED.false in
+    let most = le-leb c.args.limit most_drained (omega arith) in
     rw (c.is_idle.ensures ∙ c.if-not-is_idle.false, least, most, c.put_consumer.ensures, c.put_drain.ensures) refl
