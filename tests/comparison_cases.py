@@ -134,7 +134,7 @@ def keepings(seed, count):
 HEAD = """-- Generated: the words of two recordings, and what the model says of them.
 use Rattle.std.specs.Prelude.{◌≡◌, refl, Bool, true, false, List, [], ◌∷◌, ◌++◌}
 use Rattle.comparison.specs.declared.Recording.TheVariants.{First, Second}
-use Rattle.comparison.specs.declared.Reply.TheVariants.{Refused, SameCalls, OtherCalls}
+use Rattle.comparison.specs.Compared.{Refused, SameCalls, OtherCalls}
 use Rattle.tables.specs.Store.{zeros}
 use Rattle.tables.specs.Compare.{Lent, Outcome, compare, keep}
 """
@@ -145,8 +145,7 @@ use Rattle.std.specs.Prelude.{Bool, List, ℕ}
 use Rattle.history.specs.Event.{decode}
 use Rattle.history.specs.Form.{most_events, read}
 use Rattle.equivalence.specs.Tests.{same_calls, keeps_precedence}
-use Rattle.comparison.specs.declared.Compared.{Compared}
-use Rattle.comparison.specs.Compared.{shared, compared, handed_back, keeps_to}
+use Rattle.comparison.specs.Compared.{Comparison, shared, compared, handed_back, keeps_to}
 use Rattle.comparison.specs.Reply.{number_of, reply_words}
 
 -- the words of two recordings, and those of the reply before
@@ -157,7 +156,7 @@ pub record Lent : Type 0 where
 
 -- the comparison, the part that is handed back, and what C gets
 pub record Outcome : Type 0 where
-  pub compared : Compared
+  pub compared : Comparison
   pub part : List ℕ
   pub number : ℕ
   pub said : List ℕ
@@ -175,5 +174,5 @@ keep l = keeps_to (read most_events l.first) (read most_events l.second)
 
 
 def types_alone(code):
-    """The enums and structs of a crate's code, without its functions."""
-    return '\n\n'.join(re.findall(r'^pub (?:enum|struct) .*?^}$', code, re.M | re.S)) + '\n'
+    """The types that the definitions speak of, without the rest of the crate's code."""
+    return '\n\n'.join(re.findall(r'^pub (?:enum Recording|struct Rest) .*?^}$', code, re.M | re.S)) + '\n'

@@ -1011,7 +1011,7 @@ def write_repository(folder, crates):
     lines += ['comparison: history equivalence matching', 'census_rules:']
     for name in ('history', 'criterion', 'rules'):
         shutil.copytree(CRATES / name, folder / 'crates' / name, ignore=shutil.ignore_patterns('must-fail', 'out'))
-    write_crate(folder, 'order_check', {'Check': oc.check_alone(definitions('order_check', 'Check')['Check'])})
+    write_crate(folder, 'order_check', definitions('order_check', 'Check'))
     write_crate(folder, 'equivalence', definitions('equivalence', 'Threads', 'Tests'))
     write_crate(folder, 'matching', definitions('matching', 'Rows'))
     code = (CRATES / 'comparison' / 'src' / 'lib.rt').read_text(encoding='utf-8')

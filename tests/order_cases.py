@@ -185,9 +185,3 @@ unfoldable pub check : Numbered → Bool
 unfolding orderly is_order
 check n = is_order n.history n.numbers
 """
-
-
-def check_alone(text):
-    """The definitions of crates/order_check/specs/Check.antt without the reply, which is an enum of its code."""
-    blocks = '\n'.join(line for line in text.split('\n') if '.declared.' not in line).split('\n\n')
-    return '\n\n'.join(block for block in blocks if 'Checked' not in block).rstrip() + '\n'

@@ -203,7 +203,7 @@ class Amended(unittest.TestCase):
         self.assert_found(r'(?<=specs/Refusal.antt`\) \| )\d+', '1', 'lines, not 1: refusal')
 
     def test_unlisted_definitions(self):
-        self.assert_found(r'\| refusals 2 and 3 as one number .*\n', '', 'refusal of crates/admission/specs/Refusal.antt, on which admit rests')
+        self.assert_found(r'\| refusals 2 and 3 as one number .*\n', '', 'refusal of crates/admission/specs/Refusal.antt, on which Admits, Goes, admit rests')
 
     def test_edits(self):
         """An edit that is left out, and one that is misspelt."""

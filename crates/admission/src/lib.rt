@@ -10,11 +10,11 @@ ghost use Rattle.rules.specs.Range.{contents_in_range, threads_in_range, in_rang
 ghost use Rattle.rules.specs.Request.{sizes_of};
 ghost use Rattle.store.specs.Shape.{sizes};
 ghost use Rattle.store.specs.Store.{Room};
-ghost use Rattle.admission.specs.Refusal.{refusal};
+ghost use Rattle.admission.specs.Refusal.{Admits};
 
 use area::drain_in_range;
 use records::records_in_range;
-use store::{Shape, drain_at, phase, record_at, select, size};
+use store::{Refusal, Shape, drain_at, phase, record_at, size};
 use threads::{consumer_in_range, producers_in_range};
 
 // Contents as *open* writes them; the record claimed last; what the scan has read, which goes by the consumer's phase; spare words.
@@ -30,7 +30,7 @@ fn contents_in_range(s: &[u32], z: Shape) -> bool
     let records = ((1 <= s[7]) & (s[7] <= n)) & (((1 <= s[8]) & (s[8] <= n)) & counts);
     let contents = (s[4] == size::CONTENT_WORDS) & ((s[5] == first) & ((s[6] <= m) & records));
     let spare = (s[13] == 0) & ((s[14] == 0) & (s[15] == 0));
-    let scan = s[12] <= select((s[16] == phase::SCAN) | (s[16] == phase::READ_ENTRY), 1, 0);
+    let scan = s[12] <= u32::from((s[16] == phase::SCAN) | (s[16] == phase::READ_ENTRY));
     contents & (((1 <= s[11]) & (s[11] <= n)) & (scan & spare))
 }
 
@@ -87,22 +87,22 @@ pub fn store_words(z: Shape) -> usize
     (drain_at(z) + size::DRAIN_WORDS) as usize
 }
 
-// The number of the first test that fails, 0 where the words are admitted.
-pub fn admit(s: &[u32]) -> u32
-    ensures { refusal s.now ≡ result }
+// The sizes of words that are admitted; else the refusal of the first test that fails.
+pub fn admit(s: &[u32]) -> Result<Shape, Refusal>
+    ensures { Admits s.now result }
 {
     if s.len() < size::CONTENT_WORDS as usize {
-        return 2;
+        return Err(Refusal::Short);
     }
     let z = shape_of(s);
     if !sizes_in_range(z) {
-        return 3;
+        return Err(Refusal::OutOfRange);
     }
     if s.len() < store_words(z) {
-        return 2;
+        return Err(Refusal::Short);
     }
     if !in_range(s, z) {
-        return 3;
+        return Err(Refusal::OutOfRange);
     }
-    0
+    Ok(z)
 }

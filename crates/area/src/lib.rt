@@ -15,10 +15,8 @@ fn pairs_marked(s: &[u32], at: usize, count: usize, m: u32) -> bool
     ensures { every count (λ i. leb (get_or s.now (at + 2 * i) 0) m) ≡ result }
 {
     let mut ok = true;
-    let mut i: usize = 0;
-    while i < count {
+    for i in 0..count {
         ok = ok & (s[at + 2 * i] <= m);
-        i += 1;
     }
     ok
 }
@@ -29,10 +27,8 @@ fn zero_from(s: &[u32], at: usize, n: usize) -> bool
     ensures { every n (λ j. eqb (get_or s.now (at + j) 0) 0) ≡ result }
 {
     let mut zero = true;
-    let mut j: usize = 0;
-    while j < n {
+    for j in 0..n {
         zero = zero & (s[at + j] == 0);
-        j += 1;
     }
     zero
 }

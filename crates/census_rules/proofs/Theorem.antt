@@ -8,11 +8,11 @@ use Rattle.std.proofs.lemmas.Bool.{eqb-false}
 use Rattle.census_rules.specs.Board.{beds, last_state, first_count, board_words, states_on, Row, Rules, row_of, rules_on, count_on, counted}
 use Rattle.census_rules.specs.Table.{last_office, is_table, rules_in}
 use Rattle.census_rules.specs.Census.{Outcome, refusing, accepting, open_board, bed_in, state_in, is_item, moved, taking, reading_table, counting}
-use Rattle.census_rules.specs.Laws.{both, board_counting}
+use Rattle.census_rules.specs.Laws.{both, row_counts, board_counting}
 use Rattle.census_rules.specs.Cases.{reading_no_table, reading_rules, counting_no_office, counting_says}
 use Rattle.census_rules.specs.Statement.{Call, take, read_table, count, number_of, board_after, state_after, rules_after, no_rules, counts, census_of, AlwaysRight}
 use Rattle.census_rules.specs.Counted.{counted_is_how_many, how_many_same}
-use Rattle.census_rules.proofs.Upkeep.{Sound, in_range_by, row_counts, all_stay_in, moved_rules, moved_state, moved_others, moved_sound, ruled_rules, ruled_beds, ruled_sound}
+use Rattle.census_rules.proofs.Upkeep.{Sound, in_range_by, all_stay_in, moved_rules, moved_state, moved_others, moved_sound, ruled_rules, ruled_beds, ruled_sound}
 
 -- A board whose counts are right, with these states of its beds and this rule table.
 pub record Kept (b : List ℕ) (state : ℕ → ℕ) (t : Rules) : Type 0 where

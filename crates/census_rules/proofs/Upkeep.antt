@@ -10,7 +10,7 @@ use Rattle.std.proofs.lemmas.Bool.{eqb-false}
 use Rattle.census_rules.specs.Board.{beds, last_state, first_count, board_words, at_most, states_on, in_range, Row, Rules, row_of, rules_on, with_rules, count_on, counted}
 use Rattle.census_rules.specs.Table.{is_table, rules_in}
 use Rattle.census_rules.specs.Census.{changed, stays, all_stay, all_changed, moved, ruled, afresh}
-use Rattle.census_rules.specs.Laws.{Counting, at_most_at, state_in_range, rule_in_range, board_counting, table_counting}
+use Rattle.census_rules.specs.Laws.{Counting, at_most_at, state_in_range, rule_in_range, row_counts, board_counting, table_counting}
 use Rattle.census_rules.specs.Words.{four, five, twenty, counts_long, counts_below, counts_leave_states, counts_at, rules_long, rules_leave_states, rules_word, rules_at, same_rules}
 use Rattle.census_rules.specs.Counted.{counted_set, counted_at_most}
 
@@ -40,15 +40,7 @@ in_range_by b long states rules counts =
     (part_at_most beds first_count board_words b (omega arith)
     (λ k l h. subst (λ (x : ℕ). get_or b x 0 ≤ beds) {x = first_count + (k - first_count)} (omega arith) (counts (k - first_count) (omega arith))))
 
--- an office's row of a rule table that counts by 0 and 1
-pub row_counts : (t : Rules) → Counting t → (office : ℕ) → office < 4 → at_most 1 (row_of t office) ≡ true
-row_counts t c zero h = c.first
-row_counts t c (suc zero) h = c.second
-row_counts t c (suc (suc zero)) h = c.third
-row_counts t c (suc (suc (suc zero))) h = c.fourth
-row_counts t c (suc (suc (suc (suc office)))) h = absurd (omega arith)
-
--- so each of its twenty words is
+-- each of the twenty words of a rule table that counts by 0 and 1
 small_append : (xs ys : List ℕ) → ((i : ℕ) → get_or xs i 0 ≤ 1) → ((i : ℕ) → get_or ys i 0 ≤ 1) → (i : ℕ) → get_or (xs ++ ys) i 0 ≤ 1
 small_append [] ys p q i = q i
 small_append (x ∷ xs) ys p q zero = p 0

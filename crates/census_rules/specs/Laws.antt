@@ -1,10 +1,10 @@
 -- What a board in range has: its words are small.
 use Rattle.std.specs.Prelude.{◌≡◌, refl, Bool, true, false, ◌&&◌, cond, List, [], ◌∷◌, ℕ, zero, suc, ◌+◌, ◌-◌, ◌≤◌, ◌<◌, leb, eqb, length, get_or}
-use Rattle.std.proofs.Common.{subst, ◌∙◌, arith, get_or-take, get_or-drop, leb-true, eqb-true, le-leb}
+use mathlib.Core.Bool.{and-false}
+use Rattle.std.proofs.Common.{ap, subst, ◌∙◌, arith, get_or-take, get_or-drop, leb-true, eqb-true, le-leb}
 use Rattle.std.proofs.Math.Seq.{slice}
 use Rattle.census_rules.specs.Board.{beds, last_state, first_count, board_words, at_most, states_on, in_range, Rules, row_of, row_at, rules_on, count_on}
 use Rattle.census_rules.specs.Table.{table_rows, last_office, office_at, state_at, word_at, is_row, are_rows, is_for, each_once, is_table, word_in, rule_for, row_for, rules_in}
-use Rattle.census_rules.specs.Census.{stays, all_stay}
 
 -- A board that is not refused with 22.
 pub record InRange (b : List ℕ) : Type 0 where
@@ -17,6 +17,14 @@ pub record Counting (rules : Rules) : Type 0 where
   pub second : at_most 1 (row_of rules 1) ≡ true
   pub third : at_most 1 (row_of rules 2) ≡ true
   pub fourth : at_most 1 (row_of rules 3) ≡ true
+
+-- an office's row of a rule table that counts by 0 and 1
+pub row_counts : (t : Rules) → Counting t → (office : ℕ) → office < 4 → at_most 1 (row_of t office) ≡ true
+row_counts t c zero h = c.first
+row_counts t c (suc zero) h = c.second
+row_counts t c (suc (suc zero)) h = c.third
+row_counts t c (suc (suc (suc zero))) h = c.fourth
+row_counts t c (suc (suc (suc (suc office)))) h = absurd (omega arith)
 
 pub both : (a c : Bool) → (a && c) ≡ true → (a ≡ true) × (c ≡ true)
 both true c e = (refl, e)
@@ -100,16 +108,20 @@ table_counting ws e = record { first = row 0; second = row 1; third = row 2; fou
         let word : (state : ℕ) → rule_for ws office state ≤ 1 = λ state. word_at_most table_rows ws office state (is_table_lem ws e).rows in
         five_at_most (word 0) (word 1) (word 2) (word 3) (word 4)
 
--- Each office's count stays within 0 to 512.
-pub record AllStay (b : List ℕ) (rules : Rules) (old new : ℕ) : Type 0 where
-  pub first : stays (row_of rules 0) (count_on b 0) old new ≡ true
-  pub second : stays (row_of rules 1) (count_on b 1) old new ≡ true
-  pub third : stays (row_of rules 2) (count_on b 2) old new ≡ true
-  pub fourth : stays (row_of rules 3) (count_on b 3) old new ≡ true
+-- Whether a test holds of each number below n.
+abbrev pub all_below : (ℕ → Bool) → (n : ℕ) → Bool
+all_below f zero = true
+all_below f (suc n) = all_below f n && f n
 
-pub all_stay_lem : (b : List ℕ) (rules : Rules) (old new : ℕ) → all_stay b rules old new ≡ true → AllStay b rules old new
-all_stay_lem b rules old new e =
-    let abc = both (stays (row_of rules 0) (count_on b 0) old new && stays (row_of rules 1) (count_on b 1) old new && stays (row_of rules 2) (count_on b 2) old new) _ e in
-    let ab = both (stays (row_of rules 0) (count_on b 0) old new && stays (row_of rules 1) (count_on b 1) old new) _ abc.0 in
-    let a = both (stays (row_of rules 0) (count_on b 0) old new) _ ab.0 in
-    record { first = a.0; second = a.1; third = ab.1; fourth = abc.1 }
+module _ (f : ℕ → Bool) where
+  pub all_below_true : (n : ℕ) → ((k : ℕ) → k < n → f k ≡ true) → all_below f n ≡ true
+  all_below_true zero h = refl
+  all_below_true (suc n) h = rw (all_below_true n (λ k l. h k (omega arith))) (h n (omega arith))
+
+  not_at : (n k d : ℕ) → n ≡ suc (k + d) → f k ≡ false → all_below f n ≡ false
+  not_at zero k d h e = absurd (omega arith)
+  not_at (suc n) k zero h e = ap (λ (j : ℕ). all_below f n && f j) {x = n} {y = k} (omega arith) ∙ ap (λ (b : Bool). all_below f n && b) e ∙ and-false (all_below f n)
+  not_at (suc n) k (suc d) h e = ap (λ (b : Bool). b && f n) (not_at n k d (omega arith) e)
+
+  pub all_below_false : (n k : ℕ) → k < n → f k ≡ false → all_below f n ≡ false
+  all_below_false n k h e = not_at n k (n - suc k) (omega arith) e

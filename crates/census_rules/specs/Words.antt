@@ -27,6 +27,16 @@ pub take_sets : (vs l : List ℕ) (n i : ℕ) → n ≤ i → take n (sets l i v
 take_sets [] l n i h = refl
 take_sets (v ∷ vs) l n i h = take_sets vs (set l i v) n (suc i) (omega arith) ∙ take-set-le n l i v h
 
+-- A list of four, by its elements.
+pub list_of_four : {A : Type 0} (xs : List A) (z : A) {a b c d : A} → length xs ≡ 4 → get_or xs 0 z ≡ a → get_or xs 1 z ≡ b → get_or xs 2 z ≡ c → get_or xs 3 z ≡ d
+    → xs ≡ a ∷ b ∷ c ∷ d ∷ []
+list_of_four [] z l p q r s = absurd (omega arith)
+list_of_four (w ∷ []) z l p q r s = absurd (omega arith)
+list_of_four (w ∷ x ∷ []) z l p q r s = absurd (omega arith)
+list_of_four (w ∷ x ∷ y ∷ []) z l p q r s = absurd (omega arith)
+list_of_four (v ∷ w ∷ x ∷ y ∷ []) z l p q r s = cc
+list_of_four (u ∷ v ∷ w ∷ x ∷ y ∷ xs) z l p q r s = absurd (omega arith)
+
 -- The counts, and the twenty words of a rule table, are such words.
 abbrev pub four : List ℕ → List ℕ
 four counts = get_or counts 0 0 ∷ get_or counts 1 0 ∷ get_or counts 2 0 ∷ get_or counts 3 0 ∷ []

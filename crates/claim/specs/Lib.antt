@@ -1,2 +1,1 @@
-pub mod Claim
 pub mod Search

@@ -1,10 +1,11 @@
 -- The search for the next free record: the first set digit of a map, from the record claimed last on, and where there is none, from
 -- record 0 on.
-use Rattle.std.specs.Prelude.{◌≡◌, refl, Bool, true, false, ℕ, zero, suc, ◌+◌, ◌-◌, ◌/◌, ◌^◌, ◌≤◌, ◌<◌, leb}
+use Rattle.std.specs.Prelude.{◌≡◌, refl, Bool, true, false, Option, None, Some, ℕ, zero, suc, ◌+◌, ◌-◌, ◌/◌, ◌^◌, ◌≤◌, ◌<◌, leb}
 use Rattle.std.proofs.Math.Path.{ap}
-use Rattle.std.proofs.Common.{sym, ◌∙◌, zero-add, suc-add, add-one, arith, leb-true}
+use Rattle.std.proofs.Common.{sym, ◌∙◌, zero-add, suc-add, arith, leb-true}
 use Rattle.std.proofs.Math.Decide.{ℕ_discrete}
 use Rattle.std.specs.Int.Count.{count_trailing_zeros}
+use Rattle.std.specs.Option.{option_or}
 use Rattle.rules.specs.Sizes.{Sizes, most_records}
 use Rattle.rules.specs.Cell.{Reader, last_claimed}
 use Rattle.rules.specs.Update.{both}
@@ -14,9 +15,14 @@ use Rattle.bits.specs.Bitmap.{bitmap}
 use Rattle.bits.specs.Laws.{digits_past}
 use Rattle.bits.specs.Lowest.{First, trailing_zeros_first, no_set_digit}
 
--- Of a map whose digits are those of a test: r is the first of them from digit `from` on that passes, plus one, or 0.
-abbrev pub Finds : (map from r : ℕ) → Type 0
-Finds map from r = (n : ℕ) (p : ℕ → Bool) → bitmap 0 n p ≡ map → from ≤ n → n ≤ most_records → first_from from (n - from) p ≡ r
+-- A record, or none, as the rules number it: plus one, or 0.
+abbrev pub link_of : Option ℕ → ℕ
+link_of None = 0
+link_of (Some r) = suc r
+
+-- Of a map whose digits are those of a test: r is the first of them from digit `from` on that passes, or none does.
+abbrev pub Finds : (map from : ℕ) → (r : Option ℕ) → Type 0
+Finds map from r = (n : ℕ) (p : ℕ → Bool) → bitmap 0 n p ≡ map → from ≤ n → n ≤ most_records → first_from from (n - from) p ≡ link_of r
 
 -- what the first part of a search found, or else the second
 abbrev or_else : (c d : ℕ) → ℕ
@@ -72,52 +78,50 @@ module _ (map from : ℕ) where
       let all : n ≡ from + (n - from) = omega arith in
       rw (← e) (ap (λ (i : ℕ). bitmap 0 i p / 2 ^ from) all ∙ digits_past from 0 (n - from) from p (omega arith))
 
-  pub finds_past : most_records ≤ from → Finds map from 0
+  pub finds_past : most_records ≤ from → Finds map from None
   finds_past h n p e l m = none_found from (n - from) p (λ j k i. absurd (omega arith))
 
-  pub finds_none : map / 2 ^ from ≡ 0 → Finds map from 0
+  pub finds_none : map / 2 ^ from ≡ 0 → Finds map from None
   finds_none z n p e l m = none_found from (n - from) p (no_set_digit from (n - from) p (sym (rest_is n p e l) ∙ z))
 
-  pub finds_lowest : (map / 2 ^ from ≡ 0 → ⊥) → Finds map from (from + count_trailing_zeros most_records (map / 2 ^ from) + 1)
+  pub finds_lowest : (map / 2 ^ from ≡ 0 → ⊥) → Finds map from (Some (from + count_trailing_zeros most_records (map / 2 ^ from)))
   finds_lowest z n p e l m =
       let rest = rest_is n p e l in
-      rw (rest, add-one) (first_found from (n - from) _ p (trailing_zeros_first most_records from (n - from) _ p (omega arith) (λ y. z (rest ∙ y)) refl))
+      rw rest (first_found from (n - from) _ p (trailing_zeros_first most_records from (n - from) _ p (omega arith) (λ y. z (rest ∙ y)) refl))
 
 -- what is found is no more than the number of digits
-pub found_most : {map from r : ℕ} (n : ℕ) (p : ℕ → Bool) → Finds map from r → bitmap 0 n p ≡ map → from ≤ n → n ≤ most_records → r ≤ n
-found_most {map} {from} n p finds e l m = omega (arith, finds n p e l m, first_most from (n - from) p)
+found_most : {map from : ℕ} (r : Option ℕ) (n : ℕ) (p : ℕ → Bool) → Finds map from r → bitmap 0 n p ≡ map → from ≤ n → n ≤ most_records → link_of r ≤ n
+found_most {map} {from} r n p finds e l m = omega (arith, finds n p e l m, first_most from (n - from) p)
 
 -- Word 11 names a record.
 pub last_least : {z : Sizes} {σ : Reader} → InRange z σ → 1 ≤ σ last_claimed
 last_least {z} {σ} range = leb-true 1 (σ last_claimed) (both (leb 1 (σ last_claimed)) (leb (σ last_claimed) z.N) (range.words last_claimed tt)).0
 
 -- The round in two halves: above the record claimed last, and where none is free there, from record 0 on.
-module _ (z : Sizes) (σ : Reader) {map from k : ℕ} (digits : bitmap 0 z.N (free z σ) ≡ map) (is : σ last_claimed ≡ from) (inside : from ≤ z.N)
-    (most : z.N ≤ most_records) (above : Finds map from k) where
-  halves : next_free z σ ≡ or_else k (first_from 0 from (free z σ))
+module _ (z : Sizes) (σ : Reader) {map from : ℕ} (digits : bitmap 0 z.N (free z σ) ≡ map) (is : σ last_claimed ≡ from) (inside : from ≤ z.N) (most : z.N ≤ most_records) where
+  halves : {k : ℕ} → first_from from (z.N - from) (free z σ) ≡ k → next_free z σ ≡ or_else k (first_from 0 from (free z σ))
   unfolding next_free
-  halves =
+  halves e =
       ap (λ (l : ℕ). or_else (first_from l (z.N - l) (free z σ)) (first_from 0 l (free z σ))) is
-      ∙ ap (λ (c : ℕ). or_else c (first_from 0 from (free z σ))) (above z.N (free z σ) digits inside most)
-
-  pub found_above : (k ≡ 0 → ⊥) → next_free z σ ≡ k
-  found_above n = halves ∙ some k n
-    where
-      some : (c : ℕ) → (c ≡ 0 → ⊥) → or_else c (first_from 0 from (free z σ)) ≡ c
-      some zero n = absurd (n refl)
-      some (suc r) n = refl
-
-  pub found_below : k ≡ 0 → {first j : ℕ} → first ≡ 0 → Finds map first j → next_free z σ ≡ j
-  found_below e f whole =
-      let none : first_from (0 + from) (z.N - from) (free z σ) ≡ 0 = rw zero-add (above z.N (free z σ) digits inside most ∙ e) in
-      let all : z.N - 0 ≡ from + (z.N - from) = omega arith in
-      halves
       ∙ ap (λ (c : ℕ). or_else c (first_from 0 from (free z σ))) e
+
+  below : first_from from (z.N - from) (free z σ) ≡ 0 → {j : ℕ} → first_from 0 (z.N - 0) (free z σ) ≡ j → next_free z σ ≡ j
+  below e whole =
+      let none : first_from (0 + from) (z.N - from) (free z σ) ≡ 0 = rw zero-add e in
+      let all : z.N - 0 ≡ from + (z.N - from) = omega arith in
+      halves e
       ∙ sym (ap (λ (c : ℕ). or_else (first_from 0 from (free z σ)) c) none ∙ same (first_from 0 from (free z σ)))
       ∙ sym (first_of_parts 0 from (z.N - from) (free z σ))
       ∙ sym (ap (λ (n : ℕ). first_from 0 n (free z σ)) all)
-      ∙ (rw f at whole) z.N (free z σ) digits (omega arith) most
+      ∙ whole
     where
       same : (c : ℕ) → or_else c 0 ≡ c
       same zero = refl
       same (suc r) = refl
+
+  -- The record found is the next free one, and one of the store.
+  pub round : (above whole : Option ℕ) → Finds map from above → Finds map 0 whole
+      → (next_free z σ ≡ link_of (option_or above whole)) × (link_of (option_or above whole) ≤ z.N)
+  round (Some r) whole a w = (halves (a z.N (free z σ) digits inside most), found_most (Some r) z.N (free z σ) a digits inside most)
+  round None whole a w =
+      (below (a z.N (free z σ) digits inside most) (w z.N (free z σ) digits (omega arith) most), found_most whole z.N (free z σ) w digits (omega arith) most)

@@ -1,4 +1,3 @@
 pub mod Admitting
 pub mod Sharing
 pub mod Replying
-pub mod Suffix

@@ -5,10 +5,18 @@ use Rattle.equivalence.specs.Tests.{same_words, same_calls, keeps_precedence}
 use Rattle.matching.specs.Rows.{events_in, row_at}
 use Rattle.comparison.specs.declared.Recording.{Recording}
 use Rattle.comparison.specs.declared.Recording.TheVariants.{First, Second}
-use Rattle.comparison.specs.declared.Reply.{Reply}
-use Rattle.comparison.specs.declared.Reply.TheVariants.{Refused, SameCalls, OtherCalls}
 use Rattle.comparison.specs.declared.Rest.{Rest}
-use Rattle.comparison.specs.declared.Compared.{Compared}
+
+-- The reply: whose words were refused with which number, or whether both recordings have the same calls.
+pub data Reply : Type 0 where
+  Refused : Recording → (number : ℕ) → Reply
+  SameCalls : Reply
+  OtherCalls : Reply
+
+-- the reply, and the part that is handed back
+pub record Comparison : Type 0 where
+  pub reply : Reply
+  pub rest : Rest
 
 -- Both recordings are checked by 10, 12 and 13 of the judge's table, the first one first; on a refusal the reply says which recording.
 -- Same calls when every thread has the same events in the same order in both, otherwise other calls.
@@ -37,7 +45,7 @@ rest_after SameCalls xs ys = rest_of_longer xs ys
 rest_after OtherCalls xs ys = rest_of_longer xs ys
 
 -- The comparison of the words of two recordings.
-abbrev pub compared : (xs ys : List ℕ) → Compared
+abbrev pub compared : (xs ys : List ℕ) → Comparison
 compared xs ys =
     let reply = reply_to (read most_events xs) (read most_events ys) in
     record { reply = reply; rest = rest_after reply xs ys }

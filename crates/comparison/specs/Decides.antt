@@ -17,8 +17,7 @@ use Rattle.equivalence.specs.Theorem.{linearizable_carries_over}
 use Rattle.matching.specs.Spelled.{Spelled, read_spells}
 use Rattle.comparison.specs.declared.Recording.{Recording}
 use Rattle.comparison.specs.declared.Recording.TheVariants.{First, Second}
-use Rattle.comparison.specs.declared.Reply.TheVariants.{Refused, SameCalls, OtherCalls}
-use Rattle.comparison.specs.Compared.{reply_to, compared, keeps_to}
+use Rattle.comparison.specs.Compared.{Refused, SameCalls, OtherCalls, reply_to, compared, keeps_to}
 
 same_only : (b : Bool) → cond b SameCalls OtherCalls ≡ SameCalls → b ≡ true
 same_only true e = refl
@@ -99,7 +98,8 @@ pub kept_explained :
 kept_explained xs ys h g first second e x =
     (verdict g (two xs ys h g first second).formed).1 (kept_linearizable xs ys h g first second e ((verdict h (one xs ys h g first second).formed).0 x))
 
-no_refusal : (b : Bool) (r : Recording) (n : ℕ) → cond b SameCalls OtherCalls ≡ Refused r n → ⊥
+-- Where neither is refused, the reply is no refusal.
+pub no_refusal : (b : Bool) (r : Recording) (n : ℕ) → cond b SameCalls OtherCalls ≡ Refused r n → ⊥
 no_refusal true r n e = let z : ◌≡◌ {A = ℕ} 0 1 = cc in omega arith
 no_refusal false r n e = let z : ◌≡◌ {A = ℕ} 0 1 = cc in omega arith
 

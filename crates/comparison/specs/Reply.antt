@@ -2,11 +2,8 @@
 use Rattle.std.specs.Prelude.{◌≡◌, List, ℕ, min, set}
 use Rattle.comparison.specs.declared.Recording.{Recording}
 use Rattle.comparison.specs.declared.Recording.TheVariants.{First, Second}
-use Rattle.comparison.specs.declared.Reply.{Reply}
-use Rattle.comparison.specs.declared.Reply.TheVariants.{Refused, SameCalls, OtherCalls}
 use Rattle.comparison.specs.declared.Rest.{Rest}
-use Rattle.comparison.specs.declared.Compared.{Compared}
-use Rattle.comparison.specs.Compared.{compared}
+use Rattle.comparison.specs.Compared.{Reply, Refused, SameCalls, OtherCalls, Comparison, compared}
 
 -- 0 for same calls, 1 for other calls, or the refusal's number.
 abbrev pub number_of : Reply → ℕ
@@ -33,7 +30,7 @@ most_word = 4294967295
 abbrev pub with_rest : Rest → List ℕ → List ℕ
 with_rest rest said = set (set said 1 (recording_number rest.recording)) 2 (min rest.from most_word)
 
-abbrev pub reply_words : Compared → List ℕ → List ℕ
+abbrev pub reply_words : Comparison → List ℕ → List ℕ
 reply_words c said = with_rest c.rest (with_refused c.reply said)
 
 -- The comparison of two recordings' words: the number, and the reply's words after those before.

@@ -6,77 +6,80 @@ ghost use Rattle.std.specs.Prelude.{◌≡◌, cond, ◌≤◌, min, leb, drop};
 ghost use Rattle.history.specs.Form.{most_events, read};
 ghost use Rattle.matching.specs.Rows.{events_in};
 ghost use Rattle.comparison.specs.declared.Recording.TheVariants.{First, Second};
-ghost use Rattle.comparison.specs.Parts.{refusal_of, refused_with, Both, same_in};
-ghost use Rattle.comparison.specs.Compared.{shared, rest_of_longer, compared, part_of, handed_back, keeps_to};
-ghost use Rattle.comparison.specs.Reply.{recording_number, most_word, with_refused, with_rest, number_of, reply_words, Replies};
+ghost use Rattle.comparison.specs.Parts.{reply_of, comparison_of, Both, Checks, Admits, same_in};
+ghost use Rattle.comparison.specs.Compared.{shared, rest_of_longer, compared, of_two, part_of, handed_back, keeps_to};
+ghost use Rattle.comparison.specs.Reply.{recording_number, with_refused, with_rest, number_of, most_word, reply_words, Replies};
 
 use matching::same_event;
-use reading::{Entered, MEMORY, MOST_EVENTS, read};
+use reading::{MEMORY, MOST_EVENTS, Refusal};
 
 // One of the two recordings.
-#[derive(Clone, Copy)]
+#[derive(Clone, Copy, PartialEq, Eq)]
 pub enum Recording {
-    First,
-    Second,
+    First = 1,
+    Second = 2,
 }
 
-// The reply: whose words were refused with which number, or whether both recordings have the same calls.
-#[derive(Clone, Copy)]
-pub enum Reply {
-    Refused(Recording, u32),
-    SameCalls,
-    OtherCalls,
+impl From<Recording> for u32 {
+    ghost from_gives = { λ recording number. number ≡ recording_number recording };
+
+    fn from(recording: Recording) -> u32 {
+        recording as u32
+    }
+}
+
+// Whose words were refused, and why: by 10, 12 or 13.
+#[derive(Clone, Copy, PartialEq, Eq)]
+pub struct RefusedRecording {
+    pub recording: Recording,
+    pub refusal: Refusal,
 }
 
 // A part of one of the recordings, from a word on to its end.
-#[derive(Clone, Copy)]
+#[derive(Clone, Copy, PartialEq, Eq)]
 pub struct Rest {
     pub recording: Recording,
     pub from: usize,
 }
 
+// The reply, on Ok whether both recordings have the same calls, and the part that is handed back.
 #[derive(Clone, Copy)]
 pub struct Compared {
-    pub reply: Reply,
+    pub reply: Result<bool, RefusedRecording>,
     pub rest: Rest,
 }
 
-// The number that a recording is refused with, 10, 12 or 13, or 0.
-fn refusal(words: &[u32]) -> u32
-    ensures { result ≡ refusal_of (read most_events words.now) }
+// Checks the words of a recording.
+fn check(recording: Recording, words: &[u32]) -> Result<(), RefusedRecording>
+    ensures { Checks recording words.now result }
 {
-    let mut m = [0u32; MEMORY];
-    let entered = read(words, MOST_EVENTS, &mut m);
-    match entered {
-        Entered::Refused(n) => {
-            return n;
-        }
-        Entered::Calls(_) => {
-            return 0;
-        }
+    let mut memory = [0u32; MEMORY];
+    match reading::read(words, MOST_EVENTS, &mut memory) {
+        Ok(_) => Ok(()),
+        Err(refusal) => Err(RefusedRecording { recording, refusal }),
     }
 }
 
-// The smaller of two numbers of events.
-fn fewer(a: usize, b: usize) -> usize
-    ensures { result ≡ min a b }
+// Checks both recordings, the first one first.
+// Stays: first and second are two slices in each call, as the C interface lends them; a struct of both would be taken apart in each function.
+fn admit(first: &[u32], second: &[u32]) -> Result<(), RefusedRecording>
+    ensures { Admits first.now second.now result }
 {
-    if a <= b { a } else { b }
+    check(Recording::First, first)?;
+    check(Recording::Second, second)
 }
 
 // How many whole events the two recordings share at their beginning.
 fn shared(first: &[u32], second: &[u32]) -> usize
     ensures { (result ≡ shared first.now second.now) × (result ≤ events_in first.now) }
 {
-    let events = fewer(first.len() / 4, second.len() / 4);
-    let mut k = 0;
-    while k < events {
+    let events = (first.len() / 4).min(second.len() / 4);
+    for k in 0..events {
         if !same_event(first, k, second, k) {
             return k;
         }
-        k += 1;
     }
-    k
+    events
 }
 
 // The longer recording, the first if they are equally long.
@@ -94,24 +97,9 @@ fn longer(first: usize, second: usize) -> Recording
 fn rest_of_longer(first: &[u32], second: &[u32]) -> Rest
     ensures { result ≡ rest_of_longer first.now second.now }
 {
-    let recording = longer(first.len(), second.len());
-    let events = shared(first, second);
     Rest {
-        recording,
-        from: 4 * events,
-    }
-}
-
-// A recording was refused: the part is the empty end of the first, which has so many words.
-fn refused(recording: Recording, number: u32, end: usize) -> Compared
-    ensures { result ≡ refused_with recording number end }
-{
-    Compared {
-        reply: Reply::Refused(recording, number),
-        rest: Rest {
-            recording: Recording::First,
-            from: end,
-        },
+        recording: longer(first.len(), second.len()),
+        from: 4 * shared(first, second),
     }
 }
 
@@ -126,53 +114,37 @@ fn same_calls(first: &[u32], second: &[u32]) -> bool
 
 // Compares two recordings.
 pub fn compare(first: &[u32], second: &[u32]) -> Compared
-    ensures { result ≡ compared first.now second.now }
+    ensures { comparison_of result ≡ compared first.now second.now }
 {
-    let one = refusal(first);
-    if one != 0 {
-        return refused(Recording::First, one, first.len());
-    }
-    let two = refusal(second);
-    if two != 0 {
-        return refused(Recording::Second, two, first.len());
-    }
-    let rest = rest_of_longer(first, second);
-    if same_calls(first, second) {
-        return Compared {
-            reply: Reply::SameCalls,
-            rest,
-        };
-    }
-    Compared {
-        reply: Reply::OtherCalls,
-        rest,
+    match admit(first, second) {
+        Ok(()) => Compared {
+            reply: Ok(same_calls(first, second)),
+            rest: rest_of_longer(first, second),
+        },
+        Err(refused) => Compared {
+            reply: Err(refused),
+            rest: Rest {
+                recording: Recording::First,
+                from: first.len(),
+            },
+        },
     }
 }
 
 // The words from one on; none where there is no such word.
-fn from_word<'a>(words: &'a [u32], from: usize) -> &'a [u32]
+fn from_word(words: &[u32], from: usize) -> &[u32]
     ensures { result.now ≡ drop from words.now }
 {
-    let end = words.len();
-    if from <= end {
-        return &words[from..];
-    }
-    &words[end..]
+    words.get(from..).unwrap_or(&[])
 }
 
 // The words of a rest of one of two recordings.
 pub fn part<'a>(first: &'a [u32], second: &'a [u32], rest: Rest) -> &'a [u32]
     ensures { result.now ≡ part_of rest first.now second.now }
 {
-    let recording = rest.recording;
-    let from = rest.from;
-    match recording {
-        Recording::First => {
-            return from_word(first, from);
-        }
-        Recording::Second => {
-            return from_word(second, from);
-        }
+    match rest.recording {
+        Recording::First => from_word(first, rest.from),
+        Recording::Second => from_word(second, rest.from),
     }
 }
 
@@ -180,9 +152,7 @@ pub fn part<'a>(first: &'a [u32], second: &'a [u32], rest: Rest) -> &'a [u32]
 pub fn hand_back<'a>(first: &'a [u32], second: &'a [u32]) -> &'a [u32]
     ensures { result.now ≡ handed_back first.now second.now }
 {
-    let compared = compare(first, second);
-    let rest = compared.rest;
-    part(first, second, rest)
+    part(first, second, compare(first, second).rest)
 }
 
 // Whether two recordings that are not refused have the same calls and the second keeps to the first.
@@ -191,58 +161,32 @@ fn keeps(first: &[u32], second: &[u32]) -> bool
     ensures { result ≡ keeps_to (read most_events first.now) (read most_events second.now) }
 {
     let mut places = [0u32; MOST_EVENTS];
-    if !matching::matches(first, second, &mut places) {
-        return false;
-    }
-    matching::in_order(second, &places)
+    matching::matches(first, second, &mut places) && matching::in_order(second, &places)
 }
 
 // Whether the second recording may be trusted on the word of the first (specs/Decides.antt).
 pub fn keeps_precedence(first: &[u32], second: &[u32]) -> bool
     ensures { result ≡ keeps_to (read most_events first.now) (read most_events second.now) }
 {
-    if refusal(first) != 0 {
-        return false;
-    }
-    if refusal(second) != 0 {
-        return false;
-    }
-    keeps(first, second)
-}
-
-fn recording_number(recording: Recording) -> u32
-    ensures { result ≡ recording_number recording }
-{
-    match recording {
-        Recording::First => 1,
-        Recording::Second => 2,
-    }
+    admit(first, second).is_ok() && keeps(first, second)
 }
 
 // A number of words as a word, or the largest one.
 fn as_word(words: usize) -> u32
     ensures { result ≡ min words most_word }
 {
-    if words <= 4_294_967_295 {
-        return words as u32;
-    }
-    4_294_967_295
+    words.min(u32::MAX as usize) as u32
 }
 
 // The reply's number; whose words were refused goes to word 0.
-fn deliver_reply(reply: Reply, said: &mut [u32; 4]) -> u32
-    ensures { (result ≡ number_of reply) × (said.new ≡ with_refused reply said.old) }
+fn deliver_reply(reply: Result<bool, RefusedRecording>, said: &mut [u32; 4]) -> u32
+    ensures { (result ≡ number_of (reply_of reply)) × (said.new ≡ with_refused (reply_of reply) said.old) }
 {
     match reply {
-        Reply::Refused(recording, number) => {
-            said[0] = recording_number(recording);
-            return number;
-        }
-        Reply::SameCalls => {
-            return 0;
-        }
-        Reply::OtherCalls => {
-            return 1;
+        Ok(same) => u32::from(!same),
+        Err(refused) => {
+            said[0] = refused.recording.into();
+            refused.refusal.into()
         }
     }
 }
@@ -251,18 +195,15 @@ fn deliver_reply(reply: Reply, said: &mut [u32; 4]) -> u32
 fn deliver_rest(rest: Rest, said: &mut [u32; 4])
     ensures { said.new ≡ with_rest rest said.old }
 {
-    let recording = rest.recording;
-    said[1] = recording_number(recording);
+    said[1] = rest.recording.into();
     said[2] = as_word(rest.from);
 }
 
 fn deliver(compared: Compared, said: &mut [u32; 4]) -> u32
-    ensures { (result ≡ number_of compared.reply) × (said.new ≡ reply_words compared said.old) }
+    ensures { (result ≡ number_of (reply_of compared.reply)) × (said.new ≡ reply_words (comparison_of compared) said.old) }
 {
-    let reply = compared.reply;
-    let rest = compared.rest;
-    let number = deliver_reply(reply, said);
-    deliver_rest(rest, said);
+    let number = deliver_reply(compared.reply, said);
+    deliver_rest(compared.rest, said);
     number
 }
 
@@ -277,8 +218,5 @@ pub fn recordings_compare(first: &[u32], second: &[u32], reply: &mut [u32; 4]) -
 pub fn recordings_keep_precedence(first: &[u32], second: &[u32]) -> u32
     ensures { result ≡ cond (keeps_to (read most_events first.now) (read most_events second.now)) 0 1 }
 {
-    if keeps_precedence(first, second) {
-        return 0;
-    }
-    1
+    u32::from(!keeps_precedence(first, second))
 }

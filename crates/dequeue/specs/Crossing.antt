@@ -1,10 +1,11 @@
 -- Crossing to the next record, in the words of the rules: `cross`.
-use Rattle.std.specs.Prelude.{◌≡◌, true, cond, List, ℕ, suc, ◌*◌, ◌<◌, leb}
+use Rattle.std.specs.Prelude.{◌≡◌, true, cond, List, ℕ, suc, ◌*◌, ◌<◌, leb, Result, MatchResult}
 use Rattle.rules.specs.Sizes.{Sizes}
 use Rattle.rules.specs.Cell.{Reader, reader, place, next}
 use Rattle.rules.specs.Rule.{Effect, refuse, need}
+use Rattle.store.specs.declared.Refusal.{Refusal}
+use Rattle.store.specs.declared.Refusal.TheVariants.{Broken}
 use Rattle.dequeue.specs.declared.Crossing.{Crossing}
-use Rattle.dequeue.specs.declared.Crossing.TheVariants.{None, To}
 
 -- Record r crosses to link l at position p: next is there, it is a record of the store, it has a place, and its first position is in range.
 pub record CrossesTo (z : Sizes) (σ : Reader) (r l p : ℕ) : Type 0 where
@@ -21,9 +22,6 @@ pub record CrossesTo (z : Sizes) (σ : Reader) (r l p : ℕ) : Type 0 where
 pub record CrossesNowhere (z : Sizes) (σ : Reader) (r : ℕ) : Type 0 where
   pub refused : (a : ℕ → ℕ → Effect) → need (σ (next r)) (λ n. need (σ (place n)) λ q. cond (leb (z.B * q) z.M) (a n q) (refuse 9)) ≡ refuse 9
 
-abbrev pub Crosses : Sizes → Reader → ℕ → Crossing → Type 0
-Crosses z σ r None = CrossesNowhere z σ r
-Crosses z σ r (To l p) = CrossesTo z σ r l p
-
-pub record Crossed (z : Sizes) (m : List ℕ) (r : ℕ) (x : Crossing) : Type 0 where
-  pub crosses : Crosses z (reader z m) r x
+-- What `cross_from` gives: where the crossing leads, or refusal 9.
+abbrev pub Crossed : Sizes → (m : List ℕ) → (r : ℕ) → Result Crossing Refusal → Type 0
+Crossed z m r x = MatchResult x (λ c. CrossesTo z (reader z m) r c.link c.position) (λ e. CrossesNowhere z (reader z m) r × (e ≡ Broken))

@@ -1,2 +1,3 @@
 pub mod Elsewhere
+pub mod Room
 pub mod Onward

@@ -4,62 +4,47 @@
 
 ghost use Rattle.std.specs.Prelude.{◌≡◌, []};
 ghost use Rattle.rules.specs.Request.{start_enqueue, start_dequeue, start_drain, step, open_store};
-ghost use Rattle.store.specs.Outcome.{left, left_after};
+ghost use Rattle.store.specs.Outcome.{left, left_with, left_after};
 ghost use Rattle.delivery.specs.Export.{returned, replied, stepped};
 ghost use Rattle.engine.specs.Answer.{called};
 
-use admission::{admit, shape_of};
+use admission::admit;
 use counting::count_step;
 use delivery::{deliver, returned_code};
 use opening::open_store;
 use starting::{begin_dequeue, begin_drain, begin_enqueue};
-use store::{Counted, Reply, Shape};
+use store::{Counted, Refusal, Reply, Shape};
 
 // *Start enqueue* (producer, value): admission first, then its own rule. Its reply carries one step, the take.
-pub fn start_enqueue(s: &mut [u32], t: u32, v: u32) -> Reply
-    ensures { left_after (record { reply = result; steps = 1 }) s.new ≡ called (start_enqueue t v) s.old }
+pub fn start_enqueue(s: &mut [u32], t: u32, v: u32) -> Result<Reply, Refusal>
+    ensures { left_with 1 result s.new ≡ called (start_enqueue t v) s.old }
 {
-    let n = admit(s);
-    if n != 0 {
-        return Reply::Refused(n);
-    }
-    begin_enqueue(s, shape_of(s), t, v)
+    let z = admit(s)?;
+    begin_enqueue(s, z, t, v)
 }
 
 // *Start dequeue*.
-pub fn start_dequeue(s: &mut [u32]) -> Reply
+pub fn start_dequeue(s: &mut [u32]) -> Result<Reply, Refusal>
     ensures { left result s.new ≡ called start_dequeue s.old }
 {
-    let n = admit(s);
-    if n != 0 {
-        return Reply::Refused(n);
-    }
-    begin_dequeue(s, shape_of(s))
+    let z = admit(s)?;
+    begin_dequeue(s, z)
 }
 
 // *Start drain* (limit).
-pub fn start_drain(s: &mut [u32], limit: u32) -> Reply
+pub fn start_drain(s: &mut [u32], limit: u32) -> Result<Reply, Refusal>
     ensures { left result s.new ≡ called (start_drain limit) s.old }
 {
-    let n = admit(s);
-    if n != 0 {
-        return Reply::Refused(n);
-    }
-    begin_drain(s, shape_of(s), limit)
+    let z = admit(s)?;
+    begin_drain(s, z, limit)
 }
 
 // *Step* (thread), lent a word buffer; a drain's items go into it from word `from` on.
-pub fn step(s: &mut [u32], t: u32, b: &mut [u32], from: u32) -> Counted
+pub fn step(s: &mut [u32], t: u32, b: &mut [u32], from: u32) -> Result<Counted, Refusal>
     ensures { left_after result s.new b.new from ≡ called (step t) s.old b.old from }
 {
-    let n = admit(s);
-    if n != 0 {
-        return Counted {
-            reply: Reply::Refused(n),
-            steps: 0,
-        };
-    }
-    count_step(s, shape_of(s), t, b, from)
+    let z = admit(s)?;
+    count_step(s, z, t, b, from)
 }
 
 // *Open* a store of these sizes.
@@ -90,11 +75,8 @@ pub fn intake_start_enqueue(
 ) -> u32
     ensures { record { number = result; store = store.new; reply = reply.new } ≡ replied (called (start_enqueue producer value) store.old [] 0) reply.old }
 {
-    let c = Counted {
-        reply: start_enqueue(store, producer, value),
-        steps: 1,
-    };
-    deliver(c, reply)
+    let started = start_enqueue(store, producer, value);
+    deliver(started.map(|reply| Counted { reply, steps: 1 }), reply)
 }
 
 // *Start dequeue*.

@@ -1,5 +1,5 @@
 -- Laws of a history as words: one event more, and the last start of a thread.
-use Rattle.std.specs.Prelude.{◌≡◌, refl, Bool, true, false, ◌&&◌, cond, eqb, length, set, take, drop}
+use Rattle.std.specs.Prelude.{Option, Some, None, ◌≡◌, refl, Bool, true, false, ◌&&◌, cond, eqb, length, take, drop}
 use Rattle.std.proofs.Math.Path.{ap, sym}
 use Rattle.std.proofs.Common.{◌∙◌, subst, add-zero, length-append, take-take, get_or-take, length-take-le, eqb-true}
 use mathlib.Core.List.{List, [], ◌∷◌, ◌++◌}
@@ -10,8 +10,6 @@ use Rattle.std.proofs.lemmas.List.Edits.{sets, sets-eq}
 use Rattle.std.proofs.Math.Seq.{take_at, get_or-append-add}
 use Rattle.history.specs.Event.{Event, History, enqueue_started, enqueue_ended, dequeue_started, gave_item, gave_empty}
 use Rattle.rules.specs.Play.{end_of_enqueue}
-use Rattle.events.specs.declared.Found.{Found}
-use Rattle.events.specs.declared.Found.TheVariants.{At, Missing}
 use Rattle.history.specs.Words.{encode, words_of}
 use Rattle.history.specs.WordLaws.{length_encode, length_words}
 use Rattle.events.specs.Events.{Recorded, start_found, Records}
@@ -20,14 +18,6 @@ use Rattle.events.specs.Events.{Recorded, start_found, Records}
 pub none_recorded : (b : List ℕ) → Recorded b 0 []
 unfolding words_of
 none_recorded b = record { counted = refl; held = refl }
-
--- four stores, one after the other
-pub four_sets : (b : List ℕ) (at k t n v : ℕ) → set (set (set (set b at k) (at + 1) t) (at + 2) n) (at + 3) v ≡ sets b at (k ∷ t ∷ n ∷ v ∷ [])
-four_sets b at k t n v =
-    let p : at + 1 ≡ suc at = omega arith in
-    let q : at + 2 ≡ suc (suc at) = omega arith in
-    let r : at + 3 ≡ suc (suc (suc at)) = omega arith in
-    rw (p, q, r)
 
 -- One event more.
 pub recorded_more : {b : List ℕ} {k : ℕ} {h : History} (e : Event) → k * 4 + 4 ≤ length b → Recorded b k h → Recorded (sets b (k * 4) (encode e)) (k + 1) (e ∷ h)
@@ -41,9 +31,6 @@ recorded_more {b} {k} {h} e room r =
       counted = omega (arith, r.counted);
       held = rw s (take_at (take (k * 4) b ++ encode e) (drop (k * 4 + length (encode e)) b) ((k + 1) * 4) m) ∙ ap (λ (w : List ℕ). w ++ encode e) r.held;
     }
-
-pub records_none : (b : List ℕ) (k : ℕ) → Records (λ h. []) b k b k
-records_none b k = record { events = λ h r. r; most = omega arith }
 
 pub records_one : {b : List ℕ} {k : ℕ} (e : Event) → k * 4 + 4 ≤ length b → Records (λ h. e ∷ []) b k (sets b (k * 4) (encode e)) (k + 1)
 records_one e room = record { events = λ h r. recorded_more e room r; most = omega arith }
@@ -69,9 +56,9 @@ module _ (b : List ℕ) (e : Event) (h : History) (held : take (suc (length h) *
   kind_at = sym (ap (λ (n : ℕ). get_or b n 0) (add-zero (length h * 4))) ∙ last_at 0 (omega arith)
 
 -- the end that a found start gives
-abbrev pub end_at : List ℕ → ℕ → Found → History
-end_at b t Missing = []
-end_at b t (At i) = enqueue_ended t (get_or b (i * 4 + 2) 0) (get_or b (i * 4 + 3) 0) ∷ []
+abbrev pub end_at : List ℕ → ℕ → Option ℕ → History
+end_at b t None = []
+end_at b t (Some i) = enqueue_ended t (get_or b (i * 4 + 2) 0) (get_or b (i * 4 + 3) 0) ∷ []
 
 start_found_lem : (b : List ℕ) (t : ℕ) (h : History) → take (length h * 4) b ≡ words_of h → end_of_enqueue t h ≡ end_at b t (start_found b t (length h))
 unfolding start_found
@@ -80,7 +67,7 @@ start_found_lem b t (enqueue_started u n v ∷ h) held =
     rw (kind_at b (enqueue_started u n v) h held, last_at b (enqueue_started u n v) h held 1 (omega arith))
     (go (eqb u t) refl (start_found_lem b t h (rest_held b (enqueue_started u n v) h held)))
   where
-    go : (x : Bool) → eqb u t ≡ x → end_of_enqueue t h ≡ end_at b t (start_found b t (length h)) → elim x [ true ↦ enqueue_ended u n v ∷ [] | false ↦ end_of_enqueue t h ] ≡ end_at b t (cond x (At (length h)) (start_found b t (length h)))
+    go : (x : Bool) → eqb u t ≡ x → end_of_enqueue t h ≡ end_at b t (start_found b t (length h)) → elim x [ true ↦ enqueue_ended u n v ∷ [] | false ↦ end_of_enqueue t h ] ≡ end_at b t (cond x (Some (length h)) (start_found b t (length h)))
     go true e i =
         rw (last_at b (enqueue_started u n v) h held 2 (omega arith), last_at b (enqueue_started u n v) h held 3 (omega arith), eqb-true u t e)
     go false e i = i
@@ -99,7 +86,7 @@ module _ (b : List ℕ) (t : ℕ) where
   abbrev pub is_start : ℕ → Bool
   is_start i = eqb (get_or b (i * 4) 0) 1 && eqb (get_or b (i * 4 + 1) 0) t
 
-  pub found_here : (i : ℕ) → 0 < i → is_start (i - 1) ≡ true → start_found b t i ≡ At (i - 1)
+  pub found_here : (i : ℕ) → 0 < i → is_start (i - 1) ≡ true → start_found b t i ≡ Some (i - 1)
   unfolding start_found
   found_here zero h e = absurd (omega arith)
   found_here (suc i) h e = let p : suc i - 1 ≡ i = omega arith in rw p (simp (rw p at e))
@@ -109,28 +96,18 @@ module _ (b : List ℕ) (t : ℕ) where
   found_before zero h e = absurd (omega arith)
   found_before (suc i) h e = let p : suc i - 1 ≡ i = omega arith in rw p (simp (rw p at e))
 
--- a found start is one of the events
-pub found_below : (b : List ℕ) (t k i : ℕ) → At i ≡ start_found b t k → i < k
-unfolding start_found
-found_below b t zero i e = let z : ◌≡◌ {A = ℕ} 0 1 = cc in absurd (omega arith)
-found_below b t (suc k) i e = go (eqb (get_or b (k * 4) 0) 1 && eqb (get_or b (k * 4 + 1) 0) t) e (found_below b t k i)
-  where
-    go : (x : Bool) → At i ≡ cond x (At k) (start_found b t k) → (At i ≡ start_found b t k → i < k) → i < suc k
-    go true p f = let q : i ≡ k = cc in omega arith
-    go false p f = let l = f p in omega arith
-
 -- What the end of an enqueue adds.
 module _ {b : List ℕ} {k : ℕ} (t : ℕ) where
-  pub records_no_end : Missing ≡ start_found b t k → Records (end_of_enqueue t) b k b k
+  pub records_no_end : None ≡ start_found b t k → Records (end_of_enqueue t) b k b k
   records_no_end m =
       record {
         events = λ h r. subst (λ (g : History). Recorded b k (g ++ h)) (sym (end_found t r ∙ ap (end_at b t) (sym m))) r;
         most = omega arith;
       }
 
-  pub records_end : (i n v : ℕ) → At i ≡ start_found b t k → n ≡ get_or b (i * 4 + 2) 0 → v ≡ get_or b (i * 4 + 3) 0 → k * 4 + 4 ≤ length b → Records (end_of_enqueue t) b k (sets b (k * 4) (2 ∷ t ∷ n ∷ v ∷ [])) (k + 1)
+  pub records_end : (i n v : ℕ) → Some i ≡ start_found b t k → n ≡ get_or b (i * 4 + 2) 0 → v ≡ get_or b (i * 4 + 3) 0 → k * 4 + 4 ≤ length b → Records (end_of_enqueue t) b k (sets b (k * 4) (2 ∷ t ∷ n ∷ v ∷ [])) (k + 1)
   records_end i n v f p q room =
-      let e : end_at b t (At i) ≡ enqueue_ended t n v ∷ [] = rw (← p, ← q) in
+      let e : end_at b t (Some i) ≡ enqueue_ended t n v ∷ [] = rw (← p, ← q) in
       record {
         events =
             λ h r. subst (λ (g : History). Recorded (sets b (k * 4) (2 ∷ t ∷ n ∷ v ∷ [])) (k + 1) (g ++ h))

@@ -5,23 +5,17 @@ ghost use Rattle.std.specs.Prelude.{◌≡◌, ◌<◌};
 ghost use Rattle.rules.specs.Cell.{reader, writes};
 ghost use Rattle.rules.specs.Consumer.{folded, is_read};
 ghost use Rattle.store.specs.Shape.{sizes};
+ghost use Rattle.store.specs.View.{size, cells};
 ghost use Rattle.store.specs.Store.{Room, Admitted};
 
-use store::{Shape, all_handled, put_part, put_use, read_contents, usage, word};
+use store::{Shape, Store, put_part, put_use, usage, word};
 
 // Whether the scan has read all entries of record r as handled, and it is not the head record.
-pub fn is_read(s: &[u32], z: Shape, r: u32) -> bool
-    requires admitted { Admitted (sizes z) s.now }
-    requires r_lt_records { r < z.records }
-    ensures { is_read (sizes z) (reader (sizes z) s.now) r ≡ result }
+pub fn is_read(store: &Store, r: u32) -> bool
+    requires { r < store.now.shape.records }
+    ensures { is_read (size store.now) (cells store.now) r ≡ result }
 {
-    if all_handled(s, z) != 1 {
-        return false;
-    }
-    if read_contents(s, z).head_record == r + 1 {
-        return false;
-    }
-    true
+    (store.all_handled() == 1) & (store.contents().head_record != r + 1)
 }
 
 // Record r is folded: the records before and behind it are joined to each other, and it is retired. It keeps its own links.

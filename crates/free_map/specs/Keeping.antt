@@ -1,29 +1,29 @@
 -- Which records are free, by their uses and places and by what producers hold: a retired record is kept by the greatest place of a retired
 -- record that a producer holds.
-use Rattle.std.specs.Prelude.{◌≡◌, Bool, false, ◌&&◌, ◌||◌, not, cond, List, [], ◌∷◌, ℕ, zero, suc, ◌≤◌, leb, eqb, get_or}
+use Rattle.std.specs.Prelude.{◌≡◌, Bool, false, ◌&&◌, ◌||◌, not, cond, List, [], ◌∷◌, ℕ, zero, suc, ◌≤◌, max, leb, eqb, get_or}
+use Rattle.std.specs.Int.{from_bool}
 use Rattle.std.proofs.Math.Path.{refl}
 use Rattle.std.proofs.Common.{ap₂, sym, arith}
 use Rattle.std.proofs.Math.Bool.{true}
 use Rattle.std.proofs.Math.Dec.{ltb, eqb-suc-suc}
+use Rattle.std.proofs.Math.Nat.{max-eq_left, max-eq_right}
 use borrow.Author.Tests.{ne_eqb, le-leb, leb-true, leb-false, lt-ltb, le-ltb, ltb-true, ltb-false}
 use Rattle.rules.specs.Sizes.{Sizes, most_place}
 use Rattle.rules.specs.Cell.{Reader, held, claimed, place, used}
 use Rattle.rules.specs.Range.{every}
 use Rattle.rules.specs.Free.{kept_by, keeps, free}
 use Rattle.store.specs.Caps.{most_word}
+use Rattle.bits.specs.Bitmap.{digit}
 
 -- the place of the record that a link names, if that is retired; otherwise 0
 abbrev pub retired_place : Reader → (link : ℕ) → ℕ
 retired_place σ zero = 0
 retired_place σ (suc x) = cond (eqb (σ (used x)) 3) (σ (place x)) 0
 
-abbrev pub greater : (a b : ℕ) → ℕ
-greater a b = cond (ltb a b) b a
-
 -- The greatest place of a retired record that one of producers 1 to n holds; 0 where there is none.
 abbrev pub kept_from : Reader → (n : ℕ) → ℕ
 kept_from σ zero = 0
-kept_from σ (suc n) = greater (greater (kept_from σ n) (retired_place σ (σ (held (suc n))))) (retired_place σ (σ (claimed (suc n))))
+kept_from σ (suc n) = max (max (kept_from σ n) (retired_place σ (σ (held (suc n))))) (retired_place σ (σ (claimed (suc n))))
 
 -- A link names record r, which is retired; and one of producers 1 to n holds record r, which is retired.
 abbrev pub names : Reader → (link r : ℕ) → Bool
@@ -41,6 +41,11 @@ least_places kept = 0 ∷ most_word ∷ most_word ∷ kept ∷ []
 abbrev pub place_below : Reader → (least : List ℕ) → (r : ℕ) → Bool
 place_below σ least r = ltb (σ (place r)) (get_or least (σ (used r)) 0)
 
+-- the digit of a test, as the code has it
+pub from_test : (b : Bool) → (digit b ≡ from_bool b) × (from_bool b ≤ 1)
+from_test true = (refl, omega arith)
+from_test false = (refl, omega arith)
+
 -- below is not at least
 below_is : (p k : ℕ) → ltb p k ≡ not (leb k p)
 below_is p k = go (leb k p) refl
@@ -50,17 +55,16 @@ below_is p k = go (leb k p) refl
     go false e = lt-ltb p k (leb-false k p e)
 
 -- at most p, both of two numbers
-greater_most : (a b p : ℕ) → leb (greater a b) p ≡ (leb a p && leb b p)
-greater_most a b p = go (ltb a b) refl (leb a p) refl (leb b p) refl
+max_most : (a b p : ℕ) → leb (max a b) p ≡ (leb a p && leb b p)
+max_most a b p = go (ltb a b) refl (leb a p) refl (leb b p) refl
   where
-    go : (c : Bool) → ltb a b ≡ c → (d : Bool) → leb a p ≡ d → (e : Bool) → leb b p ≡ e → leb (cond c b a) p ≡ (d && e)
-    go true h true k true l = l
-    go true h true k false l = l
+    go : (c : Bool) → ltb a b ≡ c → (d : Bool) → leb a p ≡ d → (e : Bool) → leb b p ≡ e → leb (max a b) p ≡ (d && e)
+    go true h true k e l = rw (max-eq_right {n = a} {m = b} (omega (arith, ltb-true a b h))) l
     go true h false k true l = absurd (omega (arith, ltb-true a b h, leb-false a p k, leb-true b p l))
-    go true h false k false l = l
-    go false h true k true l = k
+    go true h false k false l = rw (max-eq_right {n = a} {m = b} (omega (arith, ltb-true a b h))) l
+    go false h true k true l = rw (max-eq_left {n = a} {m = b} (omega (arith, ltb-false a b h))) k
     go false h true k false l = absurd (omega (arith, ltb-false a b h, leb-true a p k, leb-false b p l))
-    go false h false k e l = k
+    go false h false k e l = rw (max-eq_left {n = a} {m = b} (omega (arith, ltb-false a b h))) k
 
 -- the tests of the producers so far, and of one more
 regroup : (R L h c A B : Bool) → ((not R && L) && not ((h || not A) || (c || not B))) ≡ (not ((R || h) || c) && ((L && A) && B))
@@ -94,7 +98,7 @@ module _ (σ : Reader) (r : ℕ) where
       let y = σ (claimed (suc n)) in
       let a = retired_place σ x in
       let b = retired_place σ y in
-      rw (kept_by_none e n, kept_by_lem x, kept_by_lem y, greater_most (greater (kept_from σ n) a) b p, greater_most (kept_from σ n) a p, e)
+      rw (kept_by_none e n, kept_by_lem x, kept_by_lem y, max_most (max (kept_from σ n) a) b p, max_most (kept_from σ n) a p, e)
       (regroup (held_retired σ n r) (leb (kept_from σ n) p) (eqb x (suc r)) (eqb y (suc r)) (leb a p) (leb b p))
 
   none_retired : eqb (σ (used r)) 3 ≡ false → (n : ℕ) → held_retired σ n r ≡ false

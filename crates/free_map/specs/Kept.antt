@@ -1,9 +1,10 @@
 -- What the struct of the retired records that producers hold says, and how it grows by a link.
-use Rattle.std.specs.Prelude.{◌≡◌, refl, Bool, true, false, ◌||◌, ℕ, suc, ◌+◌, ◌-◌, ◌*◌, ◌/◌, ◌%◌, ◌^◌, ◌<◌, ◌≤◌, eqb}
-use Rattle.std.proofs.Common.{ap, ◌∙◌, zero-add, one-mul, add-one, shl_exact, ne_eqb, eq-eqb, le-ltb, leb-true}
+use Rattle.std.specs.Prelude.{◌≡◌, refl, Bool, true, false, ◌||◌, ℕ, suc, ◌+◌, ◌-◌, ◌*◌, ◌/◌, ◌%◌, ◌^◌, ◌<◌, ◌≤◌, max, eqb}
+use Rattle.std.proofs.Common.{ap, ◌∙◌, zero-add, one-mul, add-one, shl_exact, ne_eqb, eq-eqb, leb-true}
 use Rattle.std.proofs.Math.Path.{ap₂, sym}
 use Rattle.std.proofs.Math.Bool.{not, and-false}
 use Rattle.std.proofs.Math.Decide.{ℕ_discrete}
+use Rattle.std.proofs.Math.Nat.{max-zero}
 use native.Mathlib.Omega.{arith}
 use Rattle.std.specs.Int.Bits.{bit_or, or_zero_r}
 use Rattle.std.proofs.Math.Pow.{le_ones}
@@ -14,7 +15,7 @@ use Rattle.rules.specs.Free.{free}
 use Rattle.bits.specs.Bitmap.{bitmap}
 use Rattle.bits.specs.Laws.{bitmap_lt, same_digits, either_digits, turned_digits, all_digits, no_digit, single_digit}
 use Rattle.free_map.specs.declared.Kept.{Kept}
-use Rattle.free_map.specs.Keeping.{retired_place, greater, kept_from, names, held_retired, least_places, place_below, free_is}
+use Rattle.free_map.specs.Keeping.{retired_place, kept_from, names, held_retired, least_places, place_below, free_is}
 
 -- Of producers 1 to n.
 pub record Keeps (z : Sizes) (σ : Reader) (n : ℕ) (k : Kept) : Type 0 where
@@ -23,7 +24,7 @@ pub record Keeps (z : Sizes) (σ : Reader) (n : ℕ) (k : Kept) : Type 0 where
 
 -- k' is k with the record that a link names, if that is retired.
 pub record KeepsToo (z : Sizes) (σ : Reader) (link : ℕ) (k k' : Kept) : Type 0 where
-  pub place : k'.place ≡ greater k.place (retired_place σ link)
+  pub place : k'.place ≡ max k.place (retired_place σ link)
   pub records : k'.records ≡ bit_or k.records (bitmap 0 z.N (names σ link))
 
 module _ (z : Sizes) (σ : Reader) where
@@ -36,7 +37,7 @@ module _ (z : Sizes) (σ : Reader) where
       let x = σ (held (suc n)) in
       let y = σ (claimed (suc n)) in
       record {
-        place = sym (two.place ∙ ap (λ (a : ℕ). greater a (retired_place σ y)) (one.place ∙ ap (λ (a : ℕ). greater a (retired_place σ x)) (sym before.place)));
+        place = sym (two.place ∙ ap (λ (a : ℕ). max a (retired_place σ y)) (one.place ∙ ap (λ (a : ℕ). max a (retired_place σ x)) (sym before.place)));
         records =
             sym (two.records
             ∙ ap (λ (m : ℕ). bit_or m (bitmap 0 z.N (names σ y))) (one.records ∙ ap (λ (m : ℕ). bit_or m (bitmap 0 z.N (names σ x))) (sym before.records) ∙ either_digits 0 z.N (held_retired σ n) (names σ x))
@@ -51,7 +52,7 @@ module _ (z : Sizes) (σ : Reader) where
   adds_nothing : {link : ℕ} (k : Kept) → retired_place σ link ≡ 0 → ((r : ℕ) → names σ link r ≡ false) → KeepsToo z σ link k k
   adds_nothing {link} k p f =
       let none = same_digits 0 z.N (names σ link) (λ r. false) (λ r l h. f r) ∙ no_digit 0 z.N in
-      record { place = rw (p, le-ltb k.place 0 (omega arith)) refl; records = sym (ap (λ (m : ℕ). bit_or k.records m) none ∙ or_zero_r k.records) }
+      record { place = rw p (sym (max-zero k.place)); records = sym (ap (λ (m : ℕ). bit_or k.records m) none ∙ or_zero_r k.records) }
 
   pub none_named : (k : Kept) → KeepsToo z σ 0 k k
   none_named k = adds_nothing {link = 0} k refl (λ r. rw (ne_eqb 0 (suc r) (λ e. omega arith)) (and-false (eqb (σ (used r)) 3)))
@@ -70,7 +71,7 @@ module _ (z : Sizes) (σ : Reader) where
         here r (yes e) = rw (e, other) refl
         here r (no e) = names_another x r e
 
-    pub retired_named : (k : Kept) → σ (used x) ≡ 3 → x < z.N → z.N ≤ most_records → {p : ℕ} → p ≡ greater k.place (σ (place x))
+    pub retired_named : (k : Kept) → σ (used x) ≡ 3 → x < z.N → z.N ≤ most_records → {p : ℕ} → p ≡ max k.place (σ (place x))
         → KeepsToo z σ link k (record { place = p; records = bit_or k.records ((1 * 2 ^ x) % 2 ^ 64) })
     retired_named k e l m q =
         let self : names σ (suc x) x ≡ true = rw (e, eq-eqb (suc x) (suc x) refl) refl in

@@ -6,62 +6,59 @@ ghost use Rattle.rules.specs.Sizes.{most_drained};
 ghost use Rattle.rules.specs.Cell.{reader, writes};
 ghost use Rattle.rules.specs.Consumer.{drained_at};
 ghost use Rattle.store.specs.Shape.{sizes};
+ghost use Rattle.store.specs.View.{size, cells};
 ghost use Rattle.store.specs.Store.{Room, Admitted};
 ghost use Rattle.handled.specs.Marking.{Leads, marked, to_retire, kept};
 
 use store::{
-    Shape, keep_pair, phase, put_consumer, put_content, put_drain, put_entry, put_found,
-    read_consumer, read_contents, record_end, state, word,
+    Located, Refusal, Shape, Store, keep_pair, needed, phase, put_consumer, put_content, put_drain,
+    put_entry, put_found, state, word,
 };
 
 // Whether the head record h is drained by a head at this position: it ends there, and it is not the tail record.
-fn drained_at(s: &[u32], z: Shape, h: u32, position: u32) -> bool
-    requires admitted { Admitted (sizes z) s.now }
-    requires h_lt_records { h < z.records }
-    ensures { drained_at (sizes z) (reader (sizes z) s.now) h position ≡ result }
+fn drained_at(store: &Store, h: u32, position: u32) -> bool
+    requires { h < store.now.shape.records }
+    ensures { drained_at (size store.now) (cells store.now) h position ≡ result }
 {
-    (position == record_end(s, z, h)) & (read_contents(s, z).tail_record != h + 1)
+    (position == store.record_end(h)) & (store.contents().tail_record != h + 1)
 }
 
-// What the mark of the found entry leads to: nowhere, where it is refused; to phase 8; or the item is given.
+// What the mark of the found entry leads to: to phase 8, or the item is given.
 #[derive(Clone, Copy)]
 pub enum Mark {
-    None,
     Retires,
     Gives,
 }
 
 // If found is the head position, it advances. If that brings the head to the head record's end and the head record is not the tail
-// record, to 8.
-pub fn mark_leads(s: &[u32], z: Shape) -> Mark
-    requires { Admitted (sizes z) s.now }
-    ensures { Leads (sizes z) s.now result }
+// record, to 8. Refusal 9: the head would pass the last position, or there is no head record.
+pub fn mark_leads(store: &Store) -> Result<Mark, Refusal>
+    ensures { Leads (size store.now) store.now.words.now result }
 {
-    let q = read_contents(s, z);
-    if read_consumer(s, z).found_position != q.head_position {
-        return Mark::Gives;
+    let q = store.contents();
+    if store.consumer().found_position != q.head_position {
+        return Ok(Mark::Gives);
     }
-    if z.starts <= q.head_position {
-        return Mark::None;
+    if store.shape.starts <= q.head_position {
+        return Err(Refusal::Broken);
     }
-    if q.head_record == 0 {
-        return Mark::None;
+    let head = needed(q.head_record)?;
+    if drained_at(store, head, q.head_position + 1) {
+        return Ok(Mark::Retires);
     }
-    if drained_at(s, z, q.head_record - 1, q.head_position + 1) {
-        return Mark::Retires;
-    }
-    Mark::Gives
+    Ok(Mark::Gives)
 }
 
-// Entry i of record r, which is found, becomes handled; if found is the head position, it advances.
-pub fn put_mark(s: &mut [u32], z: Shape, r: u32, i: u32)
+// The found entry becomes handled; if found is the head position, it advances.
+pub fn put_mark(s: &mut [u32], z: Shape, at: Located)
     requires admitted { Admitted (sizes z) s.old }
-    requires r_lt_records { (r < z.records) × (i < z.entries) }
-    ensures { s.new ≡ writes (sizes z) s.old (marked (sizes z) (reader (sizes z) s.old) r i) }
+    requires at_lt_records { (at.record < z.records) × (at.index < z.entries) }
+    ensures { s.new ≡ writes (sizes z) s.old (marked (sizes z) (reader (sizes z) s.old) at.record at.index) }
 {
-    let q = read_contents(s, z);
-    let front = read_consumer(s, z).found_position == q.head_position;
-    put_entry(s, z, r, i, word::STATE, state::HANDLED);
+    let store = Store { words: s, shape: z };
+    let q = store.contents();
+    let front = store.consumer().found_position == q.head_position;
+    put_entry(s, z, at.record, at.index, word::STATE, state::HANDLED);
     if front {
         put_content(s, z, word::HEAD_POSITION, q.head_position + 1);
     }

@@ -1,12 +1,10 @@
 // Runs the lines of standard input on a store, and prints their replies and the judge's word on their history.
 #![tactic(auto)]
 
-use stdio::Input;
-
 fn main(rt: HostRuntime) {
     // One byte more than is allowed, so that longer input is seen.
     let mut input = [0u8; 8193];
-    let Input::Bytes(n) = stdio::read_input(&rt, &mut input) else {
+    let Ok(n) = stdio::read_input(&rt, &mut input) else {
         stdio::print_unreadable(&rt);
         return;
     };

@@ -4,14 +4,14 @@ use mathlib.Core.Logic.{◌≢◌}
 use mathlib.Core.List.{List, [], ◌∷◌, ◌++◌, append_assoc}
 use Prim.Native.Nat.{ℕ, zero, suc, ◌≤◌, ◌<◌}
 use native.Mathlib.Omega.{arith}
-use lib.ListN.{length, drop, set, length-append, length-drop}
+use lib.ListN.{length, drop, set, length-append, length-drop, get_or, get_or-append}
 use lib.Seq.{drop-cons, set_at}
 use Rattle.history.specs.Calls.{row}
 use Rattle.judge.specs.declared.Call.{Call}
 use Rattle.reading.specs.Build.{build}
 use Rattle.reading.specs.Table.{start_at, end_at, answer_at, thread_at, number_at, value_at, call_of, call_at}
-use Rattle.judge.specs.Working.{entry_in, filled}
-use Rattle.reading.proofs.Builds.{build_snoc, length_build}
+use Rattle.judge.specs.Working.{no_call, entry_in, filled}
+use Rattle.reading.proofs.Builds.{build_snoc, length_build, get_d_build}
 
 pub kind_dequeue : (t n v s e a : ℕ) → t ≡ 0 → 3 ≡ (row (call_of t n v s e a)).kind
 kind_dequeue t n v s e a p = rw p
@@ -64,3 +64,7 @@ module _ (m : List ℕ) (table : List Call) where
       ∙ set_at (build (entry_in m) j) _ (drop (suc j) table) x j (length_build (entry_in m) j)
       ∙ sym (append_assoc (build (entry_in m) j) (x ∷ []) (drop (suc j) table))
       ∙ ap (λ l. l ++ drop (suc j) table) (sym (build_snoc (entry_in m) j))
+
+pub entry_there : (m : List ℕ) (c : ℕ) (table : List Call) (j : ℕ) → j < c → get_or (filled m c table) j no_call ≡ entry_in m j
+entry_there m c table j l =
+    get_or-append (build (entry_in m) c) (drop c table) no_call j (rw (length_build (entry_in m) c) l) ∙ get_d_build (entry_in m) c j no_call l

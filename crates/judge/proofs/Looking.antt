@@ -1,96 +1,114 @@
--- What the look over the words finds: reading refuses, the order buffer is too short for the calls, or the verdict's pass goes over them.
+-- What the words are taken for: reading refuses, the order buffer is too short for the calls, or there is a history with its verdict.
 use mathlib.Core.Path.{◌≡◌, refl, ap, sym, subst, ◌∙◌}
-use mathlib.Core.Bool.{cond}
-use mathlib.Core.List.{List, []}
-use Prim.Native.Nat.{ℕ, ◌/◌, ◌≤◌, ◌<◌}
+use mathlib.Core.List.{List, ◌++◌, map}
+use Prim.Native.Nat.{ℕ, ◌≤◌, ◌<◌}
 use native.Mathlib.Omega.{arith}
-use lib.ListN.{length, replicate}
+use lib.ListN.{length, drop, length-map}
 use borrow.Author.Tests.{lt-ltb, le-ltb}
+use Rattle.std.specs.Prelude.{Option, Result, Ok, Err}
 use Rattle.history.specs.Event.{History}
-use Rattle.history.specs.Calls.{calls}
+use Rattle.history.specs.Calls.{calls, row, rows}
 use Rattle.history.specs.Form.{Reading, refused, history, read}
-use Rattle.reading.specs.declared.Entered.{Entered}
-use Rattle.reading.specs.declared.Entered.TheVariants.{Refused, Calls}
+use Rattle.criterion.specs.Pass.{explains}
+use Rattle.reading.specs.declared.Refusal.{Refusal}
+use Rattle.reading.specs.declared.Refusal.TheVariants.{Order}
+use Rattle.reading.specs.Refusal.{refusal_number, numbered}
+use Rattle.reading.specs.Build.{build}
+use Rattle.reading.specs.Table.{call_at, calls_in}
 use Rattle.reading.specs.Steps.{entered, Read}
-use Rattle.marking.specs.declared.Marked.{Marked}
-use Rattle.marking.specs.Marks.{Numbered, Given, Marks}
-use Rattle.marking.proofs.Zeros.{no_flags}
-use Rattle.judge.specs.declared.Findings.{Findings}
-use Rattle.judge.specs.Contract.{admit, judged}
-use Rattle.reading.specs.Admitted.{refused_not_read, read_lets_through}
-use Rattle.judge.specs.Working.{refused_by, found_by, FindsIn, Finds}
-
--- Findings by what the words are judged as.
-module _ (x : Reading) (entries room : ℕ) (m flags items : List ℕ) (f : Findings) where
-  finds_refusal : (n : ℕ) → x ≡ refused n → f ≡ refused_by n → Finds x entries room m flags items f
-  finds_refusal n e is = record {
-    refuses = λ k i. let same : n ≡ k = cc in subst (λ (j : ℕ). f ≡ refused_by j) same is;
-    finds = λ h i. absurd (refused_not_read n h (sym e ∙ i));
-  }
-
-  finds_history : (h : History) → x ≡ history h → FindsIn h entries room m flags items f → Finds x entries room m flags items f
-  finds_history h e is = record {
-    refuses = λ k i. absurd (refused_not_read k h (sym i ∙ e));
-    finds = λ g i. let same : h ≡ g = cc in subst (λ k. FindsIn k entries room m flags items f) same is;
-  }
+use Rattle.reading.specs.Admitted.{read_lets_through}
+use Rattle.reading.proofs.Builds.{map_build}
+use Rattle.marking.specs.Marks.{Numbered}
+use Rattle.judge.specs.declared.Call.{Call}
+use Rattle.judge.specs.Contract.{entry, written, Judges}
+use Rattle.judge.specs.Working.{Ready, Explains, entry_in, filled}
+use Rattle.judge.proofs.Filling.{length_filled, entry_there}
 
 -- The words were read, with the memory m and the reply e.
-module _ (entries : ℕ) (words m : List ℕ) (e : Entered) (reads : Read (read entries words) (length words / 4) m e) where
+module _ (words : List ℕ) (table : List Call) (order m : List ℕ) (limit : ℕ) (e : Result ℕ Refusal)
+    (reads : Read (read (length table) words) limit m e) where
+  abbrev reading : Reading
+  reading = read (length table) words
+
+  pub refuses : (refusal : Refusal) → e ≡ Err refusal → Judges words table table order order (Err refusal)
+  refuses refusal is = go reading refl
+    where
+      go : (x : Reading) → reading ≡ x → Judges words table table order order (Err refusal)
+      go (refused n) i =
+          let same : Err (refusal_number refusal) ≡ Err n = ap numbered (sym is) ∙ reads.replies ∙ ap entered i in
+          let number : refusal_number refusal ≡ n = cc in
+          record { replies = rw (i, number); fills = rw i; orders = rw i }
+      go (history h) i = absurd (let same : Err (refusal_number refusal) ≡ Ok (length (calls h)) = ap numbered (sym is) ∙ reads.replies ∙ ap entered i in cc)
+
   -- a history with so many calls
   record ReadAs (c : ℕ) : Type 0 where
     which : History
-    is_read : read entries words ≡ history which
+    is_read : reading ≡ history which
     count : c ≡ length (calls which)
 
-  read_as : (c : ℕ) → e ≡ Calls c → ReadAs c
-  read_as c is = go (read entries words) refl (sym is ∙ reads.replies)
+  read_as : (c : ℕ) → e ≡ Ok c → ReadAs c
+  read_as c is = go reading refl
     where
-      go : (x : Reading) → read entries words ≡ x → Calls c ≡ entered x → ReadAs c
-      go (refused k) i q = absurd (let z : ◌≡◌ {A = ℕ} 0 1 = cc in omega arith)
-      go (history h) i q = record { which = h; is_read = i; count = cc }
+      go : (x : Reading) → reading ≡ x → ReadAs c
+      go (refused n) i = absurd (let same : Ok c ≡ Err n = ap numbered (sym is) ∙ reads.replies ∙ ap entered i in cc)
+      go (history h) i =
+          let same : Ok c ≡ Ok (length (calls h)) = ap numbered (sym is) ∙ reads.replies ∙ ap entered i in
+          record { which = h; is_read = i; count = cc }
 
-  -- its calls may be marked, with flags of zeros
-  pub may_mark : (c : ℕ) → e ≡ Calls c → (flags : List ℕ) → flags ≡ replicate 4096 0 → Numbered m c × (c ≤ 4096) × Given m c flags []
-  may_mark c is flags z =
-      let r = read_as c is in
-      let t = (reads.holds r.which r.is_read).table in
-      let through = rw r.is_read at (read_lets_through entries words) in (
-        rw r.count (record { plain = t.plain; distinct = t.distinct }),
-        omega (arith, through.few, r.count),
-        rw z (no_flags m c 4096 refl),
-      )
+  module _ (c : ℕ) (is : e ≡ Ok c) where
+    abbrev it : ReadAs c
+    it = read_as c is
 
-  module _ (room : ℕ) (flags items : List ℕ) (f : Findings) where
-    pub finds_refused : (n : ℕ) → e ≡ Refused n → f ≡ refused_by n → Finds (judged entries room words) entries room m flags items f
-    finds_refused n is by = go (read entries words) refl (sym is ∙ reads.replies)
-      where
-        go : (x : Reading) → read entries words ≡ x → Refused n ≡ entered x → Finds (judged entries room words) entries room m flags items f
-        go (refused k) i q = let same : k ≡ n = cc in finds_refusal _ entries room m flags items f n (ap (admit room) i ∙ ap refused same) by
-        go (history h) i q = absurd (let z : ◌≡◌ {A = ℕ} 0 1 = cc in omega arith)
+    abbrev h : History
+    h = it.which
 
-    pub finds_no_room : (c : ℕ) → e ≡ Calls c → room < c → f ≡ refused_by 16 → Finds (judged entries room words) entries room m flags items f
-    finds_no_room c is short by =
-        let r = read_as c is in
-        let h = r.which in
-        let no_room = lt-ltb room (length (calls h)) (omega (arith, short, r.count)) in
-        finds_refusal _ entries room m flags items f 16 (ap (admit room) r.is_read ∙ ap (λ b. cond b (refused 16) (history h)) no_room) by
+    pub no_room : length order < c → Judges words table table order order (Err Order)
+    no_room short =
+        let is-short = lt-ltb (length order) (length (calls h)) (omega (arith, it.count)) in
+        record { replies = rw (it.is_read, is-short); fills = rw (it.is_read, is-short); orders = rw (it.is_read, is-short) }
 
-    pub finds_calls :
-        (c : ℕ) → e ≡ Calls c → c ≤ room → (k : Marked) → Marks m c flags items k → f ≡ found_by c k
-        → Finds (judged entries room words) entries room m flags items f
-    finds_calls c is fits k marks by =
-        let r = read_as c is in
-        let h = r.which in
-        let holds = reads.holds h r.is_read in
-        let through = rw r.is_read at (read_lets_through entries words) in
-        let is-room = le-ltb room (length (calls h)) (omega (arith, fits, r.count)) in
-        finds_history _ entries room m flags items f h (ap (admit room) r.is_read ∙ ap (λ b. cond b (refused 16) (history h)) is-room) (record {
-          are_calls = holds.are_calls;
-          numbered = record { plain = holds.table.plain; distinct = holds.table.distinct };
-          few = through.few;
-          enough_entries = through.as_many_entries;
-          enough_room = omega (arith, fits, r.count);
-          marked = k;
-          marks = subst (λ (n : ℕ). Marks m n flags items k) r.count marks;
-          found = subst (λ (n : ℕ). f ≡ found_by n k) r.count by;
-        })
+    are_calls : calls_in m c ≡ calls h
+    are_calls = ap (calls_in m) it.count ∙ (reads.holds h it.is_read).are_calls
+
+    pub few : (c ≤ length table) × (c ≤ 4096)
+    few = let through = rw it.is_read at (read_lets_through (length table) words) in (
+      omega (arith, through.as_many_entries, it.count),
+      omega (arith, through.few, it.count),
+    )
+
+    module _ (fits : c ≤ length order) (table' : List Call) (fills : table' ≡ filled m c table) where
+      pub ready : Ready m table' c (length order)
+      ready =
+          let holds = reads.holds h it.is_read in
+          record {
+            judged = h;
+            formed = (rw it.is_read at (read_lets_through (length table) words)).formed;
+            are_calls = are_calls;
+            numbered = subst (λ (n : ℕ). Numbered m n) (sym it.count) (record { plain = holds.table.plain; distinct = holds.table.distinct });
+            few = few.1;
+            enough_room = fits;
+            enough_entries = rw fills (omega (arith, few.0, length_filled m table c few.0));
+            entries = λ j l. rw fills (entry_there m c table j l);
+          }
+
+      entries_are : build (entry_in m) c ≡ map entry (rows h)
+      entries_are =
+          sym (map_build entry (λ j. row (call_at m j)) c)
+          ∙ ap (map entry) (sym (map_build row (call_at m) c))
+          ∙ ap (λ cs. map entry (map row cs)) are_calls
+
+      table_written : table' ≡ written (history h) table
+      table_written =
+          fills
+          ∙ ap (λ l. l ++ drop c table) entries_are
+          ∙ ap (λ (i : ℕ). map entry (rows h) ++ drop i table) (it.count ∙ sym (length-map (calls h) row))
+
+      pub judged_as : (order' : List ℕ) (r : Option ℕ) → Explains (calls_in m c) order order' r → Judges words table table' order order' (Ok r)
+      unfolding explains
+      judged_as order' r by =
+          let enough = le-ltb (length order) (length (calls h)) (omega (arith, fits, it.count)) in
+          record {
+            replies = rw (it.is_read, enough) (ap Ok by.replies ∙ rw are_calls);
+            fills = rw (it.is_read, enough) table_written;
+            orders = rw (it.is_read, enough) (by.orders ∙ rw are_calls);
+          }

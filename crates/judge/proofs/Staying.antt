@@ -5,17 +5,16 @@ use mathlib.Core.List.{List, [], ◌∷◌, ◌++◌}
 use Prim.Native.Nat.{ℕ, zero, suc, ◌≤◌, ◌<◌}
 use native.Mathlib.Omega.{arith}
 use lib.Dec.{eqb, leb}
-use lib.ListN.{get_or, drop, get_or-append}
+use lib.ListN.{get_or}
 use Rattle.history.specs.Calls as history
 use Rattle.history.specs.Calls.{enq, deq, row}
 use Rattle.criterion.specs.Pass.{has, past, leaves}
-use Rattle.reading.specs.Build.{build}
 use Rattle.reading.specs.Table.{start_at, end_at, answer_at, thread_at, number_at, value_at, call_of, call_at, calls_in}
-use Rattle.reading.proofs.Builds.{build_snoc, length_build, get_d_build}
+use Rattle.reading.proofs.Builds.{build_snoc}
 use Rattle.marking.specs.Marks.{Given}
 use Rattle.judge.specs.declared.Call.{Call}
 use Rattle.judge.specs.Contract.{entry}
-use Rattle.judge.specs.Working.{no_call, entry_in, filled, stays_at, all_stay}
+use Rattle.judge.specs.Working.{no_call, entry_in, stays_at, all_stay}
 
 and_true : (b : Bool) → (b && true) ≡ b
 and_true true = refl
@@ -31,19 +30,16 @@ leaves_snoc mark given (deq d ∷ cs) c = leaves_snoc mark given cs c
 
 -- on one entry
 stays_as :
-    (mark : ℕ) (given : List ℕ) (flag t n v s e a : ℕ) → has n given ≡ eqb flag 1
+    (mark : ℕ) (given : List ℕ) (flag : Bool) (t n v s e a : ℕ) → has n given ≡ flag
     → stays_at (entry (row (call_of t n v s e a))) flag mark ≡ leaves mark given (call_of t n v s e a ∷ [])
 stays_as mark given flag zero n v s e a f = refl
-stays_as mark given flag (suc t) n v s e a f = rw f (sym (and_true (eqb flag 1 || (eqb e 0 || leb mark e))))
+stays_as mark given flag (suc t) n v s e a f = rw f (sym (and_true (flag || (eqb e 0 || leb mark e))))
 
-module _ (m : List ℕ) (c : ℕ) (flags given : List ℕ) (known : Given m c flags given) (mark : ℕ) (before : List Call) where
-  entry_there : (j : ℕ) → j < c → get_or (filled m c before) j no_call ≡ entry_in m j
-  entry_there j l =
-      get_or-append (build (entry_in m) c) (drop c before) no_call j (rw (length_build (entry_in m) c) l) ∙ get_d_build (entry_in m) c j no_call l
-
-  pub all_stay_as : (n : ℕ) → n ≤ c → all_stay (filled m c before) flags mark n ≡ leaves mark given (calls_in m n)
+module _ (m : List ℕ) (c : ℕ) (flags : List Bool) (given : List ℕ) (known : Given m c flags given) (mark : ℕ) (table : List Call)
+    (entries : (j : ℕ) → j < c → get_or table j no_call ≡ entry_in m j) where
+  pub all_stay_as : (n : ℕ) → n ≤ c → all_stay table flags mark n ≡ leaves mark given (calls_in m n)
   all_stay_as zero l = refl
   all_stay_as (suc n) l =
-      let here = stays_as mark given (get_or flags n 0) (thread_at m n) (number_at m n) (value_at m n) (start_at m n) (end_at m n) (answer_at m n) (known.flagged n l) in
-      rw (all_stay_as n (omega arith), entry_there n l, here)
+      let here = stays_as mark given (get_or flags n false) (thread_at m n) (number_at m n) (value_at m n) (start_at m n) (end_at m n) (answer_at m n) (known.flagged n l) in
+      rw (all_stay_as n (omega arith), entries n l, here)
       (sym (leaves_snoc mark given (calls_in m n) (call_at m n)) ∙ ap (leaves mark given) (sym (build_snoc (call_at m) n)))

@@ -1,12 +1,12 @@
 -- What the judge replies, and what it writes to the working table and to the order buffer (document 01, "Judge"; document 02, U9).
-use Rattle.std.specs.Prelude.{◌≡◌, cond, List, ◌++◌, map, ℕ, ltb, length, drop}
+use Rattle.std.specs.Prelude.{◌≡◌, cond, List, ◌++◌, map, ℕ, ltb, length, drop, Option, None, Some, Result, Ok, Err}
 use Rattle.history.specs.Calls.{Row, calls, rows}
 use Rattle.history.specs.Form.{most_events, Reading, refused, history, read}
 use Rattle.criterion.specs.Pass.{explains}
 use Rattle.criterion.specs.Order.{order_numbers}
 use Rattle.judge.specs.declared.Call.{Call}
-use Rattle.judge.specs.declared.Verdict.{Verdict}
-use Rattle.judge.specs.declared.Verdict.TheVariants.{Refused, Explained, Unexplained}
+use Rattle.reading.specs.declared.Refusal.{Refusal}
+use Rattle.reading.specs.Refusal.{numbered}
 
 -- 16: an order buffer with fewer words than started calls. It is looked at after 13, whatever the verdict.
 abbrev pub admit : (room : ℕ) → Reading → Reading
@@ -17,11 +17,11 @@ admit room (history h) = cond (ltb room (length (calls h))) (refused 16) (histor
 abbrev pub judged : (entries room : ℕ) → List ℕ → Reading
 judged entries room words = admit room (read entries words)
 
--- The reply on that: a refusal's number, or explained or unexplained by the verdict's pass, which finds a history explained exactly
--- when it is linearizable (specs/Decides.antt). Explained says how many words the order has.
-abbrev pub reply : Reading → Verdict
-reply (refused n) = Refused n
-reply (history h) = cond (explains h) (Explained (length (order_numbers (calls h)))) Unexplained
+-- The reply on that: a refusal's number, or explained or not by the verdict's pass, which finds a history explained exactly when it is
+-- linearizable (specs/Decides.antt). Explained says how many words the order has.
+abbrev pub reply : Reading → Result (Option ℕ) ℕ
+reply (refused n) = Err n
+reply (history h) = Ok (cond (explains h) (Some (length (order_numbers (calls h)))) None)
 
 -- A record of the working table as an entry.
 abbrev pub entry : Row → Call
@@ -42,12 +42,12 @@ order_written (refused n) order = order
 order_written (history h) order = cond (explains h) (orders_over (order_numbers (calls h)) order) order
 
 -- The judge on a history's words: its reply, and the table and the buffer after those before.
-pub record Judges (words : List ℕ) (table table' : List Call) (order order' : List ℕ) (r : Verdict) : Type 0 where
-  pub replies : r ≡ reply (judged (length table) (length order) words)
+pub record Judges (words : List ℕ) (table table' : List Call) (order order' : List ℕ) (r : Result (Option ℕ) Refusal) : Type 0 where
+  pub replies : numbered r ≡ reply (judged (length table) (length order) words)
   pub fills : table' ≡ written (judged (length table) (length order) words) table
   pub orders : order' ≡ order_written (judged (length table) (length order) words) order
 
 -- The same of the judge with a table of its own, which has an entry for each of the most events.
-pub record JudgesAlone (words order order' : List ℕ) (r : Verdict) : Type 0 where
-  pub replies : r ≡ reply (judged most_events (length order) words)
+pub record JudgesAlone (words order order' : List ℕ) (r : Result (Option ℕ) Refusal) : Type 0 where
+  pub replies : numbered r ≡ reply (judged most_events (length order) words)
   pub orders : order' ≡ order_written (judged most_events (length order) words) order

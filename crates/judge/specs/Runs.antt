@@ -1,18 +1,16 @@
 -- The judge on small histories: its reply and the order buffer afterwards, as one table and one statement that the checker computes.
-use Rattle.std.specs.Prelude.{◌≡◌, refl, List, [], ◌∷◌, map, ℕ, length}
+use Rattle.std.specs.Prelude.{◌≡◌, refl, List, [], ◌∷◌, map, ℕ, length, Option, None, Some, Result, Ok, Err}
 use Rattle.history.specs.Event.{decode}
 use Rattle.history.specs.Form.{read}
 use Rattle.criterion.specs.Pass.{explains}
 use Rattle.criterion.specs.Order.{ordered, order_numbers}
-use Rattle.judge.specs.declared.Verdict.{Verdict}
-use Rattle.judge.specs.declared.Verdict.TheVariants.{Refused, Explained, Unexplained}
 use Rattle.judge.specs.Contract.{judged, reply, order_written}
 
 -- A history's words, judged with a table of eight entries and this buffer: the reply, and the buffer afterwards.
 pub record OrderRun : Type 0 where
   pub words : List ℕ
   pub buffer : List ℕ
-  pub replies : Verdict
+  pub replies : Result (Option ℕ) ℕ
   pub buffer' : List ℕ
 
 -- A dequeue starts, enqueue 1 starts and ends, and the dequeue gives its item; enqueue 1 is under way, and a dequeue gives its item; a
@@ -35,16 +33,16 @@ no_event = 6 ∷ 0 ∷ 0 ∷ 0 ∷ []
 abbrev pub order_runs : List OrderRun
 order_runs =
     -- the enqueue, which started second, goes first; a third word stays; an enqueue under way that was taken from is kept
-    record { words = inside; buffer = 8 ∷ 8 ∷ 8 ∷ []; replies = Explained 2; buffer' = 2 ∷ 1 ∷ 8 ∷ [] }
-    ∷ record { words = under_way; buffer = 8 ∷ 8 ∷ []; replies = Explained 2; buffer' = 1 ∷ 2 ∷ [] }
+    record { words = inside; buffer = 8 ∷ 8 ∷ 8 ∷ []; replies = Ok (Some 2); buffer' = 2 ∷ 1 ∷ 8 ∷ [] }
+    ∷ record { words = under_way; buffer = 8 ∷ 8 ∷ []; replies = Ok (Some 2); buffer' = 1 ∷ 2 ∷ [] }
     -- no call, no word; unexplained, and no word either
-    ∷ record { words = []; buffer = []; replies = Explained 0; buffer' = [] }
-    ∷ record { words = never_started; buffer = 8 ∷ []; replies = Unexplained; buffer' = 8 ∷ [] }
+    ∷ record { words = []; buffer = []; replies = Ok (Some 0); buffer' = [] }
+    ∷ record { words = never_started; buffer = 8 ∷ []; replies = Ok None; buffer' = 8 ∷ [] }
     -- a word less than calls, also where the history would be unexplained; but 12 and 13 come first
-    ∷ record { words = inside; buffer = 8 ∷ []; replies = Refused 16; buffer' = 8 ∷ [] }
-    ∷ record { words = never_started; buffer = []; replies = Refused 16; buffer' = [] }
-    ∷ record { words = busy; buffer = []; replies = Refused 13; buffer' = [] }
-    ∷ record { words = no_event; buffer = []; replies = Refused 12; buffer' = [] }
+    ∷ record { words = inside; buffer = 8 ∷ []; replies = Err 16; buffer' = 8 ∷ [] }
+    ∷ record { words = never_started; buffer = []; replies = Err 16; buffer' = [] }
+    ∷ record { words = busy; buffer = []; replies = Err 13; buffer' = [] }
+    ∷ record { words = no_event; buffer = []; replies = Err 12; buffer' = [] }
     ∷ []
 
 -- What a run of the table gives.

@@ -4,27 +4,24 @@
 
 ghost use Rattle.std.specs.Prelude.{◌≡◌};
 ghost use Rattle.history.specs.Form.{most_events, read};
+ghost use Rattle.reading.specs.Refusal.{numbered};
 ghost use Rattle.order_check.specs.Check.{checked};
 ghost use Rattle.judge_c.specs.Reply.{number_of, reply_words, Replies, number_of_checked};
 
-use judge::{Call, Verdict};
-use order_check::Checked;
+use judge::Call;
+use reading::Refusal;
 
 // The verdict's number; where it is explained, how many words the order has goes to word 0 of the reply.
-fn deliver(verdict: Verdict, reply: &mut [u32; 4]) -> u32
-    ensures { (result ≡ number_of verdict) × (reply.new ≡ reply_words verdict reply.old) }
+fn deliver(verdict: Result<Option<u32>, Refusal>, reply: &mut [u32; 4]) -> u32
+    ensures { (result ≡ number_of (numbered verdict)) × (reply.new ≡ reply_words (numbered verdict) reply.old) }
 {
     match verdict {
-        Verdict::Refused(number) => {
-            return number;
-        }
-        Verdict::Explained(count) => {
+        Ok(Some(count)) => {
             reply[0] = count;
-            return 0;
+            0
         }
-        Verdict::Unexplained => {
-            return 1;
-        }
+        Ok(None) => 1,
+        Err(refusal) => refusal.into(),
     }
 }
 
@@ -41,13 +38,13 @@ pub extern "C" fn judge_history(
     deliver(judge::judge(history, table, order), reply)
 }
 
-fn number_of(checked: Checked) -> u32
-    ensures { result ≡ number_of_checked checked }
+fn number_of(checked: Result<bool, Refusal>) -> u32
+    ensures { result ≡ number_of_checked (numbered checked) }
 {
     match checked {
-        Checked::Refused(number) => number,
-        Checked::Yes => 0,
-        Checked::No => 1,
+        Ok(true) => 0,
+        Ok(false) => 1,
+        Err(refusal) => u32::from(refusal),
     }
 }
 

@@ -1,38 +1,20 @@
 -- A line that grows and flags that are set, one call at a time.
 use mathlib.Core.Path.{◌≡◌, refl, sym, ap, ◌∙◌}
 use mathlib.Core.Logic.{◌⊎◌, inl, inr, ◌≢◌}
-use mathlib.Core.Bool.{Bool, true, false, ◌&&◌, ◌||◌, not, cond, or_assoc}
+use mathlib.Core.Bool.{Bool, true, false, ◌&&◌, ◌||◌, not, cond, or_assoc, false≢true}
 use mathlib.Core.List.{List, [], ◌∷◌, ◌++◌, append-nil, append_assoc}
-use Prim.Native.Nat.{ℕ, suc, ◌≤◌, ◌<◌}
+use Prim.Native.Nat.{ℕ, ◌+◌, ◌≤◌, ◌<◌}
 use native.Mathlib.Omega.{arith}
+use native.Mathlib.Numerals.{add-one}
 use lib.Dec.{eqb}
-use lib.ListN.{length, get_or, take, set, length-set, length-append}
-use lib.Seq.{take-suc-set, get_or-set_same, get_or-set_other}
+use lib.ListN.{length, get_or, set, length-set, length-append}
+use lib.Seq.{get_or-set_same, get_or-set_other}
 use borrow.Author.Tests.{eqb-true, eqb-false, eq-eqb, ne_eqb}
 use Rattle.criterion.specs.Pass.{has}
 use Rattle.reading.specs.Table.{end_at, answer_at, thread_at}
 use Rattle.reading.proofs.Logic.{same_or_not}
-use Rattle.laying.specs.Line.{gather_to, answers_at, gives_at, item_at, left_at, Lines, Flags, Notes}
+use Rattle.laying.specs.Line.{gather_to, gives_at, item_at, is_left, left_at, Flags, Notes}
 use Rattle.laying.proofs.Lining.{has_append, short_gather}
-
--- none is added, one is, and some and then some more
-pub lines_none : (line : List ℕ) (n : ℕ) → Lines line line n n []
-lines_none line n = record { size = refl; count = omega arith; added = sym (append-nil (take n line)) }
-
-pub lines_one : (line : List ℕ) (n i r : ℕ) → n < length line → r ≡ suc n → Lines line (set line n i) n r (i ∷ [])
-lines_one line n i r l q = record {
-  size = length-set line n i;
-  count = omega arith;
-  added = ap (λ k. take k (set line n i)) q ∙ take-suc-set line n i l;
-}
-
-pub lines_more :
-    (line line' line'' xs ys : List ℕ) (n r s : ℕ) → Lines line line' n r xs → Lines line' line'' r s ys → Lines line line'' n s (xs ++ ys)
-lines_more line line' line'' xs ys n r s a b = record {
-  size = b.size ∙ a.size;
-  count = let e = length-append xs ys in let p = a.count in let q = b.count in omega arith;
-  added = b.added ∙ ap (λ z. z ++ ys) a.added ∙ append_assoc (take n line) xs ys;
-}
 
 or_false : (b : Bool) → b ≡ (b || false)
 or_false true = refl
@@ -42,101 +24,96 @@ or_true : (b : Bool) → true ≡ (b || true)
 or_true true = refl
 or_true false = refl
 
-flags_none : (flags : List ℕ) → Flags flags flags []
-flags_none flags = record { size = refl; flagged = λ i l. or_false (eqb (get_or flags i 0) 1) }
+-- none is flagged, one is, and some and then some more
+flags_none : (flags : List Bool) → Flags flags flags []
+flags_none flags = record { size = refl; flagged = λ i l. or_false (get_or flags i false) }
 
-flags_one : (flags : List ℕ) (i : ℕ) → length flags ≡ 4096 → Flags flags (set flags i 1) (i ∷ [])
-flags_one flags i e = record { size = length-set flags i 1; flagged = λ k l. go k l (same_or_not k i) }
+flags_one : (flags : List Bool) (i : ℕ) → length flags ≡ 4096 → Flags flags (set flags i true) (i ∷ [])
+flags_one flags i e = record { size = length-set flags i true; flagged = λ k l. go k l (same_or_not k i) }
   where
-    go : (k : ℕ) → k < 4096 → (k ≡ i) ⊎ (k ≢ i) → eqb (get_or (set flags i 1) k 0) 1 ≡ (eqb (get_or flags k 0) 1 || (eqb i k || false))
+    go : (k : ℕ) → k < 4096 → (k ≡ i) ⊎ (k ≢ i) → get_or (set flags i true) k false ≡ (get_or flags k false || (eqb i k || false))
     go k l (inl q) =
-        let a = get_or-set_same flags i 1 0 (omega arith) in
+        let a = get_or-set_same flags i true false (omega arith) in
         let b = eq-eqb i i refl in
-        rw (q, a, b) (or_true (eqb (get_or flags i 0) 1))
+        rw (q, a, b) (or_true (get_or flags i false))
     go k l (inr d) =
-        let a = get_or-set_other flags i k 1 0 d in
+        let a = get_or-set_other flags i k true false d in
         let b = ne_eqb i k (λ z. d (sym z)) in
-        rw (a, b) (or_false (eqb (get_or flags k 0) 1))
+        rw (a, b) (or_false (get_or flags k false))
 
-flags_more : (flags flags' flags'' xs ys : List ℕ) → Flags flags flags' xs → Flags flags' flags'' ys → Flags flags flags'' (xs ++ ys)
+flags_more : (flags flags' flags'' : List Bool) (xs ys : List ℕ) → Flags flags flags' xs → Flags flags' flags'' ys → Flags flags flags'' (xs ++ ys)
 flags_more flags flags' flags'' xs ys a b = record {
   size = b.size ∙ a.size;
   flagged = λ i l.
       b.flagged i l
       ∙ ap (λ z. z || has i ys) (a.flagged i l)
-      ∙ or_assoc (eqb (get_or flags i 0) 1) (has i xs) (has i ys)
-      ∙ ap (λ z. eqb (get_or flags i 0) 1 || z) (sym (has_append i xs ys));
+      ∙ or_assoc (get_or flags i false) (has i xs) (has i ys)
+      ∙ ap (λ z. get_or flags i false || z) (sym (has_append i xs ys));
 }
 
-pub notes_none : (line flags : List ℕ) (n : ℕ) → Notes line line flags flags n n []
-notes_none line flags n = record { lined = lines_none line n; noted = flags_none flags }
+-- one call more: its item goes into the line, or it gave none
+module _ (m items line line' : List ℕ) (flags flags' : List Bool) (j : ℕ) (was : Notes line line' flags flags' (gather_to (item_at m items) j)) where
+  pub notes_item :
+      (next : List ℕ) (marked : List Bool) → length flags ≡ 4096 → gives_at m j ≡ true → next ≡ line' ++ get_or items j 0 ∷ []
+      → marked ≡ set flags' (get_or items j 0) true → Notes line next flags marked (gather_to (item_at m items) (j + 1))
+  notes_item next marked size gives e f =
+      let i = get_or items j 0 in
+      let xs = gather_to (item_at m items) j in
+      rw (add-one j, gives, e, f)
+      (record {
+        lined = ap (λ z. z ++ i ∷ []) was.lined ∙ append_assoc line xs (i ∷ []);
+        noted = flags_more flags flags' (set flags' i true) xs (i ∷ []) was.noted (flags_one flags' i (was.noted.size ∙ size));
+      })
 
-pub notes_one :
-    (line flags : List ℕ) (n i r : ℕ) → n < length line → length flags ≡ 4096 → r ≡ suc n
-    → Notes line (set line n i) flags (set flags i 1) n r (i ∷ [])
-notes_one line flags n i r l e q = record { lined = lines_one line n i r l q; noted = flags_one flags i e }
+  pub notes_same : gives_at m j ≡ false → Notes line line' flags flags' (gather_to (item_at m items) (j + 1))
+  notes_same gives = rw (add-one j, gives, append-nil (gather_to (item_at m items) j)) was
 
-pub notes_more :
-    (line line' line'' flags flags' flags'' xs ys : List ℕ) (n r s : ℕ) → Notes line line' flags flags' n r xs
-    → Notes line' line'' flags' flags'' r s ys → Notes line line'' flags flags'' n s (xs ++ ys)
-notes_more line line' line'' flags flags' flags'' xs ys n r s a b = record {
-  lined = lines_more line line' line'' xs ys n r s a.lined b.lined;
-  noted = flags_more flags flags' flags'' xs ys a.noted b.noted;
-}
+-- the same of a call that is left, or is not
+module _ (m line line' : List ℕ) (flags : List Bool) (i : ℕ) (was : line' ≡ line ++ gather_to (left_at m flags) i) where
+  pub left_more : (next : List ℕ) → is_left m flags i ≡ true → next ≡ line' ++ i ∷ [] → next ≡ line ++ gather_to (left_at m flags) (i + 1)
+  left_more next left e = rw (add-one i, left) (e ∙ ap (λ z. z ++ i ∷ []) was ∙ append_assoc line (gather_to (left_at m flags) i) (i ∷ []))
 
--- what a dequeue gives, by the test
-cond_none : (b : Bool) (i : ℕ) → ◌≡◌ {A = ℕ} (cond b 1 0) 0 → cond b (i ∷ []) [] ≡ []
-cond_none true i e = absurd (omega arith)
-cond_none false i e = refl
+  pub left_same : is_left m flags i ≡ false → line' ≡ line ++ gather_to (left_at m flags) (i + 1)
+  left_same left = rw (add-one i, left, append-nil (gather_to (left_at m flags) i)) was
 
-cond_some : (b : Bool) (i : ℕ) → ◌≢◌ {A = ℕ} (cond b 1 0) 0 → cond b (i ∷ []) [] ≡ i ∷ []
-cond_some true i e = refl
-cond_some false i e = absurd (e refl)
-
-module _ (m items : List ℕ) (j : ℕ) where
-  abbrev test : Bool
-  test = eqb (thread_at m j) 0 && not (eqb (end_at m j) 0) && not (eqb (answer_at m j) 0)
-
-  pub item_none : gives_at m j ≡ 0 → item_at m items j ≡ []
-  item_none e = cond_none test (get_or items j 0) e
-
-  pub item_some : gives_at m j ≢ 0 → item_at m items j ≡ get_or items j 0 ∷ []
-  item_some d = cond_some test (get_or items j 0) d
-
-  pub gives_means : gives_at m j ≢ 0 → (thread_at m j ≡ 0) × (end_at m j ≢ 0) × (answer_at m j ≢ 0)
+-- what a call gives, by the test
+module _ (m items : List ℕ) (flags : List Bool) (j : ℕ) where
+  pub gives_means : gives_at m j ≡ true → (thread_at m j ≡ 0) × (end_at m j ≢ 0) × (answer_at m j ≢ 0)
   gives_means d = go (eqb (thread_at m j) 0) (eqb (end_at m j) 0) (eqb (answer_at m j) 0) refl refl refl d
     where
       go :
           (a b c : Bool) → eqb (thread_at m j) 0 ≡ a → eqb (end_at m j) 0 ≡ b → eqb (answer_at m j) 0 ≡ c
-          → ◌≢◌ {A = ℕ} (cond (a && not b && not c) 1 0) 0 → (thread_at m j ≡ 0) × (end_at m j ≢ 0) × (answer_at m j ≢ 0)
+          → (a && not b && not c) ≡ true → (thread_at m j ≡ 0) × (end_at m j ≢ 0) × (answer_at m j ≢ 0)
       go true false false p q r d = (eqb-true _ _ p, eqb-false _ _ q, eqb-false _ _ r)
-      go true false true p q r d = absurd (d refl)
-      go true true c p q r d = absurd (d refl)
-      go false b c p q r d = absurd (d refl)
+      go true false true p q r d = absurd (false≢true d)
+      go true true c p q r d = absurd (false≢true d)
+      go false b c p q r d = absurd (false≢true d)
 
   item_short : length (item_at m items j) ≤ 1
-  item_short = go test
+  item_short = go (gives_at m j)
     where
       go : (b : Bool) → length (cond b (get_or items j 0 ∷ []) []) ≤ 1
       go true = omega arith
       go false = omega arith
 
-  left_short : length (left_at m items j) ≤ 1
-  left_short = go (eqb (thread_at m j) 0 || eqb (end_at m j) 0 || eqb (get_or items j 0) 1)
+  left_short : length (left_at m flags j) ≤ 1
+  left_short = go (is_left m flags j)
     where
-      go : (b : Bool) → length (cond b [] (j ∷ [])) ≤ 1
+      go : (b : Bool) → length (cond b (j ∷ []) []) ≤ 1
       go true = omega arith
       go false = omega arith
 
-pub answer_short : (m : List ℕ) (j : ℕ) → answers_at m j ≤ 1
-answer_short m j = go (eqb (thread_at m j) 0 && not (eqb (end_at m j) 0))
-  where
-    go : (b : Bool) → cond b 1 0 ≤ 1
-    go true = omega arith
-    go false = omega arith
+-- how long the line is, after some calls
+pub items_short :
+    (m items line line' : List ℕ) (n : ℕ) → line' ≡ line ++ gather_to (item_at m items) n → length line' ≤ length line + n
+items_short m items line line' n e =
+    let s = short_gather (item_at m items) (item_short m items []) n in
+    let l = length-append line (gather_to (item_at m items) n) in
+    rw e (omega arith)
 
-pub items_short : (m items : List ℕ) (n : ℕ) → length (gather_to (item_at m items) n) ≤ n
-items_short m items n = short_gather (item_at m items) (item_short m items) n
-
-pub lefts_short : (m flags : List ℕ) (n : ℕ) → length (gather_to (left_at m flags) n) ≤ n
-lefts_short m flags n = short_gather (left_at m flags) (left_short m flags) n
+pub lefts_short :
+    (m line line' : List ℕ) (flags : List Bool) (n : ℕ) → line' ≡ line ++ gather_to (left_at m flags) n → length line' ≤ length line + n
+lefts_short m line line' flags n e =
+    let s = short_gather (left_at m flags) (left_short m [] flags) n in
+    let l = length-append line (gather_to (left_at m flags) n) in
+    rw e (omega arith)

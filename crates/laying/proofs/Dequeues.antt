@@ -1,7 +1,7 @@
 -- What a call is to the laying: no ended dequeue, or one, and then whether it gave an item.
 use mathlib.Core.Path.{◌≡◌, refl}
 use mathlib.Core.Logic.{◌⊎◌, inl, inr}
-use mathlib.Core.Bool.{◌&&◌, not, cond}
+use mathlib.Core.Bool.{Bool, true, false, ◌&&◌, not}
 use mathlib.Core.List.{List, [], ◌∷◌}
 use Prim.Native.Nat.{ℕ, zero, suc}
 use lib.Dec.{eqb}
@@ -15,29 +15,29 @@ use Rattle.laying.proofs.Lining.{not_zero}
 -- What a call is: no ended dequeue, or one.
 pub record Answered (m : List ℕ) (j : ℕ) : Type 0 where
   pub dequeue : Dequeue
-  pub answers : answers_at m j ≡ 1
+  pub answers : answers_at m j ≡ true
   pub is_call : call_at m j ≡ deq dequeue
   pub alone : dequeue_of (call_at m j) ≡ dequeue ∷ []
   pub start_is : dequeue.start ≡ start_at m j
-  pub gives_is : gives_at m j ≡ cond (is_item dequeue.answer) 1 0
+  pub gives_is : gives_at m j ≡ is_item dequeue.answer
 
 pub record Idle (m : List ℕ) (j : ℕ) : Type 0 where
-  pub answers : answers_at m j ≡ 0
-  pub gives : gives_at m j ≡ 0
+  pub answers : answers_at m j ≡ false
+  pub gives : gives_at m j ≡ false
   pub none : dequeue_of (call_at m j) ≡ []
 
--- the two numbers, by the call's words
-abbrev answers_of : (t e : ℕ) → ℕ
-answers_of t e = cond (eqb t 0 && not (eqb e 0)) 1 0
+-- the two tests, by the call's words
+abbrev answers_of : (t e : ℕ) → Bool
+answers_of t e = eqb t 0 && not (eqb e 0)
 
-abbrev gives_of : (t e a : ℕ) → ℕ
-gives_of t e a = cond (eqb t 0 && not (eqb e 0) && not (eqb a 0)) 1 0
+abbrev gives_of : (t e a : ℕ) → Bool
+gives_of t e a = answers_of t e && not (eqb a 0)
 
 pub either_kind : (m : List ℕ) (j : ℕ) → Idle m j ⊎ Answered m j
 either_kind m j = go (thread_at m j) (end_at m j) (answer_at m j) refl refl refl
   where
     idle :
-        (t e a : ℕ) → thread_at m j ≡ t → end_at m j ≡ e → answer_at m j ≡ a → answers_of t e ≡ 0 → gives_of t e a ≡ 0
+        (t e a : ℕ) → thread_at m j ≡ t → end_at m j ≡ e → answer_at m j ≡ a → answers_of t e ≡ false → gives_of t e a ≡ false
         → dequeue_of (call_of t (number_at m j) (value_at m j) (start_at m j) e a) ≡ [] → Idle m j
     idle t e a p q r x y z = record { answers = rw (p, q) x; gives = rw (p, q, r) y; none = rw (p, q, r) z }
 

@@ -6,9 +6,13 @@ use mathlib.Core.Bool.{Bool, true, false, ◌&&◌, ◌||◌, not, cond, or_asso
 use mathlib.Core.List.{List, [], ◌∷◌, ◌++◌, map, append_assoc}
 use Prim.Native.Nat.{ℕ, zero, suc, ◌≤◌, ◌<◌, suc-le-suc}
 use native.Mathlib.Omega.{arith}
+use native.Mathlib.Numerals.{add-one}
 use lib.Dec.{eqb}
 use lib.ListN.{length, get_or, length-append}
 use borrow.Author.Tests.{eqb-true, eqb-false, eq-eqb, ne_eqb}
+use Rattle.std.specs.List.{filter, range_with_len}
+use Rattle.std.proofs.lemmas.List.{map-id}
+use Rattle.std.proofs.lemmas.List.FromFn.{filter_of_map_range_with_len_more}
 use Rattle.history.specs.Lists.{All}
 use Rattle.history.specs.Calls.{Enqueue, Call, start_of}
 use Rattle.history.specs.Form.{any}
@@ -22,7 +26,7 @@ use Rattle.reading.proofs.Logic.{same_or_not}
 use Rattle.reading.proofs.Builds.{build_snoc}
 use Rattle.marking.specs.Marks.{Numbered, Located, enqueue_at}
 use Rattle.marking.proofs.Passing.{looked}
-use Rattle.laying.specs.Line.{count_to, gather_to, answers_at, gives_at, item_at, left_at}
+use Rattle.laying.specs.Line.{count_to, gather_to, answers_at, gives_at, item_at, is_left, left_at}
 
 -- Lists that are put together.
 gather_append : {A B : Type 0} (f : A → List B) (xs ys : List A) → gather f (xs ++ ys) ≡ gather f xs ++ gather f ys
@@ -72,6 +76,11 @@ starting_number_lem m c i r l = starting (call_at m) c i (λ a b o k. rw (at a, 
 pub not_zero : (n : ℕ) → eqb (suc n) 0 ≡ false
 not_zero n = ne_eqb (suc n) 0 (λ q. omega arith)
 
+cond_neither : (a b : Bool) (xs ys : List ℕ) → cond (not a && not b) xs ys ≡ cond (a || b) ys xs
+cond_neither true b xs ys = refl
+cond_neither false true xs ys = refl
+cond_neither false false xs ys = refl
+
 module _ (cs : List Call) (f : ℕ → Enqueue) where
   item_word :
       (t n v s e a i : ℕ) → (t ≡ 0 → e ≢ 0 → a ≢ 0 → look a cs ≡ f i ∷ [])
@@ -86,9 +95,11 @@ module _ (cs : List Call) (f : ℕ → Enqueue) where
 
   left_word :
       (t n v s e a i : ℕ) (b : Bool) → f i ≡ record { thread = t; number = n; value = v; start = s; end = e }
-      → (t ≢ 0 → b ≡ any (gives n) cs) → map f (cond (eqb t 0 || eqb e 0 || b) [] (i ∷ [])) ≡ if_left cs (call_of t n v s e a) ++ []
+      → (t ≢ 0 → b ≡ any (gives n) cs) → map f (cond (not (eqb t 0) && not (eqb e 0) && not b) (i ∷ []) []) ≡ if_left cs (call_of t n v s e a) ++ []
   left_word zero n v s e a i b q h = refl
-  left_word (suc t) n v s e a i b q h = rw (not_zero t) (go (eqb e 0 || b) (ap (λ z. eqb e 0 || z) (h (λ z. omega arith))))
+  left_word (suc t) n v s e a i b q h =
+      rw (not_zero t)
+      (ap (map f) (cond_neither (eqb e 0) b (i ∷ []) []) ∙ go (eqb e 0 || b) (ap (λ z. eqb e 0 || z) (h (λ z. omega arith))))
     where
       go :
           (z : Bool) → z ≡ (eqb e 0 || any (gives n) cs)
@@ -130,6 +141,15 @@ pub all_gather :
     (P : ℕ → Type 0) (f : ℕ → List ℕ) (n : ℕ) → ((j : ℕ) → j < n → All P (f j)) → All P (gather_to f n)
 all_gather P f zero h = tt
 all_gather P f (suc n) h = all_append P (gather_to f n) (f n) (all_gather P f n (λ j l. h j (omega arith))) (h n (omega arith))
+
+pub count_is : (f : ℕ → Bool) (n : ℕ) → length (filter f (range_with_len 0 n)) ≡ count_to f n
+count_is f zero = refl
+count_is f (suc n) =
+    let more = simp map-id at (filter_of_map_range_with_len_more f (λ j. j) 0 n n (omega arith)) in
+    ap (λ k. length (filter f (range_with_len 0 k))) (sym (add-one n))
+    ∙ ap length more
+    ∙ length-append (filter f (range_with_len 0 n)) (cond (f n) (n ∷ []) [])
+    ∙ (let r = count_is f n in let o = length_cond (f n) n in cc)
 
 module _ (m : List ℕ) where
   pub answers_count : (n : ℕ) → length (dequeues_of (calls_in m n)) ≡ count_to (answers_at m) n
@@ -212,17 +232,17 @@ module _ (m items : List ℕ) (c : ℕ) (numbered : Numbered m c) (located : Loc
       ∙ sym (has_append i (gather_to (item_at m items) n) (item_at m items n))
 
   -- the rest of the line
-  module _ (flags : List ℕ) (flagged : (i : ℕ) → i < c → eqb (get_or flags i 0) 1 ≡ has i (gather_to (item_at m items) c)) where
+  module _ (flags : List Bool) (flagged : (i : ℕ) → i < c → get_or flags i false ≡ has i (gather_to (item_at m items) c)) where
     pub left_stand : (n : ℕ) → n ≤ c → All Stands (gather_to (left_at m flags) n)
     left_stand n l = all_gather Stands (left_at m flags) n (λ j o. go j (omega arith) (same_or_not (thread_at m j) 0))
       where
         go : (j : ℕ) → j < c → (thread_at m j ≡ 0) ⊎ (thread_at m j ≢ 0) → All Stands (left_at m flags j)
         go j o (inl e) = let z = eq-eqb (thread_at m j) 0 e in rw z tt
-        go j o (inr d) = by (eqb (thread_at m j) 0 || eqb (end_at m j) 0 || eqb (get_or flags j 0) 1)
+        go j o (inr d) = by (is_left m flags j)
           where
-            by : (b : Bool) → All Stands (cond b [] (j ∷ []))
-            by true = tt
-            by false = ((o, d), tt)
+            by : (b : Bool) → All Stands (cond b (j ∷ []) [])
+            by true = ((o, d), tt)
+            by false = tt
 
     left_remain_to : (n : ℕ) → n ≤ c → map (enqueue_at m) (gather_to (left_at m flags) n) ≡ gather (if_left cs) (calls_in m n)
     left_remain_to zero l = refl
@@ -230,7 +250,7 @@ module _ (m items : List ℕ) (c : ℕ) (numbered : Numbered m c) (located : Loc
         map_append (enqueue_at m) (gather_to (left_at m flags) n) (left_at m flags n)
         ∙ (let r = left_remain_to n (omega arith) in
         let o =
-        left_word cs (enqueue_at m) (thread_at m n) (number_at m n) (value_at m n) (start_at m n) (end_at m n) (answer_at m n) n (eqb (get_or flags n 0) 1) refl
+        left_word cs (enqueue_at m) (thread_at m n) (number_at m n) (value_at m n) (start_at m n) (end_at m n) (answer_at m n) n (get_or flags n false) refl
         (λ t. flagged n l ∙ sym (given_has n l c (omega arith))) in
         cc)
         ∙ sym (gather_append (if_left cs) (calls_in m n) (call_at m n ∷ []))

@@ -19,11 +19,12 @@ use Rattle.reading.proofs.Builds.{drop_build, drop_built}
 use Rattle.marking.specs.Marks.{enqueue_at}
 use Rattle.marking.proofs.Passing.{an_enqueue}
 use Rattle.laying.specs.Line.{count_to, answers_at, gives_at, Lined, Backs, LaysBack, LaysDequeue, enqueues_in, line_numbers}
+use Rattle.laying.specs.declared.Rest.{Rest}
 use Rattle.laying.proofs.Placing.{slice_snoc, none_earlier, Ready, back, none_between, dequeue_back, ready_for}
 use Rattle.laying.proofs.Lining.{map_append, starting_number_lem}
 use Rattle.laying.proofs.Dequeues.{Answered, Idle, either_kind}
 
-pub count_grows : (f : ℕ → ℕ) (n c : ℕ) → n ≤ c → count_to f n ≤ count_to f c
+pub count_grows : (f : ℕ → Bool) (n c : ℕ) → n ≤ c → count_to f n ≤ count_to f c
 count_grows f n zero l = let z : n ≡ 0 = omega arith in rw z (omega arith)
 count_grows f n (suc c) l = go (same_or_not n (suc c)) (count_grows f n c)
   where
@@ -31,14 +32,13 @@ count_grows f n (suc c) l = go (same_or_not n (suc c)) (count_grows f n c)
     go (inl e) h = rw e (omega arith)
     go (inr d) h = let r = h (omega arith) in omega arith
 
--- the last of some values is no more than their sum
-pub last_counts : (f : ℕ → ℕ) (n : ℕ) → 0 < n → f (n - 1) ≤ count_to f n
+-- the last number counts as well
+pub last_counts : (f : ℕ → Bool) (n : ℕ) → 0 < n → cond (f (n - 1)) 1 0 ≤ count_to f n
 last_counts f zero l = absurd (omega arith)
 last_counts f (suc n) l = let z : suc n - 1 ≡ n = omega arith in rw z (omega arith)
 
 fewer_lined : (m line : List ℕ) (c p n : ℕ) → Lined m line c n → c ≤ 4096 → p ≤ n → Lined m line 4096 p
 fewer_lined m line c p n g a b = record {
-  size = g.size;
   few = let f = g.few in omega arith;
   within = λ k l. let w = g.within k (omega arith) in omega arith;
   enqueues = λ k l. g.enqueues k (omega arith);
@@ -73,7 +73,7 @@ module _ (m line : List ℕ) (c p₀ : ℕ) where
 
   module _ (lined : Lined m line c p₀) (few : c ≤ 4096) (rising : (i j : ℕ) → i < j → j < c → start_at m i < start_at m j) where
     length_queue : length queue ≡ p₀
-    length_queue = length-map (take p₀ line) (enqueue_at m) ∙ length-take-le p₀ line (let z = lined.size in let y = lined.few in omega arith)
+    length_queue = length-map (take p₀ line) (enqueue_at m) ∙ length-take-le p₀ line lined.few
 
     queue_at : (k : ℕ) → k < p₀ → get_or queue k (enqueue_at m 0) ≡ enqueue_at m (get_or line k 0)
     queue_at k l = get_or-map (enqueue_at m) (take p₀ line) k 0 ∙ ap (enqueue_at m) (get_or-take p₀ line k 0 l)
@@ -95,7 +95,6 @@ module _ (m line : List ℕ) (c p₀ : ℕ) where
             → numbers (map enq (slice r (suc u) queue)) ≡ map suc (slice r (suc u) line)
         go (inl e) h = rw (e, slice_empty (suc u) queue, slice_empty (suc u) line)
         go (inr d) h =
-            let z = lined.size in
             let y = lined.few in
             let w = length_queue in
             ap (λ x. numbers (map enq x)) (slice_snoc r u queue (enqueue_at m 0) (omega arith) (omega arith))
@@ -144,20 +143,38 @@ module _ (m line : List ℕ) (c p₀ : ℕ) where
             words = rw (over, none, q);
           }
 
-      module _ (order : List ℕ) (j p t e : ℕ) (s : Standing e₀ before order (suc j) p t e) (order' : List ℕ) (r : ℕ)
-          (lays : LaysDequeue m line j t p e order order' r) where
+      module _ (order : List ℕ) (j : ℕ) (rest : Rest) (s : Standing e₀ before order (suc j) rest.enqueues rest.given rest.dequeues)
+          (order' : List ℕ) (then : Rest) (lays : LaysDequeue m line j rest order order' then) where
+        abbrev p : ℕ
+        p = rest.enqueues
+
+        abbrev t : ℕ
+        t = rest.given
+
+        abbrev e : ℕ
+        e = rest.dequeues
+
+        abbrev r : ℕ
+        r = then.enqueues
+
+        abbrev u : ℕ
+        u = then.given
+
+        abbrev v : ℕ
+        v = then.dequeues
+
         now_later : later j ≡ dequeue_of (call_at m j) ++ later (suc j)
         now_later = ap dequeues_of (drop_build (call_at m) c j s.within)
 
-        on_idle : Idle m j → Standing e₀ before order' j r t e
+        on_idle : Idle m j → Standing e₀ before order' j r u v
         on_idle i =
             let k = lays.idle i.answers in
             let q : later j ≡ later (suc j) = now_later ∙ ap (λ z. z ++ later (suc j)) i.none in
-            let a = i.answers in
-            let g = i.gives in
+            let a : ◌≡◌ {A = ℕ} (cond (answers_at m j) 1 0) 0 = rw i.answers in
+            let g : ◌≡◌ {A = ℕ} (cond (gives_at m j) 1 0) 0 = rw i.gives in
             let x = s.items in
             let y = s.dequeues in
-            subst (λ z. Standing e₀ before order' j z t e) (sym k.0)
+            subst (λ (z : Rest). Standing e₀ before order' j z.enqueues z.given z.dequeues) (sym k.0)
             (subst (λ z. Standing e₀ before z j p t e) (sym k.1)
             (record {
               within = let l = s.within in omega arith;
@@ -171,8 +188,8 @@ module _ (m line : List ℕ) (c p₀ : ℕ) where
               words = rw q s.words;
             }))
 
-        on_answered : (a : Answered m j) (u v : ℕ) → t ≡ u + gives_at m j → e ≡ suc v → Standing e₀ before order' j r u v
-        on_answered a u v f g =
+        on_answered : (a : Answered m j) → t ≡ u + cond (gives_at m j) 1 0 → e ≡ suc v → Standing e₀ before order' j r u v
+        on_answered a f g =
             let d = a.dequeue in
             let x = enqueue_at m 0 in
             let b = lays.backs a.answers in
@@ -181,7 +198,7 @@ module _ (m line : List ℕ) (c p₀ : ℕ) where
             let most = s.most in
             let w = length_queue in
             let q : later j ≡ d ∷ later (suc j) = now_later ∙ ap (λ z. z ++ later (suc j)) a.alone in
-            let counts : t ≡ cond (is_item d.answer) (suc u) u = f ∙ ap (λ z. u + z) a.gives_is ∙ one_more (is_item d.answer) u in
+            let counts : t ≡ cond (is_item d.answer) (suc u) u = f ∙ ap (λ b. u + cond b 1 0) a.gives_is ∙ one_more (is_item d.answer) u in
             let z = clear_back (suc j) (start_at m j) t p r b most (s.clear j (omega arith)) in
             let k = came_back (suc j) (start_at m j) t p r b most s.ready in
             let n : starting_number cs (deq d) ≡ suc j = ap (starting_number cs) (sym a.is_call) ∙ starting_number_lem m c j rising s.within in
@@ -190,7 +207,7 @@ module _ (m line : List ℕ) (c p₀ : ℕ) where
             (ap (λ i. any_ended i (drop r queue)) a.start_is ∙ z) in
             let i = s.items in
             let y = s.dequeues in
-            let h = a.answers in
+            let h : ◌≡◌ {A = ℕ} (cond (answers_at m j) 1 0) 1 = rw a.answers in
             record {
               within = let c = s.within in omega arith;
               most = omega arith;
@@ -204,7 +221,7 @@ module _ (m line : List ℕ) (c p₀ : ℕ) where
                   (λ k i o. ap (λ i. ended_before i (get_or queue k x)) a.start_is ∙ ap (ended_before (start_at m j)) (queue_at k (omega arith)) ∙ b.stops k i o));
               clear = λ h o. none_earlier (start_at m h) (start_at m j) (drop r queue) (let c = rising h j o s.within in omega arith) z;
               words =
-                  lays.words a.answers v g
+                  lays.words a.answers
                   ∙ ap (λ y. suc j ∷ (map suc (slice r p line) ++ y)) s.words
                   ∙ ap (λ y. suc j ∷ y) (sym (append_assoc (map suc (slice r p line)) (numbers (placed (suc j) t p)) (drop (p₀ + e₀) before)))
                   ∙ ap (λ y. suc j ∷ (y ++ drop (p₀ + e₀) before)) (sym k.0)
@@ -217,28 +234,26 @@ module _ (m line : List ℕ) (c p₀ : ℕ) where
             one_more true u = omega arith
             one_more false u = omega arith
 
-        pub standing_on : Standing e₀ before order' j r (t - gives_at m j) (e - answers_at m j)
-        standing_on = go (either_kind m j)
-          where
-            go : Idle m j ⊎ Answered m j → Standing e₀ before order' j r (t - gives_at m j) (e - answers_at m j)
-            go (inl i) =
-                let a : t - gives_at m j ≡ t = let g = i.gives in omega arith in
-                let b : e - answers_at m j ≡ e = let g = i.answers in omega arith in
-                rw (a, b) (on_idle i)
-            go (inr a) =
-                let i = s.items in
-                let y = s.dequeues in
-                let h = a.answers in
-                on_answered a (t - gives_at m j) (e - answers_at m j) (omega arith) (omega arith)
+        pub standing_on : Standing e₀ before order' j r u v
+        standing_on = elim (either_kind m j) [
+          | inl i ↦ on_idle i
+          | inr a ↦
+              let i = s.items in
+              let y = s.dequeues in
+              let h : ◌≡◌ {A = ℕ} (cond (answers_at m j) 1 0) 1 = rw a.answers in
+              let k = lays.given a.answers in
+              let l = lays.dequeues a.answers in
+              on_answered a (omega arith) (omega arith)
+        ]
 
       -- by the number of calls that are left
       pub standing_back :
-          (order : List ℕ) (n p t e : ℕ) → Standing e₀ before order n p t e → 0 < n → (order' : List ℕ) (r : ℕ)
-          → LaysDequeue m line (n - 1) t p e order order' r → (g a : ℕ) → g ≡ gives_at m (n - 1) → a ≡ answers_at m (n - 1)
-          → Standing e₀ before order' (n - 1) r (t - g) (e - a)
-      standing_back order n p t e s l order' r lays g a x y =
+          (order : List ℕ) (n : ℕ) (rest : Rest) → Standing e₀ before order n rest.enqueues rest.given rest.dequeues → 0 < n
+          → (order' : List ℕ) (then : Rest) → LaysDequeue m line (n - 1) rest order order' then
+          → Standing e₀ before order' (n - 1) then.enqueues then.given then.dequeues
+      standing_back order n rest s l order' then lays =
           let z : n ≡ suc (n - 1) = omega arith in
-          rw (x, y) (standing_on order (n - 1) p t e (subst (λ k. Standing e₀ before order k p t e) z s) order' r lays)
+          standing_on order (n - 1) rest (subst (λ k. Standing e₀ before order k rest.enqueues rest.given rest.dequeues) z s) order' then lays
 
       -- there is room
       pub room_left :
@@ -252,15 +267,16 @@ module _ (m line : List ℕ) (c p₀ : ℕ) where
       -- and the enqueues before all dequeues
       pub standing_last :
           (order : List ℕ) (n p t e : ℕ) → n ≡ 0 → Standing e₀ before order n p t e → (order' : List ℕ) (r : ℕ)
-          → LaysBack m line 0 0 p 0 order order' r → order' ≡ line_numbers m line c p₀ ++ drop (p₀ + e₀) before
+          → LaysBack m line 0 t p e order order' r → order' ≡ line_numbers m line c p₀ ++ drop (p₀ + e₀) before
       unfolding line_numbers
-      standing_last order n p t e over was order' r lays =
+      standing_last order n p t e over was order' r laid =
           let s = subst (λ k. Standing e₀ before order k p t e) over was in
-          let z : r ≡ 0 = all_back r refl in
           let i = s.items in
           let y = s.dequeues in
           let no : t ≡ 0 = omega arith in
           let none : e ≡ 0 = omega arith in
+          let lays = rw (no, none) at laid in
+          let z : r ≡ 0 = all_back lays.backs r refl in
           let k = came_back 0 0 0 p r lays.backs s.most (rw no at s.ready) in
           ap (λ x. drop (x + 0) order') (sym z)
           ∙ lays.words
@@ -272,6 +288,6 @@ module _ (m line : List ℕ) (c p₀ : ℕ) where
           never : (x : Enqueue) → ended_before 0 x ≡ true → ⊥
           never x q = let l = ltb-true x.end 0 (both (not (eqb x.end 0)) (ltb x.end 0) q).1 in omega arith
 
-          all_back : (k : ℕ) → r ≡ k → r ≡ 0
-          all_back zero q = q
-          all_back (suc k) q = absurd (never (enqueue_at m (get_or line k 0)) (lays.backs.stops k q (omega arith)))
+          all_back : Backs m line 0 0 p r → (k : ℕ) → r ≡ k → r ≡ 0
+          all_back b zero q = q
+          all_back b (suc k) q = absurd (never (enqueue_at m (get_or line k 0)) (b.stops k q (omega arith)))

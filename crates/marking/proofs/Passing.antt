@@ -4,6 +4,9 @@ use mathlib.Core.Logic.{◌⊎◌, inl, inr, ◌≢◌}
 use mathlib.Core.Bool.{Bool, true, false, ◌&&◌, not, cond}
 use mathlib.Core.List.{List, [], ◌∷◌}
 use mathlib.Core.Option.{Option, none, some}
+use Rattle.std.specs.Prelude as rust
+use Rattle.std.proofs.Common.{zero-le}
+use Rattle.std.specs.Prelude.{None, Some}
 use Prim.Native.Nat.{ℕ, zero, suc, ◌+◌, ◌≤◌, ◌<◌, max, suc-le-suc}
 use native.Mathlib.Numerals.{add-one}
 use native.Mathlib.Omega.{arith}
@@ -15,14 +18,13 @@ use Rattle.history.specs.Calls.{Answer, nothing, item, empty, Enqueue, Call, enq
 use Rattle.history.specs.Form.{has_number}
 use Rattle.criterion.specs.Parts.{look}
 use Rattle.criterion.specs.Pass.{has, past, giving, answering, passes}
-use Rattle.marking.specs.declared.Moved.{Moved}
-use Rattle.marking.specs.declared.Moved.TheVariants.{Stuck, To}
-use Rattle.marking.specs.declared.Marked.TheVariants.{Fails, Mark}
+use Rattle.marking.specs.declared.Progress.{Progress}
 use Rattle.reading.specs.Build.{build}
 use Rattle.reading.specs.Table.{start_at, end_at, answer_at, thread_at, number_at, value_at, call_of, call_at, calls_in}
 use Rattle.marking.specs.Pass.{State, give_item, answer, pass_call, onward, pass_calls, passed, last_test}
 use Rattle.marking.specs.Marks.{Numbered, Found, Given, Flagged, Located, enqueue_at, hint_of, moved_to, state_after, Moves, marked, Marks}
-use Rattle.reading.proofs.Logic.{same_or_not, before_or_last}
+use Rattle.reading.specs.Steps.{First}
+use Rattle.reading.proofs.Logic.{at_most_or_above, same_or_not, before_or_last}
 use Rattle.reading.proofs.Builds.{drop_build, drop_built}
 use Rattle.reading.proofs.Words
 
@@ -48,6 +50,13 @@ look_one n f (suc c) zero x l e q h = look_here n (f 0) x (build (λ j. f (suc j
 look_one n f (suc c) (suc i) x l e q h =
     look_skip n (f 0) (build (λ j. f (suc j)) c) (h 0 (omega arith))
     ∙ look_one n (λ j. f (suc j)) c i x (omega arith) e q (λ j o. h (suc j) (suc-le-suc o))
+
+-- A number that is not among those from the hint on is looked for before it.
+pub found_before :
+    (m : List ℕ) (hint c number : ℕ) (o : rust.Option ℕ) → hint ≤ c → First m hint c number None → First m 0 hint number o → Found m c number o
+found_before m hint c number None l late early =
+    λ j o. elim (at_most_or_above hint j) [ inl a ↦ late j a o | inr b ↦ early j zero-le b ]
+found_before m hint c number (Some i) l late early = let w = early.1 in (omega arith, early.2)
 
 -- What a call does to the pass, by its words.
 module _ (cs : List Call) (n v b e a : ℕ) (s : State) where
@@ -94,35 +103,35 @@ module _ (m : List ℕ) (c : ℕ) where
 
   -- Ways on that change nothing but the mark.
   on_with :
-      (j mark mark' hint : ℕ) (flags items : List ℕ) → hint ≤ c
+      (j mark mark' hint : ℕ) (flags : List Bool) (items : List ℕ) → hint ≤ c
       → ((given : List ℕ) → state_after m c j mark given ≡ some (record { mark = mark'; given = given }))
-      → (thread_at m j ≡ 0 → end_at m j ≢ 0 → answer_at m j ≢ 0 → ⊥) → Moves m c j mark flags flags items items (To mark' hint)
+      → (thread_at m j ≡ 0 → end_at m j ≢ 0 → answer_at m j ≢ 0 → ⊥) → Moves m c j mark flags flags items items (Some (record { mark = mark'; hint = hint }))
   on_with j mark mark' hint flags items h e idle = record {
     hint_within = h;
     replies = λ given g. sym (ap (moved_to hint) (e given));
     flags_then = λ given g. rw (e given) g;
     size_stays = refl;
-    located = λ x y r old. also_at items old idle;
+    located = λ p r old. also_at items old idle;
   }
 
   pub on_enqueue :
-      (j mark hint : ℕ) (flags items : List ℕ) → hint ≤ c → thread_at m j ≢ 0 → Moves m c j mark flags flags items items (To mark hint)
+      (j mark hint : ℕ) (flags : List Bool) (items : List ℕ) → hint ≤ c → thread_at m j ≢ 0 → Moves m c j mark flags flags items items (Some (record { mark = mark; hint = hint }))
   on_enqueue j mark hint flags items h d =
       on_with j mark mark hint flags items h
       (λ given. enqueue_passes (calls_in m c) (number_at m j) (value_at m j) (start_at m j) (end_at m j) (answer_at m j) _ (thread_at m j) d)
       (λ t e a. d t)
 
   pub on_under_way :
-      (j mark hint : ℕ) (flags items : List ℕ) → hint ≤ c → thread_at m j ≡ 0 → end_at m j ≡ 0
-      → Moves m c j mark flags flags items items (To mark hint)
+      (j mark hint : ℕ) (flags : List Bool) (items : List ℕ) → hint ≤ c → thread_at m j ≡ 0 → end_at m j ≡ 0
+      → Moves m c j mark flags flags items items (Some (record { mark = mark; hint = hint }))
   on_under_way j mark hint flags items h p q =
       on_with j mark mark hint flags items h
       (λ given. under_way_passes (calls_in m c) (number_at m j) (value_at m j) (start_at m j) (end_at m j) (answer_at m j) _ (thread_at m j) p q)
       (λ t e a. e q)
 
   pub on_empty :
-      (j mark mark' hint : ℕ) (flags items : List ℕ) → hint ≤ c → thread_at m j ≡ 0 → end_at m j ≢ 0 → answer_at m j ≡ 0
-      → mark' ≡ max mark (start_at m j) → Moves m c j mark flags flags items items (To mark' hint)
+      (j mark mark' hint : ℕ) (flags : List Bool) (items : List ℕ) → hint ≤ c → thread_at m j ≡ 0 → end_at m j ≢ 0 → answer_at m j ≡ 0
+      → mark' ≡ max mark (start_at m j) → Moves m c j mark flags flags items items (Some (record { mark = mark'; hint = hint }))
   on_empty j mark mark' hint flags items h p d q e =
       on_with j mark mark' hint flags items h
       (λ given.
@@ -141,22 +150,21 @@ module _ (m : List ℕ) (c : ℕ) where
     item_is given = item_passes (calls_in m c) (number_at m j) (value_at m j) (start_at m j) (end_at m j) n _ (thread_at m j) p d q
 
     stuck_at :
-        (flags items : List ℕ) → ((given : List ℕ) → Given m c flags given → state_after m c j mark given ≡ none)
-        → Moves m c j mark flags flags items items Stuck
+        (flags : List Bool) (items : List ℕ) → ((given : List ℕ) → Given m c flags given → state_after m c j mark given ≡ none)
+        → Moves m c j mark flags flags items items None
     stuck_at flags items f = record {
       hint_within = omega arith;
       replies = λ given g. sym (ap (moved_to 0) (f given g));
       flags_then = λ given g. rw (f given g) tt;
       size_stays = refl;
-      located = λ x y r. absurd (let z : ◌≡◌ {A = ℕ} 0 1 = cc in omega arith);
+      located = λ p r. absurd (cc);
     }
 
-    pub not_found :
-        (i : ℕ) (flags items : List ℕ) → Found m c n i → c ≤ i → Moves m c j mark flags flags items items Stuck
-    not_found i flags items f l =
+    pub not_found : (flags : List Bool) (items : List ℕ) → Found m c n None → Moves m c j mark flags flags items items None
+    not_found flags items f =
         let none =
         look_none n (call_at m) c
-        (λ h o. Words.not_number (number_at m h) (value_at m h) (start_at m h) (end_at m h) (answer_at m h) (thread_at m h) n (f.is_nowhere l h o)) in
+        (λ h o. Words.not_number (number_at m h) (value_at m h) (start_at m h) (end_at m h) (answer_at m h) (thread_at m h) n (f h o)) in
         stuck_at flags items (λ given g. item_is given ∙ ap (give_item n (value_at m j) (end_at m j) _) none)
 
     -- enqueue i is the one with the item's number
@@ -179,60 +187,60 @@ module _ (m : List ℕ) (c : ℕ) where
       then given = record { mark = max mark (start_at m i); given = n ∷ given }
 
       tested :
-          (flags given : List ℕ) → Given m c flags given
-          → state_after m c j mark given ≡ cond (test (eqb (get_or flags i 0) 1)) (some (then given)) none
+          (flags : List Bool) (given : List ℕ) → Given m c flags given
+          → state_after m c j mark given ≡ cond (test (get_or flags i false)) (some (then given)) none
       tested flags given g =
-          let e = subst (λ x. has x given ≡ eqb (get_or flags i 0) 1) is (g.flagged i within) in
+          let e = subst (λ x. has x given ≡ get_or flags i false) is (g.flagged i within) in
           item_is given ∙ ap (give_item n (value_at m j) (end_at m j) _) looked ∙ ap (λ b. cond (test b) (some (then given)) none) e
 
       pub unfair :
-          (flags items : List ℕ) (r : Bool) → r ≡ test (eqb (get_or flags i 0) 1) → r ≡ false
-          → Moves m c j mark flags flags items items Stuck
+          (flags : List Bool) (items : List ℕ) (r : Bool) → r ≡ test (get_or flags i false) → r ≡ false
+          → Moves m c j mark flags flags items items None
       unfair flags items r e f =
           stuck_at flags items (λ given g. tested flags given g ∙ ap (λ b. cond b (some (then given)) none) (sym e ∙ f))
 
-      flag_on : (flags given : List ℕ) → c ≤ 4096 → Given m c flags given → Given m c (set flags i 1) (n ∷ given)
+      flag_on : (flags : List Bool) (given : List ℕ) → c ≤ 4096 → Given m c flags given → Given m c (set flags i true) (n ∷ given)
       flag_on flags given room g = record {
-        size = length-set flags i 1 ∙ g.size;
+        size = length-set flags i true ∙ g.size;
         flagged = λ h l. go h l (same_or_not h i);
       }
         where
-          go : (h : ℕ) → h < c → (h ≡ i) ⊎ (h ≢ i) → has (number_at m h) (n ∷ given) ≡ eqb (get_or (set flags i 1) h 0) 1
+          go : (h : ℕ) → h < c → (h ≡ i) ⊎ (h ≢ i) → has (number_at m h) (n ∷ given) ≡ get_or (set flags i true) h false
           go h l (inl e) =
               let a = eq-eqb n (number_at m i) (sym is) in
-              let b = get_or-set_same flags i 1 0 (omega (arith, g.size)) in
+              let b = get_or-set_same flags i true false (omega (arith, g.size)) in
               rw (e, a, b)
           go h l (inr o) =
               let a = ne_eqb n (number_at m h) (λ z. o (numbered.distinct h i l within (sym z ∙ sym is) (λ w. q (z ∙ w)))) in
-              let b = get_or-set_other flags i h 1 0 o in
+              let b = get_or-set_other flags i h true false o in
               rw (a, b) (g.flagged h l)
 
       pub is_fair :
-          (flags items : List ℕ) (r : Bool) (mark' hint : ℕ) → c ≤ 4096 → j < length items → r ≡ test (eqb (get_or flags i 0) 1) → r ≡ true
-          → mark' ≡ max mark (start_at m i) → hint ≤ c → Moves m c j mark flags (set flags i 1) items (set items j i) (To mark' hint)
+          (flags : List Bool) (items : List ℕ) (r : Bool) (mark' hint : ℕ) → c ≤ 4096 → j < length items → r ≡ test (get_or flags i false) → r ≡ true
+          → mark' ≡ max mark (start_at m i) → hint ≤ c → Moves m c j mark flags (set flags i true) items (set items j i) (Some (record { mark = mark'; hint = hint }))
       is_fair flags items r mark' hint room noted e f top few = record {
         hint_within = few;
         replies = λ given g. rw (goes given g, top);
         flags_then = λ given g. rw (goes given g) (flag_on flags given room g);
         size_stays = length-set items j i;
-        located = λ x y z old. noted_at j i items noted within is old;
+        located = λ x z old. noted_at j i items noted within is old;
       }
         where
           goes : (given : List ℕ) → Given m c flags given → state_after m c j mark given ≡ some (then given)
           goes given g = tested flags given g ∙ ap (λ b. cond b (some (then given)) none) (sym e ∙ f)
 
 -- The pass after j calls.
-pub record Passed (m : List ℕ) (c : ℕ) (flags items : List ℕ) (mark j : ℕ) : Type 0 where
+pub record Passed (m : List ℕ) (c : ℕ) (flags : List Bool) (items : List ℕ) (mark j : ℕ) : Type 0 where
   pub given : List ℕ
   pub are_given : Given m c flags given
   pub located : Located m items c j
   pub is_same : passed (calls_in m c) ≡ pass_calls (calls_in m c) (drop j (calls_in m c)) (record { mark = mark; given = given })
 
-pub none_passed : (m : List ℕ) (c : ℕ) (flags items : List ℕ) → Given m c flags [] → Passed m c flags items 0 0
+pub none_passed : (m : List ℕ) (c : ℕ) (flags : List Bool) (items : List ℕ) → Given m c flags [] → Passed m c flags items 0 0
 none_passed m c flags items g = record { given = []; are_given = g; located = λ h l. absurd (omega arith); is_same = refl }
 
-module _ (m : List ℕ) (c : ℕ) (flags items : List ℕ) (mark j : ℕ) (p : Passed m c flags items mark j) (more : j < c) (flags' items' : List ℕ)
-    (r : Moved) (moves : Moves m c j mark flags flags' items items' r) where
+module _ (m : List ℕ) (c : ℕ) (flags : List Bool) (items : List ℕ) (mark j : ℕ) (p : Passed m c flags items mark j) (more : j < c) (flags' : List Bool) (items' : List ℕ)
+    (r : rust.Option Progress) (moves : Moves m c j mark flags flags' items items' r) where
   abbrev after : Option State
   after = state_after m c j mark p.given
 
@@ -242,39 +250,40 @@ module _ (m : List ℕ) (c : ℕ) (flags items : List ℕ) (mark j : ℕ) (p : P
       ∙ ap (λ l. pass_calls (calls_in m c) l (record { mark = mark; given = p.given })) (drop_build (call_at m) c j more)
       ∙ ap (λ x. onward x (pass_calls (calls_in m c) (drop (suc j) (calls_in m c)))) e
 
-  pub call_passed : (mark' hint : ℕ) → r ≡ To mark' hint → (hint ≤ c) × Passed m c flags' items' mark' (j + 1)
-  call_passed mark' hint e =
+  pub call_passed : (to : Progress) → r ≡ Some to → (to.hint ≤ c) × Passed m c flags' items' to.mark (j + 1)
+  call_passed to e =
       let w = moves.hint_within in
-      let h : hint_of r ≡ hint = ap hint_of e in
+      let h : hint_of r ≡ to.hint = ap hint_of e in
       (omega arith, go after refl (moves.replies p.given p.are_given) (moves.flags_then p.given p.are_given))
     where
-      go : (o : Option State) → after ≡ o → r ≡ moved_to (hint_of r) o → Flagged m c flags' o → Passed m c flags' items' mark' (j + 1)
-      go none f a g = absurd (let z : ◌≡◌ {A = ℕ} 0 1 = cc in omega arith)
+      go : (o : Option State) → after ≡ o → r ≡ moved_to (hint_of r) o → Flagged m c flags' o → Passed m c flags' items' to.mark (j + 1)
+      go none f a g = absurd (cc)
       go (some s) f a g =
-          let z : s.mark ≡ mark' = cc in
+          let y : Some (record { mark = s.mark; hint = hint_of r }) ≡ Some to = cc in
+          let z : s.mark ≡ to.mark = ap (λ o. elim o [ None ↦ 0 | Some x ↦ x.mark ]) y in
           record {
             given = s.given;
             are_given = g;
-            located = rw (add-one j) (moves.located mark' hint e p.located);
+            located = rw (add-one j) (moves.located to e p.located);
             is_same = rw (add-one j, ← z) (next (some s) f);
           }
 
-  pub call_stuck : r ≡ Stuck → passed (calls_in m c) ≡ none
+  pub call_stuck : r ≡ None → passed (calls_in m c) ≡ none
   call_stuck e = go after refl (moves.replies p.given p.are_given)
     where
       go : (o : Option State) → after ≡ o → r ≡ moved_to (hint_of r) o → passed (calls_in m c) ≡ none
       go none f a = next none f
-      go (some s) f a = absurd (let z : ◌≡◌ {A = ℕ} 0 1 = cc in omega arith)
+      go (some s) f a = absurd (cc)
 
-pub pass_fails : (m : List ℕ) (c : ℕ) (flags items : List ℕ) → passed (calls_in m c) ≡ none → Marks m c flags items Fails
+pub pass_fails : (m : List ℕ) (c : ℕ) (flags : List Bool) (items : List ℕ) → passed (calls_in m c) ≡ none → Marks m c flags items None
 pass_fails m c flags items e = record {
   replies = sym (ap marked e);
   flags_then = rw e tt;
-  located = λ x r. absurd (let z : ◌≡◌ {A = ℕ} 0 1 = cc in omega arith);
+  located = λ x r. absurd (cc);
 }
 
 pub all_passed :
-    (m : List ℕ) (c : ℕ) (flags items : List ℕ) (mark j : ℕ) → Passed m c flags items mark j → j ≡ c → Marks m c flags items (Mark mark)
+    (m : List ℕ) (c : ℕ) (flags : List Bool) (items : List ℕ) (mark j : ℕ) → Passed m c flags items mark j → j ≡ c → Marks m c flags items (Some mark)
 all_passed m c flags items mark j p e =
     let s : State = record { mark = mark; given = p.given } in
     let z : passed (calls_in m c) ≡ some s =

@@ -7,149 +7,118 @@ ghost use Rattle.history.specs.Form.{most_events};
 ghost use Rattle.reading.specs.Table.{thread_at, end_at, answer_at};
 ghost use Rattle.marking.specs.Marks.{Numbered, Found, Given, fair_at, Moves, Marks};
 
-use reading::{ANSWER, END, MEMORY, MOST_EVENTS, START, THREAD, VALUE, larger, scan};
+use reading::{ANSWER, END, MEMORY, MOST_EVENTS, START, THREAD, VALUE, scan};
 
-// What one call does to the verdict's pass: the pass is stuck, or goes on with another mark, and with the place where the
-// next item is looked for first.
+// How far the verdict's pass has come: the mark, and the place where the next item is looked for first.
 #[derive(Clone, Copy)]
-enum Moved {
-    Stuck,
-    To { mark: u32, hint: usize },
+struct Progress {
+    mark: u32,
+    hint: usize,
 }
 
-// Where the verdict's pass ends: it fails, or leaves a mark.
-#[derive(Clone, Copy)]
-pub enum Marked {
-    Fails,
-    Mark(u32),
-}
-
-// Where a number stands among those of the calls, or c: it is looked for from the hint on, then before it.
-fn position(m: &[u32; MEMORY], hint: usize, c: usize, number: u32) -> usize
+// Where a number stands among those of the calls: it is looked for from the hint on, then before it.
+fn position(m: &[u32; MEMORY], hint: usize, c: usize, number: u32) -> Option<usize>
     requires { (hint ≤ c) × (c ≤ most_events) }
     ensures { Found m.now c number result }
 {
-    let late = scan(m, hint, c, number);
-    if late < c {
-        return late;
+    match scan(m, hint, c, number) {
+        Some(i) => Some(i),
+        // Stays: `or_else` was tried, and nothing that can be cited says what its closure answered.
+        None => scan(m, 0, hint, number),
     }
-    let early = scan(m, 0, hint, number);
-    if early < hint {
-        return early;
-    }
-    c
 }
 
 // Whether enqueue i may be the item of dequeue j: the same value, not given before, started before j ended, not ended before
 // the mark.
-fn fair(m: &[u32; MEMORY], flags: &[u32; MOST_EVENTS], i: usize, j: usize, mark: u32) -> bool
+fn fair(m: &[u32; MEMORY], flags: &[bool; MOST_EVENTS], i: usize, j: usize, mark: u32) -> bool
     requires { (i < most_events) × (j < most_events) }
     ensures { result ≡ fair_at m.now flags.now i j mark }
 {
     let end = m[END + i];
     (m[VALUE + i] == m[VALUE + j])
-        & (flags[i] != 1)
+        & !flags[i]
         & (m[START + i] <= m[END + j])
         & ((end == 0) | (mark <= end))
 }
 
 // The first enqueue from the hint on whose item was not given, or c: where the next item is looked for first.
-fn first_left(m: &[u32; MEMORY], flags: &[u32; MOST_EVENTS], hint: usize, c: usize) -> usize
+fn first_left(m: &[u32; MEMORY], flags: &[bool; MOST_EVENTS], hint: usize, c: usize) -> usize
     requires { (hint ≤ c) × (c ≤ most_events) }
     ensures { result ≤ c }
 {
-    let mut j = hint;
-    while j < c {
-        if (m[THREAD + j] != 0) & (flags[j] != 1) {
+    for j in hint..c {
+        if (m[THREAD + j] != 0) & !flags[j] {
             return j;
         }
-        j += 1;
     }
     c
 }
 
-// Dequeue j gives an item: its enqueue's start moves the mark, and its enqueue is noted.
+// Dequeue j gives an item: its enqueue's start moves the mark, and its enqueue is noted. None where the pass fails.
 fn give(
     m: &[u32; MEMORY],
-    flags: &mut [u32; MOST_EVENTS],
+    flags: &mut [bool; MOST_EVENTS],
     items: &mut [u32; MOST_EVENTS],
     c: usize,
-    mark: u32,
-    hint: usize,
+    progress: Progress,
     j: usize,
-) -> Moved
-    requires { Numbered m.now c × (c ≤ most_events) × (hint ≤ c) × (j < c) × (length items.old ≡ most_events) × (thread_at m.now j ≡ 0) × (end_at m.now j ≢ 0) × (answer_at m.now j ≢ 0) }
-    ensures { Moves m.now c j mark flags.old flags.new items.old items.new result }
+) -> Option<Progress>
+    requires { Numbered m.now c × (c ≤ most_events) × (progress.hint ≤ c) × (j < c) × (length items.old ≡ most_events) × (thread_at m.now j ≡ 0) × (end_at m.now j ≢ 0) × (answer_at m.now j ≢ 0) }
+    ensures { Moves m.now c j progress.mark flags.old flags.new items.old items.new result }
 {
-    let i = position(m, hint, c, m[ANSWER + j]);
-    if c <= i {
-        return Moved::Stuck;
+    let i = position(m, progress.hint, c, m[ANSWER + j])?;
+    if !fair(m, flags, i, j, progress.mark) {
+        return None;
     }
-    if !fair(m, flags, i, j, mark) {
-        return Moved::Stuck;
-    }
-    flags[i] = 1;
+    flags[i] = true;
     items[j] = i as u32;
-    let next = larger(mark, m[START + i]);
-    let first = first_left(m, flags, hint, c);
-    Moved::To {
-        mark: next,
-        hint: first,
-    }
+    Some(Progress {
+        mark: progress.mark.max(m[START + i]),
+        hint: first_left(m, flags, progress.hint, c),
+    })
 }
 
-// Call j moves the mark, if it is a dequeue that has ended.
+// Call j moves the mark, if it is a dequeue that has ended. None where the pass fails.
 fn pass(
     m: &[u32; MEMORY],
-    flags: &mut [u32; MOST_EVENTS],
+    flags: &mut [bool; MOST_EVENTS],
     items: &mut [u32; MOST_EVENTS],
     c: usize,
-    mark: u32,
-    hint: usize,
+    progress: Progress,
     j: usize,
-) -> Moved
-    requires { Numbered m.now c × (c ≤ most_events) × (hint ≤ c) × (j < c) × (length items.old ≡ most_events) }
-    ensures { Moves m.now c j mark flags.old flags.new items.old items.new result }
+) -> Option<Progress>
+    requires { Numbered m.now c × (c ≤ most_events) × (progress.hint ≤ c) × (j < c) × (length items.old ≡ most_events) }
+    ensures { Moves m.now c j progress.mark flags.old flags.new items.old items.new result }
 {
     if m[THREAD + j] != 0 {
-        return Moved::To { mark, hint };
+        return Some(progress);
     }
     if m[END + j] == 0 {
-        return Moved::To { mark, hint };
+        return Some(progress);
     }
     if m[ANSWER + j] == 0 {
-        let next = larger(mark, m[START + j]);
-        return Moved::To { mark: next, hint };
+        return Some(Progress {
+            mark: progress.mark.max(m[START + j]),
+            hint: progress.hint,
+        });
     }
-    give(m, flags, items, c, mark, hint, j)
+    give(m, flags, items, c, progress, j)
 }
 
-// The pass over all calls, in starting order; it flags the enqueues whose items were given, and notes at each dequeue where its
-// item was found.
+// The pass over all calls, in starting order: the mark that it leaves, or None where it fails. It flags the enqueues whose items were
+// given, and notes at each dequeue where its item was found.
 pub fn marks(
     m: &[u32; MEMORY],
-    flags: &mut [u32; MOST_EVENTS],
+    flags: &mut [bool; MOST_EVENTS],
     items: &mut [u32; MOST_EVENTS],
     c: usize,
-) -> Marked
+) -> Option<u32>
     requires { Numbered m.now c × (c ≤ most_events) × Given m.now c flags.old [] × (length items.old ≡ most_events) }
     ensures { Marks m.now c flags.new items.new result }
 {
-    let mut mark = 0;
-    let mut hint = 0;
-    let mut j = 0;
-    while j < c {
-        let moved = pass(m, flags, items, c, mark, hint, j);
-        match moved {
-            Moved::Stuck => {
-                return Marked::Fails;
-            }
-            Moved::To { mark: a, hint: b } => {
-                mark = a;
-                hint = b;
-            }
-        }
-        j += 1;
+    let mut progress = Progress { mark: 0, hint: 0 };
+    for j in 0..c {
+        progress = pass(m, flags, items, c, progress, j)?;
     }
-    Marked::Mark(mark)
+    Some(progress.mark)
 }

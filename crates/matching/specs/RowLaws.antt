@@ -1,5 +1,5 @@
 -- A thread's rows: one event more, and rows that cannot be the same.
-use Rattle.std.specs.Prelude.{◌≡◌, refl, ◌≢◌, Bool, true, false, ◌&&◌, List, [], ◌∷◌, ◌++◌, ℕ, zero, suc, ◌+◌, ◌-◌, ◌≤◌, ◌<◌, eqb, length, drop}
+use Rattle.std.specs.Prelude.{◌≡◌, refl, ◌≢◌, Bool, true, false, List, [], ◌∷◌, ◌++◌, ℕ, zero, suc, ◌+◌, ◌-◌, ◌≤◌, ◌<◌, eqb, length, drop}
 use Rattle.std.proofs.Common.{sym, ap, ◌∙◌, arith, zero-add, length-append, drop_at, eq-eqb, ne_eqb}
 use Rattle.matching.specs.Rows.{thread_in, row_at, rows_of}
 
@@ -63,11 +63,3 @@ longer_rows t ws m k q b =
 pub one_too_many :
     (t : ℕ) (ws : List ℕ) (m k : ℕ) (rows : List (List ℕ)) → k < m → thread_in ws k ≡ t → rows ≡ rows_of t ws k → rows ≢ rows_of t ws m
 one_too_many t ws m k rows q b e same = let l = longer_rows t ws m k q b in let u = ap length (sym e ∙ same) in omega arith
-
--- four tests, one after the other
-pub four_tests : (a b c d : Bool) → (((a && b) && c) && d) ≡ (a && (b && (c && (d && true))))
-four_tests true true true true = refl
-four_tests true true true false = refl
-four_tests true true false d = refl
-four_tests true false c d = refl
-four_tests false b c d = refl

@@ -11,8 +11,8 @@ ghost use Rattle.store.specs.Store.{Room};
 
 use admission::{sizes_in_range, store_words};
 use store::{
-    Reply, Shape, clear, put_content, put_last_claimed, put_part, put_use, record_at, size, usage,
-    word,
+    Refusal, Reply, Shape, clear, put_content, put_last_claimed, put_part, put_use, record_at,
+    size, usage, word,
 };
 
 // The sizes and first words of a store.
@@ -41,18 +41,18 @@ fn link_first(s: &mut [u32], z: Shape)
 }
 
 // *Open* zeroes the store, writes the contents, and links record 0. It is lent no buffer.
-pub fn open_store(s: &mut [u32], z: Shape) -> Reply
+pub fn open_store(s: &mut [u32], z: Shape) -> Result<Reply, Refusal>
     ensures { left result s.new [] 0 ≡ open_store (sizes z) s.old }
 {
     if !sizes_in_range(z) {
-        return Reply::Refused(1);
+        return Err(Refusal::Sizes);
     }
     let words = store_words(z);
     if s.len() < words {
-        return Reply::Refused(2);
+        return Err(Refusal::Short);
     }
     clear(s, 0, words as u32);
     write_contents(s, z);
     link_first(s, z);
-    Reply::Ok
+    Ok(Reply::Done)
 }

@@ -1,4 +1,3 @@
-pub mod Answering
 pub mod Prefixes
 pub mod Performing
 pub mod Walking

@@ -5,21 +5,21 @@ use mathlib.Core.Bool.{Bool, true, false, ◌&&◌, ◌||◌, not, cond}
 use mathlib.Core.Bool as bool
 use mathlib.Core.List.{List, [], ◌∷◌, ◌++◌, append-nil}
 use mathlib.Core.Option.{some}
+use Rattle.std.specs.Prelude.{Option, None}
 use Prim.Native.Nat.{ℕ, zero, suc, ◌+◌, ◌-◌, ◌≤◌, ◌<◌, max}
 use native.Mathlib.Omega.{arith}
 use native.Mathlib.Numerals.{add-one}
 use lib.Dec.{leb, ltb, eqb}
 use lib.ListN.{length, get_or, take, drop, set, length-set, drop_of_length-le}
-use lib.Seq.{take-suc, drop-cons, length-take-le, get_or-take, drop-append-le, get_or-set_same, get_or-set_other, take-length}
-use borrow.Author.Tests.{leb-true, eq-eqb, ne_eqb, ltb-true, ltb-false, not-true, not-false}
+use lib.Seq.{take-suc, drop-cons, length-take-le, get_or-take, drop-append-le, get_or-set_same, get_or-set_other}
+use borrow.Author.Tests.{leb-true, eq-eqb, ne_eqb, ltb-true, ltb-false}
 use Rattle.history.specs.Calls.{Answer, Call, start_of, end_of}
 use Rattle.history.specs.Linearization.{Queue, dequeue, perform, run}
 use Rattle.history.specs.Shows.{no_call, numbered, listed}
 use Rattle.reading.specs.Table.{start_at, end_at, answer_at, thread_at, value_at, answer_of, call_at, calls_in}
 use Rattle.reading.proofs.Builds.{length_build, get_d_build}
 use Rattle.reading.proofs.Logic.{same_or_not}
-use Rattle.order_check.specs.declared.Placed.{Placed}
-use Rattle.order_check.specs.declared.Placed.TheVariants.{Wrong, To}
+use Rattle.order_check.specs.declared.Progress.{Progress}
 use Rattle.order_check.specs.Check.{every, is_some, has, is_number, orderly}
 use Rattle.order_check.specs.Tests.{both, is_number_lem}
 use Rattle.order_check.specs.Decides.{orderly_parts}
@@ -34,7 +34,7 @@ module _ (m ns : List ℕ) (c : ℕ) where
   numbered_is : (n : ℕ) → 1 ≤ n → n ≤ c → numbered cs n ≡ call_at m (n - 1)
   numbered_is n l h = get_d_build (call_at m) c (n - 1) no_call (omega arith)
 
-  module _ (seen : List ℕ) (latest front k : ℕ) (w : Walked m ns seen c latest front k) (few : c ≤ 4096) where
+  module _ (seen : List Bool) (reached : Progress) (k : ℕ) (w : Walked m ns seen c reached k) (few : c ≤ 4096) where
     abbrev p : List ℕ
     p = take k ns
 
@@ -71,14 +71,14 @@ module _ (m ns : List ℕ) (c : ℕ) where
         ∙ skip d (suc from) f (omega arith) l (λ i a b. h i a (omega arith))
 
     -- the queue, by its front
-    module _ (f : ℕ) (is_front : FrontAt m ns front k f) where
+    module _ (f : ℕ) (is_front : FrontAt m ns reached.front k f) where
       -- what stands behind it
       abbrev rest : Queue
       rest = items (listed cs (drop (suc f) p))
 
-      queue_by_front : items (listed cs (drop front p)) ≡ cond (ltb f k) (item_of m (get_or ns f 0) ∷ rest) []
+      queue_by_front : items (listed cs (drop reached.front p)) ≡ cond (ltb f k) (item_of m (get_or ns f 0) ∷ rest) []
       queue_by_front =
-          skip (f - front) front f (omega (arith, is_front.not_before)) is_front.within is_front.are_dequeues ∙ go (ltb f k) refl
+          skip (f - reached.front) reached.front f (omega (arith, is_front.not_before)) is_front.within is_front.are_dequeues ∙ go (ltb f k) refl
         where
           go : (b : Bool) → ltb f k ≡ b → items (listed cs (drop f p)) ≡ cond b (item_of m (get_or ns f 0) ∷ rest) []
           go true e =
@@ -109,7 +109,7 @@ module _ (m ns : List ℕ) (c : ℕ) where
           ∙ ap (listed cs) (drop-append-le i p (n ∷ []) (omega (arith, length_p)))
           ∙ listed_append cs (drop i p) (n ∷ [])
 
-      runs_more : run [] (listed cs (take (suc k) ns)) ≡ run (items (listed cs (drop front p))) (call ∷ [])
+      runs_more : run [] (listed cs (take (suc k) ns)) ≡ run (items (listed cs (drop reached.front p))) (call ∷ [])
       runs_more = ap (run []) listed_more ∙ run_then [] _ (listed cs p) (call ∷ []) w.queue_is
 
       -- the tests on the number alone
@@ -120,10 +120,10 @@ module _ (m ns : List ℕ) (c : ℕ) where
       tests_left =
           ap (orderly cs) one_more ∙ orderly_last cs p n w.so_far ∙ ap (λ l. fits && is_some (run [] l)) (sym listed_more)
 
-      admits_is : admits_at m seen c n latest ≡ fits
+      admits_is : admits_at m seen c n reached.latest ≡ fits
       admits_is = go (leb 1 n && leb n c) refl
         where
-          go : (b : Bool) → (leb 1 n && leb n c) ≡ b → admits_at m seen c n latest ≡ fits
+          go : (b : Bool) → (leb 1 n && leb n c) ≡ b → admits_at m seen c n reached.latest ≡ fits
           go false e = let s = length_build (call_at m) c in rw (e, s, e)
           go true e =
               let t = both (leb 1 n) (leb n c) e in
@@ -131,14 +131,14 @@ module _ (m ns : List ℕ) (c : ℕ) where
               let high = leb-true n c t.1 in
               let s = length_build (call_at m) c in
               let j : suc (n - 1) ≡ n = omega arith in
-              let was : has n p ≡ eqb (get_or seen (n - 1) 0) 1 = subst (λ x. has x p ≡ eqb (get_or seen (n - 1) 0) 1) j (w.seen_are.flagged (n - 1) (omega arith)) in
+              let was : has n p ≡ get_or seen (n - 1) false = subst (λ x. has x p ≡ get_or seen (n - 1) false) j (w.seen_are.flagged (n - 1) (omega arith)) in
               let end : end_of call ≡ end_at m (n - 1) = ap end_of (numbered_is n low high) ∙ end_is _ _ _ _ _ (thread_at m (n - 1)) in
               rw (e, s, e, was, end, w.latest_is (end_at m (n - 1)))
 
-      pub not_admitted : admits_at m seen c n latest ≡ false → orderly cs (take (k + 1) ns) ≡ false
+      pub not_admitted : admits_at m seen c n reached.latest ≡ false → orderly cs (take (k + 1) ns) ≡ false
       not_admitted e = rw (add-one k) (tests_left ∙ ap (λ b. b && is_some (run [] (listed cs (take (suc k) ns)))) (sym admits_is ∙ e))
 
-      module _ (admitted : admits_at m seen c n latest ≡ true) where
+      module _ (admitted : admits_at m seen c n reached.latest ≡ true) where
         run_decides : orderly cs (take (suc k) ns) ≡ is_some (run [] (listed cs (take (suc k) ns)))
         run_decides = tests_left ∙ ap (λ b. b && is_some (run [] (listed cs (take (suc k) ns)))) (sym admits_is ∙ admitted)
 
@@ -151,41 +151,41 @@ module _ (m ns : List ℕ) (c : ℕ) where
         call_is : call ≡ call_at m (n - 1)
         call_is = numbered_is n is_number_then.0 is_number_then.1
 
-        performs_more : run [] (listed cs (take (suc k) ns)) ≡ perform (call_at m (n - 1)) (items (listed cs (drop front p)))
-        performs_more = runs_more ∙ run_one call _ ∙ ap (λ x. perform x (items (listed cs (drop front p)))) call_is
+        performs_more : run [] (listed cs (take (suc k) ns)) ≡ perform (call_at m (n - 1)) (items (listed cs (drop reached.front p)))
+        performs_more = runs_more ∙ run_one call _ ∙ ap (λ x. perform x (items (listed cs (drop reached.front p)))) call_is
 
-        flagged_then : Seen c (set seen (n - 1) 1) (take (suc k) ns)
+        flagged_then : Seen c (set seen (n - 1) true) (take (suc k) ns)
         flagged_then = record {
-          size = length-set seen (n - 1) 1 ∙ w.seen_are.size;
+          size = length-set seen (n - 1) true ∙ w.seen_are.size;
           flagged = λ j l. ap (has (suc j)) one_more ∙ has_last (suc j) p n ∙ go j l (same_or_not j (n - 1));
         }
           where
-            go : (j : ℕ) → j < c → (j ≡ n - 1) ⊎ (j ≢ n - 1) → (has (suc j) p || eqb n (suc j)) ≡ eqb (get_or (set seen (n - 1) 1) j 0) 1
+            go : (j : ℕ) → j < c → (j ≡ n - 1) ⊎ (j ≢ n - 1) → (has (suc j) p || eqb n (suc j)) ≡ get_or (set seen (n - 1) true) j false
             go j l (inl e) =
                 let r = is_number_then in
                 let a = eq-eqb n (suc j) (omega (arith, r)) in
-                let b = get_or-set_same seen (n - 1) 1 0 (omega (arith, w.seen_are.size, r)) in
+                let b = get_or-set_same seen (n - 1) true false (omega (arith, w.seen_are.size, r)) in
                 rw (a, e, b) (bool.or-true (has (suc (n - 1)) p))
             go j l (inr d) =
                 let r = is_number_then in
                 let a = ne_eqb n (suc j) (λ z. d (omega arith)) in
-                let b = get_or-set_other seen (n - 1) j 1 0 d in
+                let b = get_or-set_other seen (n - 1) j true false d in
                 rw (a, b) (bool.or-false (has (suc j) p) ∙ w.seen_are.flagged j l)
 
         latest_then :
-            (late : ℕ) → late ≡ max latest (start_at m (n - 1)) → (e : ℕ) → every (λ a. leb (start_of a) e) (listed cs (take (suc k) ns)) ≡ leb late e
+            (late : ℕ) → late ≡ max reached.latest (start_at m (n - 1)) → (e : ℕ) → every (λ a. leb (start_of a) e) (listed cs (take (suc k) ns)) ≡ leb late e
         latest_then late i e =
             ap (every (λ a. leb (start_of a) e)) listed_more
             ∙ every_last (λ a. leb (start_of a) e) (listed cs p) call
             ∙ ap (λ b. b && leb (start_of call) e) (w.latest_is e)
-            ∙ ap (λ s. leb latest e && leb s e) (ap start_of call_is ∙ start_is _ _ _ _ _ (thread_at m (n - 1)))
-            ∙ max_below latest (start_at m (n - 1)) e
+            ∙ ap (λ s. leb reached.latest e && leb s e) (ap start_of call_is ∙ start_is _ _ _ _ _ (thread_at m (n - 1)))
+            ∙ max_below reached.latest (start_at m (n - 1)) e
             ∙ ap (λ x. leb x e) (sym i)
 
         goes_on_lem :
-            (late then : ℕ) → late ≡ max latest (start_at m (n - 1)) → then ≤ suc k
+            (late then : ℕ) → late ≡ max reached.latest (start_at m (n - 1)) → then ≤ suc k
             → run [] (listed cs (take (suc k) ns)) ≡ some (items (listed cs (drop then (take (suc k) ns))))
-            → Walked m ns (set seen (n - 1) 1) c late then (k + 1)
+            → Walked m ns (set seen (n - 1) true) c (record { latest = late; front = then }) (k + 1)
         goes_on_lem late then i l q =
             rw (add-one k)
             (record {
@@ -198,22 +198,22 @@ module _ (m ns : List ℕ) (c : ℕ) where
             })
 
         pub enqueue_goes_on :
-            (late : ℕ) → late ≡ max latest (start_at m (n - 1)) → thread_at m (n - 1) ≢ 0 → Walked m ns (set seen (n - 1) 1) c late front (k + 1)
-        enqueue_goes_on late i d = goes_on_lem late front i (omega (arith, w.front_within)) (is_some_lem ∙ ap some (sym is-queue))
+            (late : ℕ) → late ≡ max reached.latest (start_at m (n - 1)) → thread_at m (n - 1) ≢ 0 → Walked m ns (set seen (n - 1) true) c (record { latest = late; front = reached.front }) (k + 1)
+        enqueue_goes_on late i d = goes_on_lem late reached.front i (omega (arith, w.front_within)) (is_some_lem ∙ ap some (sym is-queue))
           where
-            is_some_lem : run [] (listed cs (take (suc k) ns)) ≡ some (items (listed cs (drop front p)) ++ (item_of m n ∷ []))
+            is_some_lem : run [] (listed cs (take (suc k) ns)) ≡ some (items (listed cs (drop reached.front p)) ++ (item_of m n ∷ []))
             is_some_lem =
                 performs_more ∙ enqueue_performs _ _ _ _ _ (thread_at m (n - 1)) _ d
 
-            is-queue : items (listed cs (drop front (take (suc k) ns))) ≡ items (listed cs (drop front p)) ++ (item_of m n ∷ [])
+            is-queue : items (listed cs (drop reached.front (take (suc k) ns))) ≡ items (listed cs (drop reached.front p)) ++ (item_of m n ∷ [])
             is-queue =
-                ap items (drop_more front w.front_within)
-                ∙ items_append (listed cs (drop front p)) (call ∷ [])
-                ∙ ap (λ x. items (listed cs (drop front p)) ++ x)
+                ap items (drop_more reached.front w.front_within)
+                ∙ items_append (listed cs (drop reached.front p)) (call ∷ [])
+                ∙ ap (λ x. items (listed cs (drop reached.front p)) ++ x)
                 (ap (λ x. items (x ∷ [])) call_is ∙ enqueue_items _ _ _ _ _ (thread_at m (n - 1)) [] d)
 
         -- a dequeue, with the front of the queue at place f
-        module _ (dequeues : thread_at m (n - 1) ≡ 0) (f : ℕ) (is_front : FrontAt m ns front k f) where
+        module _ (dequeues : thread_at m (n - 1) ≡ 0) (f : ℕ) (is_front : FrontAt m ns reached.front k f) where
           abbrev answer : Answer
           answer = answer_of (end_at m (n - 1)) (answer_at m (n - 1)) (value_at m (n - 1))
 
@@ -228,8 +228,8 @@ module _ (m ns : List ℕ) (c : ℕ) where
           answers_wrong e = rw (add-one k) (run_decides ∙ by_front ∙ e)
 
           pub dequeue_goes_on :
-              (late : ℕ) → late ≡ max latest (start_at m (n - 1)) → answers_at m ns f k (n - 1) ≡ true
-              → Walked m ns (set seen (n - 1) 1) c late (f + 1) (k + 1)
+              (late : ℕ) → late ≡ max reached.latest (start_at m (n - 1)) → answers_at m ns f k (n - 1) ≡ true
+              → Walked m ns (set seen (n - 1) true) c (record { latest = late; front = f + 1 }) (k + 1)
           dequeue_goes_on late i e =
               rw (add-one f)
               (goes_on_lem late (suc f) i (omega (arith, is_front.within))
@@ -248,52 +248,41 @@ module _ (m ns : List ℕ) (c : ℕ) where
                   ap (λ x. items (listed cs x)) (drop_of_length-le (take (suc k) ns) z)
 
 -- The same for the code: the number's call stands at j, and what the tests replied.
-module _ (m ns seen : List ℕ) (c latest front k : ℕ) (w : Walked m ns seen c latest front k) (few : c ≤ 4096) (more : k < length ns) (r : Bool)
-    (admits : r ≡ admits_at m seen c (get_or ns k 0) latest) where
-  pub wrong_number : not r ≡ true → orderly (calls_in m c) (take (k + 1) ns) ≡ false
-  wrong_number t = not_admitted m ns c seen latest front k w few more (sym admits ∙ not-true r t)
+module _ (m ns : List ℕ) (seen : List Bool) (c : ℕ) (reached : Progress) (k : ℕ) (w : Walked m ns seen c reached k) (few : c ≤ 4096) (more : k < length ns) (r : Bool)
+    (admits : r ≡ admits_at m seen c (get_or ns k 0) reached.latest) where
+  pub wrong_number : r ≡ false → orderly (calls_in m c) (take (k + 1) ns) ≡ false
+  wrong_number t = not_admitted m ns c seen reached k w few more (sym admits ∙ t)
 
-  module _ (t : not r ≡ false) where
-    admitted : admits_at m seen c (get_or ns k 0) latest ≡ true
-    admitted = sym admits ∙ not-false r t
+  module _ (t : r ≡ true) where
+    admitted : admits_at m seen c (get_or ns k 0) reached.latest ≡ true
+    admitted = sym admits ∙ t
 
-    pub its_number : (1 ≤ get_or ns k 0) × (get_or ns k 0 ≤ 4096)
-    its_number = let n = is_number_then m ns c seen latest front k w few more admitted in omega (arith, n)
-
-    module _ (j : ℕ) (at : j ≡ get_or ns k 0 - 1) (late : ℕ) (is-late : late ≡ max latest (start_at m j)) where
-      pub enqueue_placed : thread_at m j ≢ 0 → Walked m ns (set seen j 1) c late front (k + 1)
+    module _ (j : ℕ) (at : j ≡ get_or ns k 0 - 1) (late : ℕ) (is-late : late ≡ max reached.latest (start_at m j)) where
+      pub enqueue_placed : thread_at m j ≢ 0 → Walked m ns (set seen j true) c (record { latest = late; front = reached.front }) (k + 1)
       enqueue_placed d =
           rw at
-          (enqueue_goes_on m ns c seen latest front k w few more admitted late (is-late ∙ ap (λ x. max latest (start_at m x)) at)
+          (enqueue_goes_on m ns c seen reached k w few more admitted late (is-late ∙ ap (λ x. max reached.latest (start_at m x)) at)
           (λ z. d (ap (thread_at m) at ∙ z)))
 
-      module _ (z : thread_at m j ≡ 0) (f : ℕ) (is_front : FrontAt m ns front k f) (a : Bool) (answers : a ≡ answers_at m ns f k j) where
+      module _ (z : thread_at m j ≡ 0) (f : ℕ) (is_front : FrontAt m ns reached.front k f) (a : Bool) (answers : a ≡ answers_at m ns f k j) where
         abbrev is_dequeue : thread_at m (get_or ns k 0 - 1) ≡ 0
         is_dequeue = sym (ap (thread_at m) at) ∙ z
 
-        pub wrong_answer : not a ≡ true → orderly (calls_in m c) (take (k + 1) ns) ≡ false
+        pub wrong_answer : a ≡ false → orderly (calls_in m c) (take (k + 1) ns) ≡ false
         wrong_answer e =
-            answers_wrong m ns c seen latest front k w few more admitted is_dequeue f is_front
-            (sym (ap (answers_at m ns f k) at) ∙ sym answers ∙ not-true a e)
+            answers_wrong m ns c seen reached k w few more admitted is_dequeue f is_front
+            (sym (ap (answers_at m ns f k) at) ∙ sym answers ∙ e)
 
-        pub dequeue_placed : not a ≡ false → Walked m ns (set seen j 1) c late (f + 1) (k + 1)
+        pub dequeue_placed : a ≡ true → Walked m ns (set seen j true) c (record { latest = late; front = f + 1 }) (k + 1)
         dequeue_placed e =
             rw at
-            (dequeue_goes_on m ns c seen latest front k w few more admitted is_dequeue f is_front late (is-late ∙ ap (λ x. max latest (start_at m x)) at)
-            (sym (ap (answers_at m ns f k) at) ∙ sym answers ∙ not-false a e))
+            (dequeue_goes_on m ns c seen reached k w few more admitted is_dequeue f is_front late (is-late ∙ ap (λ x. max reached.latest (start_at m x)) at)
+            (sym (ap (answers_at m ns f k) at) ∙ sym answers ∙ e))
 
 -- The whole walk.
-module _ (m ns seen : List ℕ) (c k : ℕ) (r : Placed) (places : Places m ns seen c k r) where
-  pub walk_fails : r ≡ Wrong → Walks m ns seen c false
+module _ (m ns : List ℕ) (seen : List Bool) (c k : ℕ) (r : Option Progress) (places : Places m ns seen c k r) where
+  pub walk_fails : r ≡ None → Walks m ns seen c false
   walk_fails e = record {
     decides = sym (beginning_fails (calls_in m c) ns k (subst (Places m ns seen c k) e places));
     seen_are = λ z. absurd (bool.false≢true z);
   }
-
-  pub walk_goes_on : (latest front : ℕ) → r ≡ To latest front → Walked m ns seen c latest front k
-  walk_goes_on latest front e = subst (Places m ns seen c k) e places
-
-pub walk_ends : (m ns seen : List ℕ) (c latest front k : ℕ) → Walked m ns seen c latest front k → k ≡ length ns → Walks m ns seen c true
-walk_ends m ns seen c latest front k w e =
-    let z : take k ns ≡ ns = ap (λ i. take i ns) e ∙ take-length ns in
-    record { decides = sym (rw z at w.so_far); seen_are = λ t. rw z at w.seen_are }

@@ -1,13 +1,11 @@
 -- The check of an order as a computation (document 02, U9): one test for each part of `Shows` and of `Linearization`.
-use Rattle.std.specs.Prelude.{Bool, true, false, ◌&&◌, ◌||◌, not, cond, List, [], ◌∷◌, ℕ, suc, leb, ltb, eqb, length}
+use Rattle.std.specs.Prelude.{Bool, true, false, ◌&&◌, ◌||◌, not, List, [], ◌∷◌, ℕ, suc, leb, ltb, eqb, length, Result, Ok, Err}
 use Rattle.std.proofs.Math.Option.{Option, none, some}
 use Rattle.history.specs.Event.{History}
 use Rattle.history.specs.Calls.{Call, start_of, end_of, calls}
 use Rattle.history.specs.Form.{Reading, refused, history}
 use Rattle.history.specs.Linearization.{run}
 use Rattle.history.specs.Shows.{listed}
-use Rattle.order_check.specs.declared.Checked.{Checked}
-use Rattle.order_check.specs.declared.Checked.TheVariants.{Refused, Yes, No}
 
 module _ {A : Type 0} where
   -- p says yes to every element
@@ -55,7 +53,7 @@ keeps n (c ∷ cs) ns = (eqb (end_of c) 0 || has n ns) && keeps (suc n) cs ns
 unfoldable pub is_order : History → List ℕ → Bool
 is_order h ns = orderly (calls h) ns && keeps 1 (calls h) ns
 
--- The reply on what the words are read as: a refusal's number, or yes or no.
-abbrev pub checked : Reading → List ℕ → Checked
-checked (refused n) ns = Refused n
-checked (history h) ns = cond (is_order h ns) Yes No
+-- The reply on what the words are read as: a refusal's number, or whether the numbers are such an order.
+abbrev pub checked : Reading → List ℕ → Result Bool ℕ
+checked (refused n) ns = Err n
+checked (history h) ns = Ok (is_order h ns)

@@ -1,6 +1,6 @@
 -- What the check's reply means. It says yes exactly when the numbers show that the history is linearizable; it refuses exactly when
 -- the words are refused, with 10, 12 or 13.
-use Rattle.std.specs.Prelude.{◌≡◌, refl, ◌⊎◌, ◌≢◌, ◌↔◌, Bool, true, false, ◌||◌, not, cond, List, [], ◌∷◌, ℕ, suc, ◌+◌, ◌<◌, ◌≤◌, eqb, length, get_or}
+use Rattle.std.specs.Prelude.{◌≡◌, refl, ◌⊎◌, ◌≢◌, ◌↔◌, Bool, true, false, ◌||◌, not, List, [], ◌∷◌, ℕ, suc, ◌+◌, ◌<◌, ◌≤◌, eqb, length, get_or, Ok, Err}
 use Rattle.std.proofs.Common.{sym, ap, subst, ◌∙◌, inl, inr, arith, eqb-true, eq-eqb}
 use Rattle.std.proofs.lemmas.Bool.{eqb-false}
 use Rattle.history.specs.Lists.{All, Pairwise, Member}
@@ -10,7 +10,6 @@ use Rattle.history.specs.Form.{most_events, Reading, refused, history, read}
 use Rattle.history.specs.Linearization.{Precedes, run, Linearizable}
 use Rattle.reading.specs.Admitted.{Refusal, refused_by_10_12_or_13}
 use Rattle.history.specs.Shows.{no_call, numbered, listed, Numbers, Shows}
-use Rattle.order_check.specs.declared.Checked.TheVariants.{Refused, Yes, No}
 use Rattle.order_check.specs.Check.{every, every_two, is_some, has, is_number, precedes, orderly, keeps, is_order, checked}
 use Rattle.history.specs.Starts.{start_tells_number}
 use Rattle.order_check.specs.Tests.{both, and_true, either, not_then, then_not, every_all, all_every, every_two_pairwise, pairwise_every_two, is_some_lem, all_at, in_map, from_map, all_map, has_member, member_has, is_number_lem, number_is, numbered_member, precedes_true, true_precedes}
@@ -136,44 +135,33 @@ shows h ns s =
 pub is_order_exactly_when_shows : (h : History) (ns : List ℕ) → (is_order h ns ≡ true) ↔ Shows h ns
 is_order_exactly_when_shows h ns = (shown h ns, shows h ns)
 
--- no two replies are one
-yes_only : (b : Bool) → cond b Yes No ≡ Yes → b ≡ true
-yes_only true e = refl
-yes_only false e = absurd (let z : ◌≡◌ {A = ℕ} 0 1 = cc in omega arith)
-
-no_refusal : (b : Bool) (n : ℕ) → cond b Yes No ≡ Refused n → ⊥
-no_refusal true n e = let z : ◌≡◌ {A = ℕ} 0 1 = cc in omega arith
-no_refusal false n e = let z : ◌≡◌ {A = ℕ} 0 1 = cc in omega arith
-
 -- On words that are read as a history the check says yes exactly when the order shows that it is linearizable, and else no.
 pub yes_exactly_when_shows :
-    (words order : List ℕ) (h : History) → read most_events words ≡ history h → (checked (read most_events words) order ≡ Yes) ↔ Shows h order
+    (words order : List ℕ) (h : History) → read most_events words ≡ history h → (checked (read most_events words) order ≡ Ok true) ↔ Shows h order
 yes_exactly_when_shows words order h e = (
-  λ x. shown h order (yes_only (is_order h order) (sym (ap (λ r. checked r order) e) ∙ x)),
-  λ s. ap (λ r. checked r order) e ∙ ap (λ b. cond b Yes No) (shows h order s),
+  λ x. shown h order (let z : Ok (is_order h order) ≡ Ok true = sym (ap (λ r. checked r order) e) ∙ x in cc),
+  λ s. ap (λ r. checked r order) e ∙ ap Ok (shows h order s),
 )
 
 -- So a yes alone, whoever wrote the order, is enough to accept the history as linearizable.
-pub yes_linearizable : (words order : List ℕ) → checked (read most_events words) order ≡ Yes → (h : History) × (read most_events words ≡ history h) × Linearizable h
+pub yes_linearizable : (words order : List ℕ) → checked (read most_events words) order ≡ Ok true → (h : History) × (read most_events words ≡ history h) × Linearizable h
 yes_linearizable words order y = go (read most_events words) refl
   where
     go : (x : Reading) → read most_events words ≡ x → (h : History) × (read most_events words ≡ history h) × Linearizable h
-    go (refused n) e =
-        let z : Refused n ≡ Yes = sym (ap (λ r. checked r order) e) ∙ y in
-        absurd (let o : ◌≡◌ {A = ℕ} 0 1 = cc in omega arith)
+    go (refused n) e = let z : Err n ≡ Ok true = sym (ap (λ r. checked r order) e) ∙ y in cc
     go (history h) e =
         let s = (yes_exactly_when_shows words order h e).0 y in
         (h, e, (listed (calls h) order, s.left, s.linearizes))
 
 -- The check refuses with a number exactly when the words are refused with it.
 pub refused_exactly_when_reading_refuses :
-    (words order : List ℕ) (n : ℕ) → (checked (read most_events words) order ≡ Refused n) ↔ (read most_events words ≡ refused n)
+    (words order : List ℕ) (n : ℕ) → (checked (read most_events words) order ≡ Err n) ↔ (read most_events words ≡ refused n)
 refused_exactly_when_reading_refuses words order n = (only (read most_events words), λ e. ap (λ r. checked r order) e)
   where
-    only : (x : Reading) → checked x order ≡ Refused n → x ≡ refused n
+    only : (x : Reading) → checked x order ≡ Err n → x ≡ refused n
     only (refused k) e = ap refused (cc)
-    only (history h) e = absurd (no_refusal (is_order h order) n e)
+    only (history h) e = cc
 
 -- The numbers that it refuses with: 11 is about a table, which it is not lent.
-pub refusals_are_10_12_or_13 : (words order : List ℕ) (n : ℕ) → checked (read most_events words) order ≡ Refused n → Refusal n
+pub refusals_are_10_12_or_13 : (words order : List ℕ) (n : ℕ) → checked (read most_events words) order ≡ Err n → Refusal n
 refusals_are_10_12_or_13 words order n e = refused_by_10_12_or_13 words n ((refused_exactly_when_reading_refuses words order n).0 e)

@@ -1,13 +1,13 @@
 -- The check's walk over the order, on the working memory: what holds after its first numbers, and what its functions say.
-use Rattle.std.specs.Prelude.{◌≡◌, ◌≢◌, Bool, true, false, ◌&&◌, ◌||◌, not, cond, List, [], ◌∷◌, ℕ, zero, suc, ◌-◌, ◌≤◌, ◌<◌, leb, ltb, eqb, length, get_or, take, drop}
+use Rattle.std.specs.Prelude.{◌≡◌, ◌≢◌, Bool, true, false, ◌&&◌, ◌||◌, not, cond, List, [], ◌∷◌, ℕ, suc, ◌-◌, ◌≤◌, ◌<◌, leb, ltb, eqb, length, get_or, take, drop, Option, Some, None}
+use Rattle.std.specs.List.{list_all, range_with_len}
 use Rattle.std.proofs.Math.Option.{some}
 use Rattle.history.specs.Calls.{Call, enq, deq, start_of}
 use Rattle.history.specs.Form.{most_events}
 use Rattle.history.specs.Linearization.{Item, Queue, dequeue, run}
 use Rattle.history.specs.Shows.{listed}
 use Rattle.reading.specs.Table.{end_at, answer_at, thread_at, number_at, value_at, answer_of, calls_in}
-use Rattle.order_check.specs.declared.Placed.{Placed}
-use Rattle.order_check.specs.declared.Placed.TheVariants.{Wrong, To}
+use Rattle.order_check.specs.declared.Progress.{Progress}
 use Rattle.order_check.specs.Check.{every, is_some, has, orderly}
 
 -- The first k numbers may stand for calls in the memory.
@@ -15,9 +15,9 @@ abbrev pub InRange : (ns : List ℕ) (k : ℕ) → Type 0
 InRange ns k = (i : ℕ) → i < k → (1 ≤ get_or ns i 0) × (get_or ns i 0 ≤ most_events)
 
 -- Number n may come next: it is a starting number, is not flagged, and its call has not ended before the latest start.
-abbrev pub admits_at : (m seen : List ℕ) (c n latest : ℕ) → Bool
+abbrev pub admits_at : (m : List ℕ) (seen : List Bool) (c n latest : ℕ) → Bool
 admits_at m seen c n latest =
-    (leb 1 n && leb n c) && (not (eqb (get_or seen (n - 1) 0) 1) && (eqb (end_at m (n - 1)) 0 || leb latest (end_at m (n - 1))))
+    (leb 1 n && leb n c) && (not (get_or seen (n - 1) false) && (eqb (end_at m (n - 1)) 0 || leb latest (end_at m (n - 1))))
 
 -- The first of places from to k of the order that has an enqueue, or k.
 pub record FrontAt (m ns : List ℕ) (from k r : ℕ) : Type 0 where
@@ -48,31 +48,33 @@ items [] = []
 items (enq x ∷ cs) = record { number = x.number; value = x.value } ∷ items cs
 items (deq d ∷ cs) = items cs
 
--- The flags of the calls: 1 exactly where the call is listed.
-pub record Seen (c : ℕ) (seen ns : List ℕ) : Type 0 where
+-- The flags of the calls: true exactly where the call is listed.
+pub record Seen (c : ℕ) (seen : List Bool) (ns : List ℕ) : Type 0 where
   pub size : length seen ≡ most_events
-  pub flagged : (j : ℕ) → j < c → has (suc j) ns ≡ eqb (get_or seen j 0) 1
+  pub flagged : (j : ℕ) → j < c → has (suc j) ns ≡ get_or seen j false
 
 -- What holds once the first k numbers of the order have passed every test. The queue is the enqueues among places front to k.
-pub record Walked (m ns seen : List ℕ) (c latest front k : ℕ) : Type 0 where
+pub record Walked (m ns : List ℕ) (seen : List Bool) (c : ℕ) (p : Progress) (k : ℕ) : Type 0 where
   pub within : k ≤ length ns
   pub so_far : orderly (calls_in m c) (take k ns) ≡ true
   pub seen_are : Seen c seen (take k ns)
-  pub latest_is : (e : ℕ) → every (λ a. leb (start_of a) e) (listed (calls_in m c) (take k ns)) ≡ leb latest e
-  pub front_within : front ≤ k
-  pub queue_is : run [] (listed (calls_in m c) (take k ns)) ≡ some (items (listed (calls_in m c) (drop front (take k ns))))
+  pub latest_is : (e : ℕ) → every (λ a. leb (start_of a) e) (listed (calls_in m c) (take k ns)) ≡ leb p.latest e
+  pub front_within : p.front ≤ k
+  pub queue_is : run [] (listed (calls_in m c) (take k ns)) ≡ some (items (listed (calls_in m c) (drop p.front (take k ns))))
 
 -- One number more: it fails a test, or the walk goes on.
-abbrev pub Places : (m ns seen : List ℕ) (c k : ℕ) → Placed → Type 0
-Places m ns seen c k Wrong = orderly (calls_in m c) (take k ns) ≡ false
-Places m ns seen c k (To latest front) = Walked m ns seen c latest front k
+abbrev pub Places : (m ns : List ℕ) (seen : List Bool) (c k : ℕ) → Option Progress → Type 0
+Places m ns seen c k None = orderly (calls_in m c) (take k ns) ≡ false
+Places m ns seen c k (Some p) = Walked m ns seen c p k
 
 -- The whole walk: whether all numbers pass, and then the flags are theirs.
-pub record Walks (m ns seen : List ℕ) (c : ℕ) (r : Bool) : Type 0 where
+pub record Walks (m ns : List ℕ) (seen : List Bool) (c : ℕ) (r : Bool) : Type 0 where
   pub decides : r ≡ orderly (calls_in m c) ns
   pub seen_are : r ≡ true → Seen c seen ns
 
--- Each of the first c calls has not ended or is flagged.
-abbrev pub all_seen : (m seen : List ℕ) (c : ℕ) → Bool
-all_seen m seen zero = true
-all_seen m seen (suc c) = all_seen m seen c && (eqb (end_at m c) 0 || eqb (get_or seen c 0) 1)
+-- Call j has not ended or is flagged; each of the first c calls.
+abbrev pub kept_at : (m : List ℕ) (seen : List Bool) (j : ℕ) → Bool
+kept_at m seen j = eqb (end_at m j) 0 || get_or seen j false
+
+abbrev pub all_seen : (m : List ℕ) (seen : List Bool) (c : ℕ) → Bool
+all_seen m seen c = list_all (kept_at m seen) (range_with_len 0 c)

@@ -4,31 +4,30 @@
 
 ghost use Rattle.std.specs.Prelude.{◌≡◌, ◌&&◌, ◌||◌, ◌+◌, ◌-◌, ◌≤◌, ◌<◌, leb, eqb, length};
 ghost use Rattle.history.specs.Form.{most_events, read};
+ghost use Rattle.reading.specs.Refusal.{numbered};
 ghost use Rattle.reading.specs.Table.{end_at, calls_in};
 ghost use Rattle.order_check.specs.Check.{orderly, keeps, checked};
 ghost use Rattle.order_check.specs.Walk.{InRange, admits_at, FrontAt, gives_at, answers_at, Walked, Places, Walks, all_seen};
 
-use reading::{
-    ANSWER, END, Entered, MEMORY, MOST_EVENTS, NUMBER, START, THREAD, VALUE, larger, read,
-};
+use reading::{ANSWER, END, MEMORY, MOST_EVENTS, NUMBER, Refusal, START, THREAD, VALUE, read};
 
 // The starting number of the call that started first.
 const FIRST: u32 = 1;
 
-// The check's reply: a refusal's number, or whether the order is a linearization (specs/Check.antt).
+// How far the walk has come: the latest start so far, and the place of the order from which the front of the queue is looked for.
 #[derive(Clone, Copy)]
-pub enum Checked {
-    Refused(u32),
-    Yes,
-    No,
+struct Progress {
+    latest: u32,
+    front: usize,
 }
 
-// What one number of the order does to the walk: it is wrong, or the walk goes on with the latest start so far, and with the place
-// of the order from which the front of the queue is looked for.
+// What is checked: the calls in the working memory, and the numbers of an order of them.
 #[derive(Clone, Copy)]
-enum Placed {
-    Wrong,
-    To { latest: u32, front: usize },
+struct Listing<'a> {
+    memory: &'a [u32; MEMORY],
+    calls: usize,
+    order: &'a [u32],
+    ghost few: { calls ≤ most_events },
 }
 
 // Where the call with a starting number stands in the working memory.
@@ -43,204 +42,134 @@ fn call_of(number: u32) -> usize
 fn is_number(number: u32, c: usize) -> bool
     ensures { result ≡ (leb 1 number && leb number c) }
 {
-    (FIRST <= number) & (number as usize <= c)
+    FIRST <= number && number as usize <= c
 }
 
-// Whether call j has not ended before the latest start.
-fn in_time(m: &[u32; MEMORY], j: usize, latest: u32) -> bool
-    requires { j < most_events }
-    ensures { result ≡ (eqb (end_at m.now j) 0 || leb latest (end_at m.now j)) }
-{
-    let end = m[END + j];
-    if end == 0 {
-        return true;
+impl Listing<'_> {
+    // Whether call j has not ended before the latest start.
+    fn in_time(&self, j: usize, latest: u32) -> bool
+        requires { j < most_events }
+        ensures { result ≡ (eqb (end_at self.now.memory.now j) 0 || leb latest (end_at self.now.memory.now j)) }
+    {
+        let end = self.memory[END + j];
+        end == 0 || latest <= end
     }
-    if end < latest {
-        return false;
-    }
-    true
-}
 
-// Whether this number may come next: a starting number, not seen before, and its call in time.
-fn admits(m: &[u32; MEMORY], seen: &[u32; MOST_EVENTS], c: usize, number: u32, latest: u32) -> bool
-    requires { c ≤ most_events }
-    ensures { result ≡ admits_at m.now seen.now c number latest }
-{
-    if !is_number(number, c) {
-        return false;
+    // Whether this number may come next: a starting number, not seen before, and its call in time.
+    fn admits(&self, seen: &[bool; MOST_EVENTS], number: u32, latest: u32) -> bool
+        ensures { result ≡ admits_at self.now.memory.now seen.now self.now.calls number latest }
+    {
+        is_number(number, self.calls)
+            && !seen[call_of(number)]
+            && self.in_time(call_of(number), latest)
     }
-    let j = call_of(number);
-    if seen[j] == 1 {
-        return false;
-    }
-    in_time(m, j, latest)
-}
 
-// The first of places from to k of the order that has an enqueue, or k: the front of the queue.
-fn front_of(m: &[u32; MEMORY], order: &[u32], from: usize, k: usize) -> usize
-    requires { (from ≤ k) × (k ≤ length order.now) × InRange order.now k }
-    ensures { FrontAt m.now order.now from k result }
-{
-    let mut f = from;
-    while f < k {
-        let i = call_of(order[f]);
-        if m[THREAD + i] != 0 {
-            return f;
+    // The first of places from to k of the order that has an enqueue, or k: the front of the queue.
+    // Stays: an Option would be no plainer than k for none, since the next front is looked for behind that place either way.
+    fn front_of(&self, from: usize, k: usize) -> usize
+        requires { (from ≤ k) × (k ≤ length self.now.order.now) × InRange self.now.order.now k }
+        ensures { FrontAt self.now.memory.now self.now.order.now from k result }
+    {
+        for f in from..k {
+            if self.memory[THREAD + call_of(self.order[f])] != 0 {
+                return f;
+            }
         }
-        f += 1;
+        k
     }
-    k
-}
 
-// Whether dequeue j gave the item of enqueue i: its number and its value.
-fn gives(m: &[u32; MEMORY], i: usize, j: usize) -> bool
-    requires { (i < most_events) × (j < most_events) }
-    ensures { result ≡ gives_at m.now i j }
-{
-    if m[NUMBER + i] != m[ANSWER + j] {
-        return false;
+    // Whether dequeue j gave the item of enqueue i: its number and its value.
+    fn gives(&self, i: usize, j: usize) -> bool
+        requires { (i < most_events) × (j < most_events) }
+        ensures { result ≡ gives_at self.now.memory.now i j }
+    {
+        let m = self.memory;
+        m[NUMBER + i] == m[ANSWER + j] && m[VALUE + i] == m[VALUE + j]
     }
-    if m[VALUE + i] != m[VALUE + j] {
-        return false;
-    }
-    true
-}
 
-// Whether dequeue j may answer as it did, with the front of the queue at place f of the order, or an empty queue if that is k.
-fn answers(m: &[u32; MEMORY], order: &[u32], f: usize, k: usize, j: usize) -> bool
-    requires { (k ≤ length order.now) × (j < most_events) × InRange order.now k }
-    ensures { result ≡ answers_at m.now order.now f k j }
-{
-    if m[END + j] == 0 {
-        return true;
+    // Whether dequeue j may answer as it did, with the front of the queue at place f of the order, or an empty queue if that is k.
+    fn answers(&self, f: usize, k: usize, j: usize) -> bool
+        requires { (k ≤ length self.now.order.now) × (j < most_events) × InRange self.now.order.now k }
+        ensures { result ≡ answers_at self.now.memory.now self.now.order.now f k j }
+    {
+        if self.memory[END + j] == 0 {
+            return true;
+        }
+        if self.memory[ANSWER + j] == 0 {
+            return k <= f;
+        }
+        f < k && self.gives(call_of(self.order[f]), j)
     }
-    if m[ANSWER + j] == 0 {
-        return k <= f;
-    }
-    if k <= f {
-        return false;
-    }
-    let i = call_of(order[f]);
-    gives(m, i, j)
-}
 
-// The number at place k of the order.
-fn place(
-    m: &[u32; MEMORY],
-    order: &[u32],
-    seen: &mut [u32; MOST_EVENTS],
-    c: usize,
-    latest: u32,
-    front: usize,
-    k: usize,
-) -> Placed
-    requires { Walked m.now order.now seen.old c latest front k × (c ≤ most_events) × (k < length order.now) }
-    ensures { Places m.now order.now seen.new c (k + 1) result }
-{
-    let number = order[k];
-    if !admits(m, seen, c, number, latest) {
-        return Placed::Wrong;
+    // The number at place k of the order: nothing where it fails a test.
+    fn place(&self, seen: &mut [bool; MOST_EVENTS], reached: Progress, k: usize) -> Option<Progress>
+        requires { Walked self.now.memory.now self.now.order.now seen.old self.now.calls reached k × (k < length self.now.order.now) }
+        ensures { Places self.now.memory.now self.now.order.now seen.new self.now.calls (k + 1) result }
+    {
+        let number = self.order[k];
+        if !self.admits(seen, number, reached.latest) {
+            return None;
+        }
+        let j = call_of(number);
+        seen[j] = true;
+        let latest = reached.latest.max(self.memory[START + j]);
+        if self.memory[THREAD + j] != 0 {
+            return Some(Progress { latest, ..reached });
+        }
+        let f = self.front_of(reached.front, k);
+        if !self.answers(f, k, j) {
+            return None;
+        }
+        Some(Progress {
+            latest,
+            front: f + 1,
+        })
     }
-    let j = call_of(number);
-    seen[j] = 1;
-    let next = larger(latest, m[START + j]);
-    if m[THREAD + j] != 0 {
-        return Placed::To {
-            latest: next,
-            front,
+
+    // The walk over the order; it flags the calls that are listed.
+    fn walk(&self, seen: &mut [bool; MOST_EVENTS]) -> bool
+        requires { Walked self.now.memory.now self.now.order.now seen.old self.now.calls (record { latest = 0; front = 0 }) 0 }
+        ensures { Walks self.now.memory.now self.now.order.now seen.new self.now.calls result }
+    {
+        let mut reached = Progress {
+            latest: 0,
+            front: 0,
         };
-    }
-    let f = front_of(m, order, front, k);
-    if !answers(m, order, f, k, j) {
-        return Placed::Wrong;
-    }
-    Placed::To {
-        latest: next,
-        front: f + 1,
-    }
-}
-
-// The walk over the order; it flags the calls that are listed.
-fn walk(m: &[u32; MEMORY], order: &[u32], seen: &mut [u32; MOST_EVENTS], c: usize) -> bool
-    requires { Walked m.now order.now seen.old c 0 0 0 × (c ≤ most_events) }
-    ensures { Walks m.now order.now seen.new c result }
-{
-    let mut latest = 0;
-    let mut front = 0;
-    let mut k = 0;
-    while k < order.len() {
-        let placed = place(m, order, seen, c, latest, front, k);
-        match placed {
-            Placed::Wrong => {
+        for k in 0..self.order.len() {
+            let Some(further) = self.place(seen, reached, k) else {
                 return false;
-            }
-            Placed::To {
-                latest: a,
-                front: b,
-            } => {
-                latest = a;
-                front = b;
-            }
+            };
+            reached = further;
         }
-        k += 1;
+        true
     }
-    true
+
+    // Whether each of the calls has not ended or is flagged.
+    fn all_seen(&self, seen: &[bool; MOST_EVENTS]) -> bool
+        ensures { result ≡ all_seen self.now.memory.now seen.now self.now.calls }
+    {
+        (0..self.calls).all(|j| self.memory[END + j] == 0 || seen[j])
+    }
+
+    // Whether the order is a linearization of the calls.
+    fn is_order(&self) -> bool
+        ensures { result ≡ (orderly (calls_in self.now.memory.now self.now.calls) self.now.order.now && keeps 1 (calls_in self.now.memory.now self.now.calls) self.now.order.now) }
+    {
+        let mut seen = [false; MOST_EVENTS];
+        self.walk(&mut seen) && self.all_seen(&seen)
+    }
 }
 
-// Whether a call has not ended or is flagged.
-fn kept(end: u32, flag: u32) -> bool
-    ensures { result ≡ (eqb end 0 || eqb flag 1) }
-{
-    if end == 0 {
-        return true;
-    }
-    if flag != 1 {
-        return false;
-    }
-    true
-}
-
-// Whether each of c calls has not ended or is flagged.
-fn all_seen(m: &[u32; MEMORY], seen: &[u32; MOST_EVENTS], c: usize) -> bool
-    requires { c ≤ most_events }
-    ensures { result ≡ all_seen m.now seen.now c }
-{
-    let mut all = true;
-    let mut j = 0;
-    while j < c {
-        all = all & kept(m[END + j], seen[j]);
-        j += 1;
-    }
-    all
-}
-
-// Whether the order is one of the c calls in the memory that is a linearization.
-fn is_order(m: &[u32; MEMORY], order: &[u32], c: usize) -> bool
-    requires { c ≤ most_events }
-    ensures { result ≡ (orderly (calls_in m.now c) order.now && keeps 1 (calls_in m.now c) order.now) }
-{
-    let mut seen = [0u32; MOST_EVENTS];
-    if !walk(m, order, &mut seen, c) {
-        return false;
-    }
-    all_seen(m, &seen, c)
-}
-
-// The check: a history refused with 10, 12 or 13, or yes exactly when the order is a linearization of it (specs/Decides.antt).
-pub fn check(history: &[u32], order: &[u32]) -> Checked
-    ensures { result ≡ checked (read most_events history.now) order.now }
+// The check: a history refused with 10, 12 or 13, or whether the order is a linearization of it (specs/Decides.antt).
+pub fn check(history: &[u32], order: &[u32]) -> Result<bool, Refusal>
+    ensures { numbered result ≡ checked (read most_events history.now) order.now }
 {
     let mut m = [0u32; MEMORY];
-    let entered = read(history, MOST_EVENTS, &mut m);
-    match entered {
-        Entered::Refused(n) => {
-            return Checked::Refused(n);
-        }
-        Entered::Calls(c) => {
-            if is_order(&m, order, c) {
-                return Checked::Yes;
-            }
-            return Checked::No;
-        }
-    }
+    let calls = read(history, MOST_EVENTS, &mut m)?;
+    let listing = Listing {
+        memory: &m,
+        calls,
+        order,
+    };
+    Ok(listing.is_order())
 }

@@ -1,9 +1,11 @@
 -- Laws of lines and of what is printed.
-use Rattle.std.specs.Prelude.{◌≡◌, refl, Bool, true, false, ◌&&◌, cond, List, [], ◌∷◌, ◌++◌, ℕ, suc, ◌+◌, ◌≤◌, ◌<◌, eqb, length, take, drop, get_or}
-use Rattle.std.proofs.Common.{ap, ◌∙◌, arith, length-append, eq-eqb, ne_eqb}
-use Rattle.std.proofs.Math.Numerals.{add-one}
-use Rattle.std.proofs.Math.ListN.{drop_of_length-le}
-use Rattle.std.proofs.Math.Seq.{drop-cons}
+use Rattle.std.specs.Prelude.{◌≡◌, refl, Bool, true, false, ◌&&◌, cond, List, [], ◌∷◌, ◌++◌, ℕ, suc, ◌+◌, ◌≤◌, eqb, nat_eq, nat_lt, not, length, take, drop, Some, None, unwrap_or}
+use Rattle.std.proofs.Common.{ap, sym, ltb-false, ◌∙◌, arith, length-append}
+use Rattle.std.proofs.Math.Numerals.{one-add}
+use Rattle.std.specs.List.{position, position_or_len, starts_with as slice_starts_with}
+use Rattle.std.proofs.lemmas.Cmp.{nat_eq_equiv}
+use Rattle.std.proofs.lemmas.List.Sums.{prefix_len-le-length}
+use Rattle.std.proofs.lemmas.List.Recursion.{is_position_or_len}
 use Rattle.text.specs.Decimal.{decimal}
 use Rattle.text.specs.Laws.{length_digits}
 use Rattle.rules.specs.Rule.{Response, refused, accepted, ok, started, going, ended, empty, item, drained}
@@ -25,31 +27,32 @@ first_line b (d ∷ ds) = go (eqb b newline) (first_line d ds)
     go true e = refl
     go false e = ap (push b) e
 
--- The line's end, looked for from position i.
-module _ (s : List ℕ) (i : ℕ) (h : i < length s) where
-  pub line_ends : get_or s i 0 ≡ newline → line_length (drop i s) ≡ 0
-  unfolding line_length
-  line_ends e = rw (drop-cons s i 0) (simp (eq-eqb (get_or s i 0) newline e))
+-- The line's end is the first newline's position, or the end.
+line_ends : (s : List ℕ) → line_length s ≡ position_or_len (λ b. nat_eq b newline) s
+unfolding line_length
+line_ends s = is_position_or_len line_length (λ b. nat_eq b newline) refl (λ b bs. ap (cond (eqb b newline) 0) (sym (one-add (line_length bs)))) s
 
-  pub line_goes_on : (get_or s i 0 ≡ newline → ⊥) → line_length (drop i s) ≡ 1 + line_length (drop (i + 1) s)
-  unfolding line_length
-  line_goes_on e = rw (drop-cons s i 0, add-one i) (simp (ne_eqb (get_or s i 0) newline e) (omega arith))
+pub line_length_position : (s : List ℕ) → unwrap_or (position (λ b. nat_eq b newline) s) (length s) ≡ line_length s
+line_length_position s = go (nat_lt at (length s)) refl
+  where
+    at : ℕ
+    at = position_or_len (λ b. nat_eq b newline) s
 
--- A word against the bytes, from position i on.
-module _ (s word : List ℕ) (i : ℕ) (h : i < length word) where
-  pub starts_short : length s ≤ i → starts_with (drop i word) (drop i s) ≡ false
-  unfolding starts_with
-  starts_short l = rw (drop-cons word i 0, drop_of_length-le s l)
+    go : (t : Bool) → nat_lt at (length s) ≡ t → unwrap_or (cond t (Some at) None) (length s) ≡ line_length s
+    go true e = sym (line_ends s)
+    go false e =
+        let l : length s ≡ at = omega (arith, ltb-false at (length s) e, prefix_len-le-length (λ b. not (nat_eq b newline)) s) in
+        l ∙ sym (line_ends s)
 
-  starts_at : i < length s → starts_with (drop i word) (drop i s) ≡ eqb (get_or s i 0) (get_or word i 0) && starts_with (drop (i + 1) word) (drop (i + 1) s)
-  unfolding starts_with
-  starts_at l = rw (drop-cons word i 0, drop-cons s i 0 l, add-one i)
+-- A word in front, as the slice's method tests it.
+starts_method : (s word : List ℕ) → slice_starts_with nat_eq s word ≡ starts_with word s
+unfolding starts_with
+starts_method s [] = refl
+starts_method [] (w ∷ ws) = refl
+starts_method (b ∷ bs) (w ∷ ws) = rw (starts_method bs ws) (ap (λ (t : Bool). t && starts_with ws bs) (nat_eq_equiv.symm w b))
 
-  pub starts_other : i < length s → (get_or s i 0 ≡ get_or word i 0 → ⊥) → starts_with (drop i word) (drop i s) ≡ false
-  starts_other l e = starts_at l ∙ simp (ne_eqb (get_or s i 0) (get_or word i 0) e)
-
-  pub starts_same : i < length s → get_or s i 0 ≡ get_or word i 0 → starts_with (drop i word) (drop i s) ≡ starts_with (drop (i + 1) word) (drop (i + 1) s)
-  starts_same l e = starts_at l ∙ simp (eq-eqb (get_or s i 0) (get_or word i 0) e)
+pub begins : (s word : List ℕ) {t : Bool} → t ≡ slice_starts_with nat_eq s word → starts_with word s ≡ t
+begins s word e = sym (e ∙ starts_method s word)
 
 -- A reply's line is short.
 pub length_decimal : (n : ℕ) → length (decimal n) ≤ 10

@@ -15,15 +15,14 @@ given_is : (b : Bool) (e : Event) → is_event (given b e) ≡ b
 given_is true e = refl
 given_is false e = refl
 
+pub kind_1_or_2 : (k t n v : ℕ) → 1 ≤ k → k ≤ 2 → is_event (decode k t n v) ≡ (is_producer t && leb 1 n)
+unfolding decode
+kind_1_or_2 zero t n v l u = absurd (omega arith)
+kind_1_or_2 (suc zero) t n v l u = given_is (is_producer t && leb 1 n) _
+kind_1_or_2 (suc (suc zero)) t n v l u = given_is (is_producer t && leb 1 n) _
+kind_1_or_2 (suc (suc (suc k))) t n v l u = absurd (omega arith)
+
 module _ (k t n v : ℕ) where
-  pub kind_1 : k ≡ 1 → is_event (decode k t n v) ≡ (is_producer t && leb 1 n)
-  unfolding decode
-  kind_1 e = rw e (given_is (is_producer t && leb 1 n) _)
-
-  pub kind_2 : k ≡ 2 → is_event (decode k t n v) ≡ (is_producer t && leb 1 n)
-  unfolding decode
-  kind_2 e = rw e (given_is (is_producer t && leb 1 n) _)
-
   pub kind_3 : k ≡ 3 → is_event (decode k t n v) ≡ (eqb t 0 && eqb n 0 && eqb v 0)
   unfolding decode
   kind_3 e = rw e (given_is (eqb t 0 && eqb n 0 && eqb v 0) _)

@@ -9,13 +9,16 @@ use native.Mathlib.Nat.{le-max_left, le-max_right}
 use native.Mathlib.Numerals.{add-one}
 use native.Mathlib.Omega.{arith}
 use lib.Dec.{lit≤}
+use Rattle.std.specs.Prelude.{Option, None, Some}
+use Rattle.std.specs.Option.{is_some}
+use Rattle.std.proofs.Common.{zero-le}
 use lib.ListN.{get_or}
 use Rattle.history.specs.Event.{Event}
 use Rattle.history.specs.Calls.{Call, enter}
 use Rattle.history.specs.Form.{any, enqueues, dequeues, has_number, follows}
 use Rattle.reading.specs.Table.{start_at, end_at, answer_at, thread_at, number_at, value_at, busy_at, top_of, mark_of, call_of, call_at, calls_in, Table}
-use Rattle.reading.specs.Steps.{start_event, Starts, begun, Fresh, Enters}
-use Rattle.reading.proofs.Logic.{false_not_true, same_or_not, before_or_last, and_right_false}
+use Rattle.reading.specs.Steps.{start_event, Starts, begun, First, Fresh, Enters}
+use Rattle.reading.proofs.Logic.{true_not_false, false_not_true, same_or_not, before_or_last, and_right_false}
 use Rattle.reading.proofs.Builds.{build_same, build_snoc, none_of, one_of}
 use Rattle.reading.proofs.Cells.{Begun, begun_is}
 use Rattle.reading.proofs.Words
@@ -171,6 +174,13 @@ module _ (m m' : List ℕ) (c k t n v : ℕ) (b : Begun m m' c k t n v) where
       distinct = λ i j l o e z. distinct_on i j e z (before_or_last i c l) (before_or_last j c o);
       marked = λ j l. marked_on j (before_or_last j c l);
     }
+
+-- A number is new where the scan of the calls finds none with it.
+pub fresh_by : (m : List ℕ) (c n : ℕ) (o : Option ℕ) (r : Bool) → is_some o ≡ not r → First m 0 c n o → n ≢ 0 → Fresh m c n r
+fresh_by m c n None true e f d = record { is_new = λ x z j l. f j zero-le l; is_old = λ x. absurd (true_not_false x) }
+fresh_by m c n None false e f d = absurd (false_not_true e)
+fresh_by m c n (Some i) true e f d = absurd (true_not_false e)
+fresh_by m c n (Some i) false e f d = record { is_new = λ x. absurd (false_not_true x); is_old = λ x. (d, (i, f.1, f.2)) }
 
 -- The three ways out of a start.
 module _ (m : List ℕ) (c k t n v : ℕ) (table : Table m c) (s : Starts t n) where

@@ -1,4 +1,5 @@
 pub mod Build
 pub mod Table
+pub mod Refusal
 pub mod Steps
 pub mod Admitted

@@ -1,11 +1,13 @@
 -- What one event does to the working memory.
-use Rattle.std.specs.Prelude.{◌≡◌, ◌≢◌, Bool, true, false, ◌&&◌, ◌||◌, cond, List, ℕ, zero, suc, ◌+◌, ◌≤◌, ◌<◌, max, eqb, length, set}
+use Rattle.std.specs.Prelude.{◌≡◌, ◌≢◌, Bool, true, false, ◌&&◌, ◌||◌, cond, List, ℕ, zero, suc, ◌+◌, ◌≤◌, ◌<◌, max, eqb, length, set, Result, Ok, Err, MatchOption}
+use Rattle.std.specs.Prelude as rust
 use Rattle.std.proofs.Math.Option.{Option, none, some}
 use Rattle.history.specs.Event.{Event, History, enqueue_started, enqueue_ended, dequeue_started, gave_item, gave_empty}
 use Rattle.history.specs.Calls.{Call, calls, enter}
 use Rattle.history.specs.Form.{Reading, refused, history, follows}
-use Rattle.reading.specs.declared.Entered.{Entered}
-use Rattle.reading.specs.declared.Entered.TheVariants.{Refused, Calls}
+use Rattle.reading.specs.declared.Refusal.{Refusal}
+use Rattle.reading.specs.declared.Refusal.TheVariants.{Form, Follows}
+use Rattle.reading.specs.Refusal.{numbered}
 use Rattle.reading.specs.Table.{Table, calls_in, number_at, value_at, top_of, mark_of}
 
 abbrev pub is_event : Option Event → Bool
@@ -50,6 +52,12 @@ ended m i k t n v = set (set (set (set m (8192 + i) k) (12288 + i) n) (24576 + i
 abbrev pub repeats_at : (m : List ℕ) (i thread number value : ℕ) → Bool
 repeats_at m i t n v = eqb t 0 || (eqb (number_at m i) n && eqb (value_at m i) v)
 
+-- The first of the calls from..to with this number, if one has it.
+abbrev pub First : (m : List ℕ) (from to number : ℕ) → rust.Option ℕ → Type 0
+First m from to number r =
+    MatchOption r ((j : ℕ) → from ≤ j → j < to → number_at m j ≢ number)
+    (λ i. (from ≤ i) × (i < to) × (number_at m i ≡ number) × ((j : ℕ) → from ≤ j → j < i → number_at m j ≢ number))
+
 -- Whether no call has this number.
 pub record Fresh (m : List ℕ) (c : ℕ) (number : ℕ) (r : Bool) : Type 0 where
   pub is_new : r ≡ true → number ≢ 0 → (j : ℕ) → j < c → number_at m j ≢ number
@@ -70,19 +78,19 @@ started_by (gave_item n v) c = c
 started_by gave_empty c = c
 
 -- The reply to the four words of an event after some calls: refusal 12 or 13, or how many calls have been started.
-abbrev pub answered : Option Event → List Call → (c : ℕ) → Entered
-answered none cs c = Refused 12
-answered (some e) cs c = cond (follows e cs) (Calls (started_by e c)) (Refused 13)
+abbrev pub answered : Option Event → List Call → (c : ℕ) → Result ℕ Refusal
+answered none cs c = Err Form
+answered (some e) cs c = cond (follows e cs) (Ok (started_by e c)) (Err Follows)
 
 -- The four words of event k: the reply, and an event that is taken in is in the memory.
-pub record Stepped (o : Option Event) (k : ℕ) (m : List ℕ) (c : ℕ) (m' : List ℕ) (r : Entered) : Type 0 where
+pub record Stepped (o : Option Event) (k : ℕ) (m : List ℕ) (c : ℕ) (m' : List ℕ) (r : Result ℕ Refusal) : Type 0 where
   pub replies : r ≡ answered o (calls_in m c) c
   pub enters : (e : Event) → o ≡ some e → Enters k e m c m' (started_by e c) (follows e (calls_in m c))
 
 -- The reply on what the words are read as: a refusal's number, or how many calls were started.
-abbrev pub entered : Reading → Entered
-entered (refused n) = Refused n
-entered (history h) = Calls (length (calls h))
+abbrev pub entered : Reading → Result ℕ ℕ
+entered (refused n) = Err n
+entered (history h) = Ok (length (calls h))
 
 -- The memory holds the calls of a history, at most so many.
 pub record Holds (h : History) (limit : ℕ) (m : List ℕ) : Type 0 where
@@ -91,6 +99,6 @@ pub record Holds (h : History) (limit : ℕ) (m : List ℕ) : Type 0 where
   pub few : length (calls h) ≤ limit
 
 -- The words are read: the reply, and the calls of a history are in the memory.
-pub record Read (reading : Reading) (limit : ℕ) (m : List ℕ) (r : Entered) : Type 0 where
-  pub replies : r ≡ entered reading
+pub record Read (reading : Reading) (limit : ℕ) (m : List ℕ) (r : Result ℕ Refusal) : Type 0 where
+  pub replies : numbered r ≡ entered reading
   pub holds : (h : History) → reading ≡ history h → Holds h limit m

@@ -4,8 +4,9 @@
 ghost use Rattle.std.specs.Prelude.{◌≡◌, ◌≢◌, ◌&&◌, ◌||◌, [], ℕ, ◌+◌, ◌*◌, ◌/◌, ◌≤◌, ◌<◌, max, leb, eqb, length};
 ghost use Rattle.history.specs.Event.{decode, is_producer};
 ghost use Rattle.history.specs.Form.{most_events, read_events, read};
-ghost use Rattle.reading.specs.Table.{Table, number_at, mark_of};
-ghost use Rattle.reading.specs.Steps.{is_event, start_event, end_event, Starts, begun, ended, repeats_at, Fresh, Enters, Stepped, Read};
+ghost use Rattle.reading.specs.Table.{Table, mark_of};
+ghost use Rattle.reading.specs.Refusal.{refusal_number};
+ghost use Rattle.reading.specs.Steps.{is_event, start_event, end_event, Starts, begun, ended, repeats_at, First, Fresh, Enters, Stepped, Read};
 
 // The most events of a history.
 pub const MOST_EVENTS: usize = 4_096;
@@ -31,11 +32,36 @@ pub const NUMBER: usize = 5 * MOST_EVENTS;
 
 pub const VALUE: usize = 6 * MOST_EVENTS;
 
-// What the words read so far give: a refusal's number, or how many calls have been started.
+// Why the judge turns words down, each with its number.
+#[derive(Clone, Copy, PartialEq, Eq)]
+pub enum Refusal {
+    // The words are no multiple of 4, or more than 4,096 events.
+    Length = 10,
+    // The working table has fewer entries than there are events.
+    Table = 11,
+    // An event is not of the form.
+    Form = 12,
+    // An event does not follow: a thread already busy, an end without its start, a call number started twice.
+    Follows = 13,
+    // The order buffer has fewer words than calls were started.
+    Order = 16,
+}
+
+// The words of an event (document 01, "Judge").
 #[derive(Clone, Copy)]
-pub enum Entered {
-    Refused(u32),
-    Calls(usize),
+struct Event {
+    kind: u32,
+    thread: u32,
+    number: u32,
+    value: u32,
+}
+
+impl From<Refusal> for u32 {
+    ghost from_gives = { λ refusal number. number ≡ refusal_number refusal };
+
+    fn from(refusal: Refusal) -> u32 {
+        refusal as u32
+    }
 }
 
 // Kinds 1 and 2 have threads 1 to 16 and a call number.
@@ -59,39 +85,23 @@ fn of_zeros(thread: u32, number: u32, value: u32) -> bool
     (thread == 0) & (number == 0) & (value == 0)
 }
 
-// Whether four words are an event.
-fn formed(kind: u32, thread: u32, number: u32, value: u32) -> bool
-    ensures { result ≡ is_event (decode kind thread number value) }
+// Whether the words are an event.
+fn formed(event: Event) -> bool
+    ensures { result ≡ is_event (decode event.kind event.thread event.number event.value) }
 {
-    if kind == 1 {
-        return of_producer(thread, number);
+    match event.kind {
+        1 | 2 => of_producer(event.thread, event.number),
+        3 | 5 => of_zeros(event.thread, event.number, event.value),
+        4 => of_item(event.thread, event.number),
+        _ => false,
     }
-    if kind == 2 {
-        return of_producer(thread, number);
-    }
-    if kind == 3 {
-        return of_zeros(thread, number, value);
-    }
-    if kind == 4 {
-        return of_item(thread, number);
-    }
-    if kind == 5 {
-        return of_zeros(thread, number, value);
-    }
-    false
 }
 
 // Kinds 1 and 3 start a call.
 pub fn starts(kind: u32) -> bool
     ensures { result ≡ (eqb kind 1 || eqb kind 3) }
 {
-    (kind == 1) | (kind == 3)
-}
-
-pub fn larger(a: u32, b: u32) -> u32
-    ensures { result ≡ max a b }
-{
-    if a <= b { b } else { a }
+    matches!(kind, 1 | 3)
 }
 
 // Where a call's number leaves its mark.
@@ -101,48 +111,46 @@ fn mark_of(number: u32) -> usize
     MARKS + (number % MARK_WORDS) as usize
 }
 
-// The first call of from..to with this number, or to.
-pub fn scan(m: &[u32; MEMORY], from: usize, to: usize, number: u32) -> usize
+// The first call of from..to with this number.
+pub fn scan(m: &[u32; MEMORY], from: usize, to: usize, number: u32) -> Option<usize>
     requires { (from ≤ to) × (to ≤ most_events) }
-    ensures { (result ≤ to) × (result < to → number_at m.now result ≡ number) × ((j : ℕ) → j < result → from ≤ j → number_at m.now j ≢ number) }
+    ensures { First m.now from to number result }
 {
-    let mut j = from;
-    while j < to {
+    for j in from..to {
         if m[NUMBER + j] == number {
-            return j;
+            return Some(j);
         }
-        j += 1;
     }
-    to
+    None
 }
 
 // Call c starts at event k.
-fn begin(m: &mut [u32; MEMORY], c: usize, k: u32, thread: u32, number: u32, value: u32)
-    requires { (c < most_events) × (thread ≤ 16) }
-    ensures { m.new ≡ begun m.old c k thread number value }
+fn begin(m: &mut [u32; MEMORY], c: usize, k: u32, event: Event)
+    requires { (c < most_events) × (event.thread ≤ 16) }
+    ensures { m.new ≡ begun m.old c k event.thread event.number event.value }
 {
-    let top = larger(m[TOP], number);
-    let mark = mark_of(number);
+    let top = m[TOP].max(event.number);
+    let mark = mark_of(event.number);
     m[START + c] = k;
     m[END + c] = 0;
     m[ANSWER + c] = 0;
-    m[THREAD + c] = thread;
-    m[NUMBER + c] = number;
-    m[VALUE + c] = value;
-    m[thread as usize] = (c + 1) as u32;
+    m[THREAD + c] = event.thread;
+    m[NUMBER + c] = event.number;
+    m[VALUE + c] = event.value;
+    m[event.thread as usize] = (c + 1) as u32;
     m[TOP] = top;
     m[mark] = 1;
 }
 
 // Call i ends at event k.
-fn end(m: &mut [u32; MEMORY], i: usize, k: u32, thread: u32, number: u32, value: u32)
-    requires { (i < most_events) × (thread ≤ 16) }
-    ensures { m.new ≡ ended m.old i k thread number value }
+fn end(m: &mut [u32; MEMORY], i: usize, k: u32, event: Event)
+    requires { (i < most_events) × (event.thread ≤ 16) }
+    ensures { m.new ≡ ended m.old i k event.thread event.number event.value }
 {
     m[END + i] = k;
-    m[ANSWER + i] = number;
-    m[VALUE + i] = value;
-    m[thread as usize] = 0;
+    m[ANSWER + i] = event.number;
+    m[VALUE + i] = event.value;
+    m[event.thread as usize] = 0;
 }
 
 // Whether no enqueue was started with this number, at once where it is above all of them or its mark is not set. A dequeue has none, 0.
@@ -159,124 +167,102 @@ fn fresh(m: &[u32; MEMORY], c: usize, number: u32) -> bool
     if m[mark_of(number)] == 0 {
         return true;
     }
-    let j = scan(m, 0, c, number);
-    c <= j
+    scan(m, 0, c, number).is_none()
 }
 
 // A call starts at event k, unless its thread is busy or its number was started before.
-fn start(m: &mut [u32; MEMORY], c: usize, k: u32, thread: u32, number: u32, value: u32) -> bool
-    requires { Table m.old c × (c < most_events) × Starts thread number }
-    ensures { Enters k (start_event thread number value) m.old c m.new (c + 1) result }
+fn start(m: &mut [u32; MEMORY], c: usize, k: u32, event: Event) -> bool
+    requires { Table m.old c × (c < most_events) × Starts event.thread event.number }
+    ensures { Enters k (start_event event.thread event.number event.value) m.old c m.new (c + 1) result }
 {
-    if m[thread as usize] != 0 {
+    if m[event.thread as usize] != 0 {
         return false;
     }
-    if !fresh(m, c, number) {
+    if !fresh(m, c, event.number) {
         return false;
     }
-    begin(m, c, k, thread, number, value);
+    begin(m, c, k, event);
     true
 }
 
 // An enqueue's end repeats its number and value.
-fn repeats(m: &[u32; MEMORY], i: usize, thread: u32, number: u32, value: u32) -> bool
+fn repeats(m: &[u32; MEMORY], i: usize, event: Event) -> bool
     requires { i < most_events }
-    ensures { result ≡ repeats_at m.now i thread number value }
+    ensures { result ≡ repeats_at m.now i event.thread event.number event.value }
 {
-    (thread == 0) | ((m[NUMBER + i] == number) & (m[VALUE + i] == value))
+    (event.thread == 0) | ((m[NUMBER + i] == event.number) & (m[VALUE + i] == event.value))
 }
 
 // The call that the thread has under way ends at event k.
-fn finish(m: &mut [u32; MEMORY], c: usize, k: u32, thread: u32, number: u32, value: u32) -> bool
-    requires { Table m.old c × (c ≤ most_events) × (thread ≤ 16) × (1 ≤ k) }
-    ensures { Enters k (end_event thread number value) m.old c m.new c result }
+fn finish(m: &mut [u32; MEMORY], c: usize, k: u32, event: Event) -> bool
+    requires { Table m.old c × (c ≤ most_events) × (event.thread ≤ 16) × (1 ≤ k) }
+    ensures { Enters k (end_event event.thread event.number event.value) m.old c m.new c result }
 {
-    let busy = m[thread as usize];
+    let busy = m[event.thread as usize];
     if busy == 0 {
         return false;
     }
     let i = (busy - 1) as usize;
-    if !repeats(m, i, thread, number, value) {
+    if !repeats(m, i, event) {
         return false;
     }
-    end(m, i, k, thread, number, value);
+    end(m, i, k, event);
     true
 }
 
 // Takes in event k, or refuses it: 12 not of the form, 13 does not follow.
-fn step(
-    m: &mut [u32; MEMORY],
-    c: usize,
-    k: u32,
-    kind: u32,
-    thread: u32,
-    number: u32,
-    value: u32,
-) -> Entered
+fn step(m: &mut [u32; MEMORY], c: usize, k: u32, event: Event) -> Result<usize, Refusal>
     requires { Table m.old c × (c < most_events) × (1 ≤ k) }
-    ensures { Stepped (decode kind thread number value) k m.old c m.new result }
+    ensures { Stepped (decode event.kind event.thread event.number event.value) k m.old c m.new result }
 {
-    if !formed(kind, thread, number, value) {
-        return Entered::Refused(12);
+    if !formed(event) {
+        return Err(Refusal::Form);
     }
-    if starts(kind) {
-        if start(m, c, k, thread, number, value) {
-            return Entered::Calls(c + 1);
+    if starts(event.kind) {
+        if start(m, c, k, event) {
+            return Ok(c + 1);
         }
-        return Entered::Refused(13);
+        return Err(Refusal::Follows);
     }
-    if finish(m, c, k, thread, number, value) {
-        return Entered::Calls(c);
+    if finish(m, c, k, event) {
+        return Ok(c);
     }
-    Entered::Refused(13)
+    Err(Refusal::Follows)
 }
 
 // Takes in the events of a history, each in turn.
-fn read_events(history: &[u32], m: &mut [u32; MEMORY]) -> Entered
+fn read_events(history: &[u32], m: &mut [u32; MEMORY]) -> Result<usize, Refusal>
     requires { Table m.old 0 × (length history.now / 4 ≤ most_events) }
     ensures { Read (read_events [] history.now) (length history.now / 4) m.new result }
 {
-    let events = history.len() / 4;
     let mut c = 0;
-    let mut k = 0;
-    while k < events {
+    for k in 0..history.len() / 4 {
         let at = 4 * k;
-        let e = step(
-            m,
-            c,
-            (k + 1) as u32,
-            history[at],
-            history[at + 1],
-            history[at + 2],
-            history[at + 3],
-        );
-        match e {
-            Entered::Refused(n) => {
-                return Entered::Refused(n);
-            }
-            Entered::Calls(d) => {
-                c = d;
-            }
-        }
-        k += 1;
+        let event = Event {
+            kind: history[at],
+            thread: history[at + 1],
+            number: history[at + 2],
+            value: history[at + 3],
+        };
+        c = step(m, c, (k + 1) as u32, event)?;
     }
-    Entered::Calls(c)
+    Ok(c)
 }
 
 // Reads a history: refused with 10 or 11 by its length, then each event in turn.
-pub fn read(history: &[u32], entries: usize, m: &mut [u32; MEMORY]) -> Entered
+pub fn read(history: &[u32], entries: usize, m: &mut [u32; MEMORY]) -> Result<usize, Refusal>
     requires { Table m.old 0 }
     ensures { Read (read entries history.now) (length history.now / 4) m.new result }
 {
     let words = history.len();
     if words % 4 != 0 {
-        return Entered::Refused(10);
+        return Err(Refusal::Length);
     }
     if MOST_EVENTS < words / 4 {
-        return Entered::Refused(10);
+        return Err(Refusal::Length);
     }
     if entries < words / 4 {
-        return Entered::Refused(11);
+        return Err(Refusal::Table);
     }
     read_events(history, m)
 }

@@ -1,16 +1,13 @@
 -- What is printed for a recording: the judge's word on a history's words (document 01, "Judge" and "Program"), and on a text of
 -- lines, one event each.
-use Rattle.std.specs.Prelude.{cond, List, [], ◌∷◌, ◌++◌, ℕ, ◌+◌, ◌*◌}
+use Rattle.std.specs.Prelude.{Option, Some, None, Result, Ok, Err, cond, List, [], ◌∷◌, ◌++◌, ℕ, ◌+◌, ◌*◌}
 use Rattle.history.specs.Form.{most_events, Reading, refused, history, read}
 use Rattle.history.specs.Calls.{calls}
 use Rattle.criterion.specs.Pass.{explains}
 use Rattle.criterion.specs.Order.{order_numbers}
-use Rattle.judge.specs.declared.Verdict.{Verdict}
-use Rattle.judge.specs.declared.Verdict.TheVariants.{Refused, Explained, Unexplained}
 use Rattle.text.specs.Decimal.{decimal}
-use Rattle.lines.specs.declared.Parsed.{Parsed}
-use Rattle.lines.specs.declared.Parsed.TheVariants.{TooLong, BadLine, Numbers}
-use Rattle.lines.specs.Lines.{most_numbers, reading}
+use Rattle.lines.specs.declared.ParseError.TheVariants.{TooLong, BadLine}
+use Rattle.lines.specs.Lines.{Parsed, most_numbers, reading}
 use Rattle.protocol.specs.Words.{space, newline, refused_word, bad_line_word, too_long_line, explained_line, unexplained_line}
 use Rattle.protocol.specs.Printed.{numbered, printed_verdict}
 
@@ -19,11 +16,11 @@ abbrev pub printed_reading : Reading → List ℕ
 printed_reading (refused n) = numbered refused_word n
 printed_reading (history h) = printed_verdict (explains h)
 
--- The word for the judge's reply.
-abbrev pub word_of : Verdict → List ℕ
-word_of (Refused n) = numbered refused_word n
-word_of (Explained count) = explained_line
-word_of Unexplained = unexplained_line
+-- The word for the judge's reply, a refusal's number, or explained by so many numbers or not.
+abbrev pub word_of : Result (Option ℕ) ℕ → List ℕ
+word_of (Err n) = numbered refused_word n
+word_of (Ok (Some count)) = explained_line
+word_of (Ok None) = unexplained_line
 
 -- "order"
 abbrev pub order_word : List ℕ
@@ -61,9 +58,9 @@ most_report = most_word + most_order_line most_events
 
 -- What a text prints: `too long`, `bad line NUMBER` for its first bad line, or the judge's word on its numbers and its order.
 abbrev pub printed_parsed : Parsed → (numbers : List ℕ) → List ℕ
-printed_parsed TooLong ns = too_long_line
-printed_parsed (BadLine line) ns = numbered bad_line_word line
-printed_parsed (Numbers count) ns = printed_judged (read most_events ns)
+printed_parsed (Err TooLong) ns = too_long_line
+printed_parsed (Err (BadLine line)) ns = numbered bad_line_word line
+printed_parsed (Ok count) ns = printed_judged (read most_events ns)
 
 unfoldable pub reported : (text : List ℕ) → List ℕ
 reported s = printed_parsed (reading s most_numbers).reply (reading s most_numbers).numbers

@@ -3,31 +3,25 @@
 
 ghost use Rattle.std.specs.Prelude.{◌+◌, ◌≤◌, length};
 ghost use Rattle.history.specs.Form.{most_events, read};
+ghost use Rattle.reading.specs.Refusal.{numbered};
 ghost use Rattle.text.specs.Wrote.{Wrote};
 ghost use Rattle.recording.specs.Report.{printed_reading, word_of, order_line, printed_judged, most_order_line, most_word, most_report, reported};
 
-use judge::Verdict;
-use lines::{MOST_NUMBERS, Parsed};
-use reading::MOST_EVENTS;
+use lines::{MOST_NUMBERS, ParseError};
+use reading::{MOST_EVENTS, Refusal};
 
 // A bound on the bytes of a report (specs/Report.antt): a word, and the line of an order with a number for each event.
 pub const MOST_REPORT: usize = 20 + 6 + 11 * MOST_EVENTS;
 
 // Prints the word for the judge's reply at a position, and answers the position after it.
-fn print_word(verdict: Verdict, out: &mut [u8], at: usize) -> usize
+fn print_word(reply: Result<Option<u32>, Refusal>, out: &mut [u8], at: usize) -> usize
     requires { at + most_word ≤ length out.old }
-    ensures { Wrote out.old at (word_of verdict) out.new result }
+    ensures { Wrote out.old at (word_of (numbered reply)) out.new result }
 {
-    match verdict {
-        Verdict::Refused(number) => {
-            return protocol::print_numbered(out, at, b"refused ", number);
-        }
-        Verdict::Explained(_) => {
-            return text::write_bytes(out, at, b"explained\n");
-        }
-        Verdict::Unexplained => {
-            return text::write_bytes(out, at, b"unexplained\n");
-        }
+    match reply {
+        Ok(Some(_)) => text::write_bytes(out, at, b"explained\n"),
+        Ok(None) => text::write_bytes(out, at, b"unexplained\n"),
+        Err(refusal) => protocol::print_numbered(out, at, b"refused ", u32::from(refusal)),
     }
 }
 
@@ -37,8 +31,8 @@ pub fn print_verdict(words: &[u32], out: &mut [u8], at: usize) -> usize
     ensures { Wrote out.old at (printed_reading (read most_events words.now)) out.new result }
 {
     let mut order = [0u32; MOST_EVENTS];
-    let verdict = judge::judge_alone(words, &mut order);
-    print_word(verdict, out, at)
+    let reply = judge::judge_alone(words, &mut order);
+    print_word(reply, out, at)
 }
 
 // Prints the line of an order at a position, and answers the position after it.
@@ -47,11 +41,9 @@ fn print_order(numbers: &[u32], out: &mut [u8], at: usize) -> usize
     ensures { Wrote out.old at (order_line numbers.now) out.new result }
 {
     let mut next = text::write_bytes(out, at, b"order");
-    let mut i = 0;
-    while i < numbers.len() {
+    for n in numbers {
         next = text::write_bytes(out, next, b" ");
-        next = text::write_number(out, next, numbers[i]);
-        i += 1;
+        next = text::write_number(out, next, *n);
     }
     text::write_bytes(out, next, b"\n")
 }
@@ -62,19 +54,12 @@ fn print_judged(words: &[u32], out: &mut [u8], at: usize) -> usize
     ensures { Wrote out.old at (printed_judged (read most_events words.now)) out.new result }
 {
     let mut order = [0u32; MOST_EVENTS];
-    let verdict = judge::judge_alone(words, &mut order);
-    let next = print_word(verdict, out, at);
-    match verdict {
-        Verdict::Refused(_) => {
-            return next;
-        }
-        Verdict::Explained(count) => {
-            let numbers = count as usize;
-            return print_order(&order[..numbers], out, next);
-        }
-        Verdict::Unexplained => {
-            return next;
-        }
+    let reply = judge::judge_alone(words, &mut order);
+    let next = print_word(reply, out, at);
+    match reply {
+        Ok(Some(count)) => print_order(&order[..count as usize], out, next),
+        Ok(None) => next,
+        Err(_) => next,
     }
 }
 
@@ -83,16 +68,11 @@ pub fn report(text: &[u8], out: &mut [u8; MOST_REPORT]) -> usize
     ensures { Wrote out.old 0 (reported text.now) out.new result }
 {
     let mut numbers = [0u32; MOST_NUMBERS];
-    let parsed = lines::parse(text, &mut numbers);
-    match parsed {
-        Parsed::TooLong => {
-            return text::write_bytes(out, 0, b"too long\n");
+    match lines::parse(text, &mut numbers) {
+        Ok(count) => print_judged(&numbers[..count], out, 0),
+        Err(ParseError::BadLine(line)) => {
+            protocol::print_numbered(out, 0, b"bad line ", line as u32)
         }
-        Parsed::BadLine(line) => {
-            return protocol::print_numbered(out, 0, b"bad line ", line as u32);
-        }
-        Parsed::Numbers(count) => {
-            return print_judged(&numbers[..count], out, 0);
-        }
+        Err(ParseError::TooLong) => text::write_bytes(out, 0, b"too long\n"),
     }
 }

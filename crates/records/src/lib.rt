@@ -13,7 +13,7 @@ ghost use Rattle.records.specs.Bounds.{bounds, word_test, Bounded};
 use store::{Shape, record_at, record_words, size, state, usage};
 
 // Any 32-bit number.
-pub const ANY: u32 = 4294967295;
+pub const ANY: u32 = u32::MAX;
 
 // Writes the most that each word of a record may be to a row that allows any: place, next, prev and use, then state and call
 // number of each entry.
@@ -26,11 +26,9 @@ fn fill_bounds(b: &mut [u32], z: Shape)
     b[2] = z.records;
     b[3] = usage::RETIRED;
     let count = z.entries as usize;
-    let mut i: usize = 0;
-    while i < count {
+    for i in 0..count {
         b[4 + 3 * i] = state::HANDLED;
         b[5 + 3 * i] = z.starts;
-        i += 1;
     }
 }
 
@@ -41,11 +39,9 @@ fn rows_at_most(s: &[u32], at: usize, other: usize, b: &[u32], n: usize) -> bool
     ensures { every n (λ j. word_test s.now b.now at j && word_test s.now b.now other j) ≡ result }
 {
     let mut ok = true;
-    let mut j: usize = 0;
-    while j < n {
+    for j in 0..n {
         let bound = b[j];
         ok = ok & ((s[at + j] <= bound) & (s[other + j] <= bound));
-        j += 1;
     }
     ok
 }
@@ -71,10 +67,8 @@ fn pairs_in_range(s: &[u32], z: Shape, b: &[u32]) -> bool
     let half = z.records / 2;
     let pairs = z.records - half;
     let mut ok = true;
-    let mut r: u32 = 0;
-    while r < pairs {
+    for r in 0..pairs {
         ok = ok & pair_in_range(s, z, b, r, r + half);
-        r += 1;
     }
     ok
 }
@@ -94,11 +88,9 @@ fn entries_in_range(s: &[u32], at: usize, count: usize, m: u32) -> bool
     ensures { every count (λ i. at_most (from s.now (at + 3 * i)) 0 (2 ∷ m ∷ [])) ≡ result }
 {
     let mut ok = true;
-    let mut i: usize = 0;
-    while i < count {
+    for i in 0..count {
         let e = at + 3 * i;
         ok = ok & ((s[e] <= state::HANDLED) & (s[e + 1] <= m));
-        i += 1;
     }
     ok
 }
@@ -122,10 +114,8 @@ fn each_in_range(s: &[u32], z: Shape) -> bool
     ensures { records_in_range (sizes z) (reader (sizes z) s.now) ≡ result }
 {
     let mut ok = true;
-    let mut r: u32 = 0;
-    while r < z.records {
+    for r in 0..z.records {
         ok = ok & record_in_range(s, z, r);
-        r += 1;
     }
     ok
 }

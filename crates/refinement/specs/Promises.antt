@@ -6,7 +6,7 @@ use denote.Triple.Clauses.{AtExit}
 use borrow.Fn.Kinds.{ParamKind, ResultKind, Dens, res_t, ended_of, Out}
 use Rattle.rules.specs.Request.{start_enqueue, start_dequeue, start_drain, step, lending, Result, open_store}
 use Rattle.store.specs.Shape.{sizes}
-use Rattle.store.specs.Outcome.{response, response_in}
+use Rattle.store.specs.Outcome.{response, response_in, counted_in}
 use Rattle.delivery.specs.Export.{Returned, returned}
 use Rattle.opening.proofs.open_store.Kinds as open-store-kinds
 use Rattle.opening.proofs.open_store.Reads as open_store
@@ -58,7 +58,7 @@ pub step_contract : Gives 2 step-kinds.ps step-kinds.r step.Learnt
     λ κs a r e. Meets a.0.now
     (record {
       call = lending a.1.1.0.now a.1.1.1.0 (step a.1.0);
-      response = response_in e.1.1.0.now a.1.1.1.0 r.steps r.reply;
+      response = counted_in e.1.1.0.now a.1.1.1.0 r;
       words = e.0.now;
       buffer = e.1.1.0.now;
     })

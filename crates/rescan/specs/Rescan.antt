@@ -1,5 +1,5 @@
 -- Parts of phase 5: the cursor's move, a crossing, and a set entry.
-use Rattle.std.specs.Prelude.{◌≡◌, refl, Bool, true, false, cond, List, [], ◌∷◌, ◌++◌, ℕ, suc, eqb}
+use Rattle.std.specs.Prelude.{◌≡◌, refl, Bool, true, false, cond, List, [], ◌∷◌, ◌++◌, ℕ, suc, eqb, Ok}
 use Rattle.rules.specs.Sizes.{Sizes}
 use Rattle.rules.specs.Cell.{Reader, reader, Write, write, writes, ◌:=◌, head_record, head_position, consumer_phase, cursor_record, cursor_position, found_record, found_position, scanned}
 use Rattle.rules.specs.Rule.{Effect, goes}
@@ -30,7 +30,7 @@ module _ (z : Sizes) (σ : Reader) where
 
 -- What moved is written first, then the cursor's move.
 pub moved : (z : Sizes) (m : List ℕ) (l p found : ℕ) (first : List Write)
-    → left Going (writes z (writes z m first) (moves l p found (through_scan z (reader z m)))) ≡ leaves z m (rescanned z (reader z m) p found (cursor_record := l ∷ cursor_position := p ∷ []) first)
+    → left (Ok Going) (writes z (writes z m first) (moves l p found (through_scan z (reader z m)))) ≡ leaves z m (rescanned z (reader z m) p found (cursor_record := l ∷ cursor_position := p ∷ []) first)
 unfolding writes applied
 moved z m l p found first = go m first (eqb p found)
   where
@@ -38,7 +38,7 @@ moved z m l p found first = go m first (eqb p found)
     ends = settles (through_scan z (reader z m))
 
     go : (m : List ℕ) (first : List Write) (b : Bool)
-        → left Going (writes z (writes z m first) (cond b ends (cursor_record := l ∷ cursor_position := p ∷ [])))
+        → left (Ok Going) (writes z (writes z m first) (cond b ends (cursor_record := l ∷ cursor_position := p ∷ [])))
         ≡ leaves z m (cond b (goes (first ++ ends)) (goes (first ++ (cursor_record := l ∷ cursor_position := p ∷ []))))
     go m [] true = refl
     go m [] false = refl

@@ -1,15 +1,21 @@
 // A table as a hospital writes it (document 02, U13): refusal 20, and the rule table that it gives.
 #![tactic(auto)]
 
-ghost use Rattle.std.specs.Prelude.{◌≡◌, ◌<◌, length};
+ghost use Rattle.std.specs.Prelude.{◌≡◌, true, false, ◌<◌, length, MatchOption};
 ghost use Rattle.census_rules.specs.Table.{is_row, are_rows, is_for, once, each_once, is_table, rule_for, row_for, rules_in};
 
-// A table has twenty rows of three words; the last office and the last state.
+use std::array;
+
+// A table has twenty rows of three words, one for each office and state.
 const WORDS: usize = 60;
 
 const ROWS: usize = 20;
 
+const OFFICES: u32 = 4;
+
 pub const LAST_OFFICE: u32 = 3;
+
+const STATES: u32 = 5;
 
 const LAST_STATE: u32 = 4;
 
@@ -25,13 +31,12 @@ fn are_rows(rows: &[u32]) -> bool
     requires { length rows.now ≡ 60 }
     ensures { are_rows 20 rows.now ≡ result }
 {
-    let mut ok = true;
-    let mut k = 0;
-    while k < ROWS {
-        ok = ok & is_row(rows, k);
-        k += 1;
+    for k in 0..ROWS {
+        if !is_row(rows, k) {
+            return false;
+        }
     }
-    ok
+    true
 }
 
 // Whether row k of a table is the one for this office and this state.
@@ -48,39 +53,43 @@ fn once(rows: &[u32], office: u32, state: u32) -> bool
     ensures { once rows.now office state ≡ result }
 {
     let mut times: u32 = 0;
-    let mut k = 0;
-    while k < ROWS {
+    for k in 0..ROWS {
         if is_for(rows, k, office, state) {
             times += 1;
         }
-        k += 1;
     }
     times == 1
 }
 
+// Stays: no `all` over the states, nor over the offices below: tried, and the clauses of `all` at a range left the equation of its answer open.
 fn each_once(rows: &[u32], office: u32) -> bool
     requires { length rows.now ≡ 60 }
     ensures { each_once rows.now office ≡ result }
 {
-    once(rows, office, 0)
-        & once(rows, office, 1)
-        & once(rows, office, 2)
-        & once(rows, office, 3)
-        & once(rows, office, 4)
+    for state in 0..STATES {
+        if !once(rows, office, state) {
+            return false;
+        }
+    }
+    true
 }
 
-// Refusal 20: whether the words are a table.
+// Whether the words are a table.
 pub fn is_table(rows: &[u32]) -> bool
     ensures { is_table rows.now ≡ result }
 {
     if rows.len() != WORDS {
         return false;
     }
-    are_rows(rows)
-        & each_once(rows, 0)
-        & each_once(rows, 1)
-        & each_once(rows, 2)
-        & each_once(rows, 3)
+    if !are_rows(rows) {
+        return false;
+    }
+    for office in 0..OFFICES {
+        if !each_once(rows, office) {
+            return false;
+        }
+    }
+    true
 }
 
 // The third word of the row for an office and a state.
@@ -89,12 +98,10 @@ fn rule_for(rows: &[u32], office: u32, state: u32) -> u32
     ensures { result ≡ rule_for rows.now office state }
 {
     let mut word: u32 = 0;
-    let mut k = 0;
-    while k < ROWS {
+    for k in 0..ROWS {
         if is_for(rows, k, office, state) {
             word = rows[3 * k + 2];
         }
-        k += 1;
     }
     word
 }
@@ -103,24 +110,32 @@ fn row_for(rows: &[u32], office: u32) -> [u32; 5]
     requires { length rows.now ≡ 60 }
     ensures { result ≡ row_for rows.now office }
 {
-    [
-        rule_for(rows, office, 0),
-        rule_for(rows, office, 1),
-        rule_for(rows, office, 2),
-        rule_for(rows, office, 3),
-        rule_for(rows, office, 4),
-    ]
+    array::from_fn(
+        |state|
+            requires { (state < 5) × (length rows.now ≡ 60) }
+        { rule_for(rows, office, state as u32) },
+    )
 }
 
-// The rule table of a table, row by row.
+// The rule table of sixty words, row by row, whether they are a table or not.
 pub fn rules_in(rows: &[u32]) -> [[u32; 5]; 4]
     requires { length rows.now ≡ 60 }
     ensures { result ≡ rules_in rows.now }
 {
-    [
-        row_for(rows, 0),
-        row_for(rows, 1),
-        row_for(rows, 2),
-        row_for(rows, 3),
-    ]
+    array::from_fn(
+        |office| -> [u32; 5]
+            requires { (office < 4) × (length rows.now ≡ 60) }
+            ensures { result ≡ row_for rows.entry.now office }
+        { row_for(rows, office as u32) },
+    )
+}
+
+// The rule table that the words give, row by row. Refusal 20 is that there is none.
+pub fn table_in(rows: &[u32]) -> Option<[[u32; 5]; 4]>
+    ensures { MatchOption result (is_table rows.now ≡ false) (λ rules. (is_table rows.now ≡ true) × (rules ≡ rules_in rows.now)) }
+{
+    if !is_table(rows) {
+        return None;
+    }
+    Some(rules_in(rows))
 }

@@ -1,7 +1,6 @@
 -- The program prints at most 155,679 bytes: a line that asks for a call has two bytes at least, its newline with it, and prints at
 -- most 38.
-use Rattle.std.specs.Prelude.{◌≡◌, refl, Bool, true, false, cond, List, [], ◌∷◌, ℕ, suc, ◌+◌, ◌*◌, ◌≤◌, eqb, ltb, length}
-use Rattle.std.proofs.Math.Option.{Option, none, some}
+use Rattle.std.specs.Prelude.{Option, Some, None, ◌≡◌, refl, Bool, true, false, cond, List, [], ◌∷◌, ℕ, suc, ◌+◌, ◌*◌, ◌≤◌, eqb, ltb, length}
 use Rattle.std.proofs.Common.{arith, length-append, ltb-false}
 use Rattle.criterion.specs.Pass.{explains}
 use Rattle.protocol.specs.Words.{newline, bad_line, too_long_line}
@@ -35,8 +34,8 @@ length_replies (l ∷ ls) x = go (call_of (parse_line l)) refl (λ y. length_rep
   where
     go : (c : Option (Session → Turn)) → call_of (parse_line l) ≡ c → ((y : Session) → 2 * length (run_lines ls y).replies ≤ 38 * bytes_of ls)
         → 2 * length (run_line c x (run_lines ls)).replies ≤ 38 * (length l + 1 + bytes_of ls)
-    go none e rest = omega arith
-    go (some call) e rest =
+    go None e rest = omega arith
+    go (Some call) e rest =
         let y = call x in
         rw length-append (omega (arith, length_printed y.reply, rest y.session, some_line l call e))
 

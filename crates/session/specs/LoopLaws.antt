@@ -1,16 +1,15 @@
 -- Laws of the run: one line more, a bad line, and the end.
-use Rattle.std.specs.Prelude.{◌≡◌, refl, Bool, true, false, cond, ℕ, suc, ◌+◌, ◌-◌, ◌≤◌, ◌<◌, eqb, length, take, drop}
+use Rattle.std.specs.Prelude.{Option, Some, None, ◌≡◌, refl, Bool, true, false, cond, ℕ, suc, ◌+◌, ◌-◌, ◌≤◌, ◌<◌, eqb, length, take, drop}
 use Rattle.std.proofs.Common.{ap, sym, ◌∙◌, true≢false, arith, length-drop, drop_of_length-le, drop-drop}
 use Rattle.std.proofs.Math.Path.{subst}
 use mathlib.Core.List.{List, [], ◌∷◌, ◌++◌, append_assoc, append-nil}
-use Rattle.std.proofs.Math.Option.{Option, none, some}
+use Rattle.std.proofs.Common.{Break, Continue}
 use Rattle.text.specs.Laws.{wrote_append}
 use Rattle.protocol.specs.Words.{newline}
 use Rattle.protocol.specs.Line.{line_length, lines_of, starts_with, parse_line}
 use Rattle.protocol.specs.Laws.{first_line}
 use Rattle.protocol.specs.Printed.{printed, most_printed}
 use Rattle.session.specs.declared.Place.{Place}
-use Rattle.session.specs.declared.Next.TheVariants.{Stop, On}
 use Rattle.session.specs.Session.{Session, begun, Turn, call_of, Run, after, run_line, run_lines}
 use Rattle.events.specs.EventLaws.{none_recorded}
 use Rattle.session.specs.Turns.{Answered, Answers, Ended, Leaves}
@@ -44,8 +43,8 @@ run_append (l ∷ ls) ms x e = go (call_of (parse_line l)) e (λ y. run_append l
     go : (c : Option (Session → Turn)) → (run_line c x (run_lines ls)).stopped ≡ false
         → ((y : Session) → (run_lines ls y).stopped ≡ false → run_lines (ls ++ ms) y ≡ after (run_lines ls y).replies (run_lines ms (run_lines ls y).session))
         → run_line c x (run_lines (ls ++ ms)) ≡ after (run_line c x (run_lines ls)).replies (run_lines ms (run_line c x (run_lines ls)).session)
-    go none e f = absurd (true≢false e)
-    go (some call) e f =
+    go None e f = absurd (true≢false e)
+    go (Some call) e f =
         let y = call x in
         let r = run_lines ls y.session in
         let m = run_lines ms r.session in
@@ -98,16 +97,16 @@ module _ (input : List ℕ) (at end : ℕ) (more : at < length input) (ends : en
     all_lines : g.done ++ (line ∷ lines_of (drop (end + 1) input)) ≡ lines_of input
     all_lines = ap (λ (ls : List (List ℕ)). g.done ++ ls) (sym lines_left) ∙ g.split
 
-    pub going_on : {store' history' out' : List ℕ} {next : Place} → Answers (parse_line line) store history out (record { events = events; bytes = bytes }) store' history' out' (On next)
+    pub going_on : {store' history' out' : List ℕ} {next : Place} → Answers (parse_line line) store history out (record { events = events; bytes = bytes }) store' history' out' (Continue next)
         → Going x input store' history' before out' (end + 1) next.events next.bytes
     unfolding run_lines
     going_on {store'} {history'} {out'} {next} a = go (call_of (parse_line line)) a.answered (run_on [])
       where
-        go : (c : Option (Session → Turn)) → Answered c store history out (record { events = events; bytes = bytes }) store' history' out' (On next)
+        go : (c : Option (Session → Turn)) → Answered c store history out (record { events = events; bytes = bytes }) store' history' out' (Continue next)
             → run_lines (g.done ++ (line ∷ [])) x ≡ after ran.replies (run_line c ran.session (run_lines []))
             → Going x input store' history' before out' (end + 1) next.events next.bytes
-        go none a e = absurd a
-        go (some call) t e =
+        go None a e = absurd a
+        go (Some call) t e =
             record {
               done = g.done ++ (line ∷ []);
               split = append_assoc g.done (line ∷ []) (lines_of (drop (end + 1) input)) ∙ all_lines;
@@ -120,34 +119,34 @@ module _ (input : List ℕ) (at end : ℕ) (more : at < length input) (ends : en
                   });
             }
 
-    pub going_stops : {store' history' out' : List ℕ} {last : ℕ} → Answers (parse_line line) store history out (record { events = events; bytes = bytes }) store' history' out' (Stop last)
-        → Leaves (run_lines (lines_of input) x) store' history' before out' (Stop last)
+    pub going_stops : {store' history' out' : List ℕ} {last : ℕ} → Answers (parse_line line) store history out (record { events = events; bytes = bytes }) store' history' out' (Break last)
+        → Leaves (run_lines (lines_of input) x) store' history' before out' (Break last)
     going_stops {store'} {history'} {out'} {last} a = go (call_of (parse_line line)) a.answered (ap (λ (ls : List (List ℕ)). run_lines ls x) (sym all_lines) ∙ run_on (lines_of (drop (end + 1) input)))
       where
-        go : (c : Option (Session → Turn)) → Answered c store history out (record { events = events; bytes = bytes }) store' history' out' (Stop last)
+        go : (c : Option (Session → Turn)) → Answered c store history out (record { events = events; bytes = bytes }) store' history' out' (Break last)
             → run_lines (lines_of input) x ≡ after ran.replies (run_line c ran.session (run_lines (lines_of (drop (end + 1) input))))
-            → Leaves (run_lines (lines_of input) x) store' history' before out' (Stop last)
-        go none a e =
+            → Leaves (run_lines (lines_of input) x) store' history' before out' (Break last)
+        go None a e =
             let y = g.ended.stands in
-            subst (λ (r : Run). Leaves r store' history' before out' (Stop last)) (sym e)
+            subst (λ (r : Run). Leaves r store' history' before out' (Break last)) (sym e)
             (refl, rw (a.0, a.1, y.recorded.counted) y, rw append-nil (wrote_append g.ended.wrote a.2))
-        go (some call) a e = absurd a
+        go (Some call) a e = absurd a
 
 -- a line that asks for a call is not empty
-pub some_line : (l : List ℕ) (call : Session → Turn) → call_of (parse_line l) ≡ some call → 0 < length l
+pub some_line : (l : List ℕ) (call : Session → Turn) → call_of (parse_line l) ≡ Some call → 0 < length l
 unfolding parse_line starts_with
 some_line [] call c = let z : ◌≡◌ {A = ℕ} 0 1 = cc in absurd (omega arith)
 some_line (b ∷ bs) call c = omega arith
 
 -- A line that is no bad one is not empty, adds at most one event and prints at most 38 bytes.
-pub answered_short : (l : List ℕ) {store history out store' history' out' : List ℕ} {at next : Place} → Answers (parse_line l) store history out at store' history' out' (On next)
+pub answered_short : (l : List ℕ) {store history out store' history' out' : List ℕ} {at next : Place} → Answers (parse_line l) store history out at store' history' out' (Continue next)
     → (0 < length l) × (next.events ≤ at.events + 1) × (next.bytes ≤ at.bytes + most_printed)
 answered_short l {store} {history} {out} {store'} {history'} {out'} {at} {next} a = go (call_of (parse_line l)) refl a.answered
   where
-    go : (c : Option (Session → Turn)) → call_of (parse_line l) ≡ c → Answered c store history out at store' history' out' (On next)
+    go : (c : Option (Session → Turn)) → call_of (parse_line l) ≡ c → Answered c store history out at store' history' out' (Continue next)
         → (0 < length l) × (next.events ≤ at.events + 1) × (next.bytes ≤ at.bytes + most_printed)
-    go none e a = absurd a
-    go (some call) e t = (some_line l call e, t.most, t.short)
+    go None e a = absurd a
+    go (Some call) e t = (some_line l call e, t.most, t.short)
 
 -- No line is left.
 pub going_ends : {x : Session} {input store history before out : List ℕ} {at events bytes : ℕ} → length input ≤ at → Going x input store history before out at events bytes

@@ -1,6 +1,6 @@
 -- The history that any lines leave is well-formed, explained and linearizable, by demand 3, and its enqueues have a producer's thread
 -- and a call number.
-use Rattle.std.specs.Prelude.{◌≡◌, refl, Bool, true, false, ◌||◌, not, cond, ℕ, zero, suc, ◌≤◌, leb, eqb, length, get_or}
+use Rattle.std.specs.Prelude.{Option, Some, None, ◌≡◌, refl, Bool, true, false, ◌||◌, not, cond, ℕ, zero, suc, ◌≤◌, leb, eqb, length, get_or}
 use Rattle.std.proofs.Common.{ap, sym, ◌∙◌, subst, arith, le-ltb, le-leb, ltb-false}
 use Rattle.std.proofs.Math.Path.{subst⁻¹}
 use mathlib.Core.List.{List, [], ◌∷◌, ◌++◌, map}
@@ -26,7 +26,7 @@ use Rattle.rules.specs.Runs.{plain}
 use Rattle.ordering.specs.Theorem.{Maintained, keeps, opened_kept, opened_cells, demand_3}
 use Rattle.ordering.specs.NoDrain.{NoDrain, Undrained, still_undrained, history_is}
 use Rattle.protocol.specs.declared.Line.{Line}
-use Rattle.protocol.specs.declared.Line.TheVariants.{Open, Enqueue, Dequeue, Step, Bad}
+use Rattle.protocol.specs.declared.Line.TheVariants.{Open, Enqueue, Dequeue, Step}
 use Rattle.protocol.specs.Line.{parse_line}
 use Rattle.refinement.specs.Theorem.{May, result_may}
 use Rattle.session.specs.Session.{blank, Session, start, reopened, open_turn, call_turn, opening, calling, call_of, run_line, run_lines}
@@ -103,12 +103,12 @@ module _ (P : Session → Type 0) (opens : (z : Sizes) (x : Session) → P x →
   after_lines [] x h = h
   after_lines (l ∷ ls) x h = go (parse_line l) (λ y. after_lines ls y)
     where
-      go : (k : Line) → ((y : Session) → P y → P (run_lines ls y).session) → P (run_line (call_of k) x (run_lines ls)).session
-      go (Open b n p m) f = let z : Sizes = record { B = b; N = n; P = p; M = m } in f (opening z x).session (opens z x h)
-      go (Enqueue t v) f = f (calling (start_enqueue t v) x).session (calls (start_enqueue t v) tt x h)
-      go Dequeue f = f (calling start_dequeue x).session (calls start_dequeue tt x h)
-      go (Step t) f = f (calling (step t) x).session (calls (step t) tt x h)
-      go Bad f = h
+      go : (k : Option Line) → ((y : Session) → P y → P (run_lines ls y).session) → P (run_line (call_of k) x (run_lines ls)).session
+      go (Some (Open b n p m)) f = let z : Sizes = record { B = b; N = n; P = p; M = m } in f (opening z x).session (opens z x h)
+      go (Some (Enqueue t v)) f = f (calling (start_enqueue t v) x).session (calls (start_enqueue t v) tt x h)
+      go (Some Dequeue) f = f (calling start_dequeue x).session (calls start_dequeue tt x h)
+      go (Some (Step t)) f = f (calling (step t) x).session (calls (step t) tt x h)
+      go None f = h
 
 -- Demand 3.
 reachable_formed : (x : Session) → Reachable x → (well_formed x.history ≡ true) × Explained x.history

@@ -8,11 +8,10 @@ use Rattle.protocol.specs.Words.{too_long_line}
 use Rattle.protocol.specs.Line.{lines_of}
 use Rattle.recording.specs.Report.{printed_reading}
 use Rattle.session.specs.declared.Place.{Place}
-use Rattle.session.specs.declared.Next.{Next}
-use Rattle.session.specs.declared.Next.TheVariants.{Stop, On}
+use Rattle.std.proofs.Common.{Break, Continue}
 use Rattle.rules.specs.Sizes.{most_words}
 use Rattle.session.specs.Session.{most_input, blank, start, run_lines, printed_run, output}
-use Rattle.session.specs.Turns.{most_replies, Leaves, Ran}
+use Rattle.session.specs.Turns.{Next, most_replies, Leaves, Ran}
 use Rattle.session.specs.Reading.{words_read}
 use Rattle.session.specs.Reaching.{lines_formed, lines_named}
 
@@ -30,10 +29,10 @@ module _ {input out store' history' out' : List ℕ} {r : Next} (f : Ran input (
   unfolding blank
   leaves e = rw e at f.leaves
 
-  pub bad_printed : {end : ℕ} → r ≡ Stop end → length input ≤ most_input → Wrote out 0 (output input) out' end
+  pub bad_printed : {end : ℕ} → r ≡ Break end → length input ≤ most_input → Wrote out 0 (output input) out' end
   bad_printed e l = let g = leaves e in rw (short_output input l, g.0) g.2
 
-  module _ {at : Place} (e : r ≡ On at) where
+  module _ {at : Place} (e : r ≡ Continue at) where
     pub few_events : at.events ≤ most_events
     few_events = (leaves e).1
 

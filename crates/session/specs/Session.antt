@@ -1,6 +1,5 @@
 -- What the program prints, from the bytes that it reads (document 01, "Program").
-use Rattle.std.specs.Prelude.{Bool, true, false, cond, List, [], ◌∷◌, ◌++◌, ℕ, ltb, length, replicate}
-use Rattle.std.proofs.Math.Option.{Option, none, some}
+use Rattle.std.specs.Prelude.{Option, Some, None, Bool, true, false, cond, List, [], ◌∷◌, ◌++◌, ℕ, ltb, length, replicate}
 use Rattle.history.specs.Event.{History}
 use Rattle.criterion.specs.Pass.{explains}
 use Rattle.rules.specs.Sizes.{Sizes, most_words}
@@ -8,7 +7,7 @@ use Rattle.rules.specs.Rule.{Response, refused, accepted}
 use Rattle.rules.specs.Request.{Result, Request, start_enqueue, start_dequeue, step, lending, open_store, result}
 use Rattle.rules.specs.Play.{events}
 use Rattle.protocol.specs.declared.Line.{Line}
-use Rattle.protocol.specs.declared.Line.TheVariants.{Open, Enqueue, Dequeue, Step, Bad}
+use Rattle.protocol.specs.declared.Line.TheVariants.{Open, Enqueue, Dequeue, Step}
 use Rattle.protocol.specs.Words.{bad_line, too_long_line}
 use Rattle.protocol.specs.Line.{lines_of, parse_line}
 use Rattle.protocol.specs.Printed.{printed, printed_verdict}
@@ -58,12 +57,12 @@ unfoldable pub calling : Request → Session → Turn
 calling q x = call_turn q (result (lending [] 0 q) x.words) x.history
 
 -- The call that a line asks for; a bad line asks for none.
-abbrev pub call_of : Line → Option (Session → Turn)
-call_of (Open b n p m) = some (opening (record { B = b; N = n; P = p; M = m }))
-call_of (Enqueue t v) = some (calling (start_enqueue t v))
-call_of Dequeue = some (calling start_dequeue)
-call_of (Step t) = some (calling (step t))
-call_of Bad = none
+abbrev pub call_of : Option Line → Option (Session → Turn)
+call_of (Some (Open b n p m)) = Some (opening (record { B = b; N = n; P = p; M = m }))
+call_of (Some (Enqueue t v)) = Some (calling (start_enqueue t v))
+call_of (Some Dequeue) = Some (calling start_dequeue)
+call_of (Some (Step t)) = Some (calling (step t))
+call_of None = None
 
 -- What some lines leave: what stands after them, the replies that they printed, and whether one of them was bad.
 pub record Run : Type 0 where
@@ -77,8 +76,8 @@ after bytes r = record { session = r.session; replies = bytes ++ r.replies; stop
 
 -- A call prints its reply, and the lines after it go on with what stands then. No line after a bad one is run.
 abbrev pub run_line : Option (Session → Turn) → Session → (Session → Run) → Run
-run_line none x rest = record { session = x; replies = []; stopped = true }
-run_line (some call) x rest = after (printed (call x).reply) (rest (call x).session)
+run_line None x rest = record { session = x; replies = []; stopped = true }
+run_line (Some call) x rest = after (printed (call x).reply) (rest (call x).session)
 
 -- The lines in turn.
 unfoldable pub run_lines : List (List ℕ) → Session → Run

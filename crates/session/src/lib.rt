@@ -15,21 +15,16 @@ ghost use Rattle.session.specs.Turns.{Turned, Finished, Answers, Ran, most_outpu
 use events::{add_noted, note};
 use protocol::Line;
 use reading::MOST_EVENTS;
+use std::ops::ControlFlow;
+use std::ops::ControlFlow::{Break, Continue};
 use store::size::MOST_WORDS;
-use store::{Reply, Shape};
+use store::{Refusal, Reply, Shape};
 
 // Where the next event and the next printed byte go.
 #[derive(Clone, Copy)]
 pub struct Place {
     pub events: usize,
     pub bytes: usize,
-}
-
-// What a line leaves: the run stops, and the output ends at a position; or it goes on.
-#[derive(Clone, Copy)]
-pub enum Next {
-    Stop(usize),
-    On(Place),
 }
 
 // Records what a call of thread t with value v adds, and prints its reply.
@@ -39,7 +34,7 @@ fn finish(
     at: Place,
     t: u32,
     v: u32,
-    reply: Reply,
+    reply: Result<Reply, Refusal>,
     steps: u32,
 ) -> Place
     requires events_in_bounds { at.events * 4 + 4 ≤ length history.old }
@@ -53,18 +48,12 @@ fn finish(
 }
 
 // How many events there are after an open: none, if it was accepted.
-fn reopen(k: usize, reply: Reply) -> usize
+fn reopen(k: usize, reply: Result<Reply, Refusal>) -> usize
     ensures { ((b : List ℕ) (h : History) → Recorded b k h → Recorded b result (reopened (response reply) h)) × (result ≤ k) }
 {
     match reply {
-        Reply::Refused(_) => k,
-        Reply::Ok => 0,
-        Reply::Started(_) => 0,
-        Reply::Going => 0,
-        Reply::Ended => 0,
-        Reply::Empty => 0,
-        Reply::Item(_, _) => 0,
-        Reply::Drained(_) => 0,
+        Ok(_) => 0,
+        Err(_) => k,
     }
 }
 
@@ -78,12 +67,21 @@ fn open_turn(store: &mut [u32], out: &mut [u8], at: Place, z: Shape) -> Place
     Place { events, bytes }
 }
 
-// Does what a line asks.
-fn take_turn(store: &mut [u32], history: &mut [u32], out: &mut [u8], at: Place, line: Line) -> Next
+// Does what a line asks: the run stops, and the output ends at a position; or it goes on.
+fn take_turn(
+    store: &mut [u32],
+    history: &mut [u32],
+    out: &mut [u8],
+    at: Place,
+    line: Option<Line>,
+) -> ControlFlow<usize, Place>
     requires events_in_bounds { at.events * 4 + 4 ≤ length history.old }
     requires most_printed_in_bounds { at.bytes + most_printed ≤ length out.old }
     ensures { Answers line store.old history.old out.old at store.new history.new out.new result }
 {
+    let Some(line) = line else {
+        return Break(text::write_bytes(out, at.bytes, b"bad line\n"));
+    };
     match line {
         Line::Open(entries, records, producers, starts) => {
             let z = Shape {
@@ -92,54 +90,55 @@ fn take_turn(store: &mut [u32], history: &mut [u32], out: &mut [u8], at: Place, 
                 producers,
                 starts,
             };
-            return Next::On(open_turn(store, out, at, z));
+            Continue(open_turn(store, out, at, z))
         }
         Line::Enqueue(t, v) => {
             let reply = engine::start_enqueue(store, t, v);
-            return Next::On(finish(history, out, at, t, v, reply, 1));
+            Continue(finish(history, out, at, t, v, reply, 1))
         }
         Line::Dequeue => {
             let reply = engine::start_dequeue(store);
-            return Next::On(finish(history, out, at, 0, 0, reply, 0));
+            Continue(finish(history, out, at, 0, 0, reply, 0))
         }
         Line::Step(t) => {
             let mut none = [0u32; 0];
             let counted = engine::step(store, t, &mut none, 0);
-            let reply = counted.reply;
-            return Next::On(finish(history, out, at, t, 0, reply, counted.steps));
-        }
-        Line::Bad => {
-            return Next::Stop(text::write_bytes(out, at.bytes, b"bad line\n"));
+            match counted {
+                Ok(done) => Continue(finish(history, out, at, t, 0, Ok(done.reply), done.steps)),
+                Err(refusal) => Continue(finish(history, out, at, t, 0, Err(refusal), 0)),
+            }
         }
     }
 }
 
 // Runs the lines in turn, from a store and no events.
-fn run_lines(input: &[u8], store: &mut [u32], history: &mut [u32], out: &mut [u8]) -> Next
+fn run_lines(
+    input: &[u8],
+    store: &mut [u32],
+    history: &mut [u32],
+    out: &mut [u8],
+) -> ControlFlow<usize, Place>
     requires input_len_bound { length input.now ≤ most_input }
     requires most_events_in_bounds { most_events * 4 ≤ length history.old }
     requires most_output_in_bounds { most_output ≤ length out.old }
     ensures { Ran input.now store.old out.old store.new history.new out.new result }
 {
     let mut at = 0;
-    let mut events = 0;
-    let mut bytes = 0;
+    let mut place = Place {
+        events: 0,
+        bytes: 0,
+    };
+    // Stays: a line's end says where the next one begins, so no range and no iterator gives the positions.
     while at < input.len() {
         let end = protocol::line_end(input, at);
         let line = protocol::parse_line(&input[at..end]);
-        let next = take_turn(store, history, out, Place { events, bytes }, line);
-        match next {
-            Next::Stop(last) => {
-                return Next::Stop(last);
-            }
-            Next::On(place) => {
-                events = place.events;
-                bytes = place.bytes;
-            }
+        match take_turn(store, history, out, place, line) {
+            Break(last) => return Break(last),
+            Continue(next) => place = next,
         }
         at = end + 1;
     }
-    Next::On(Place { events, bytes })
+    Continue(place)
 }
 
 // What the program prints, from the bytes that it reads; the answer is how many bytes. The judge refuses no history of a run
@@ -153,14 +152,11 @@ pub fn run(input: &[u8], out: &mut [u8; 155_679]) -> usize
     }
     let mut store = [0u32; MOST_WORDS];
     let mut history = [0u32; 4 * MOST_EVENTS];
-    let next = run_lines(input, &mut store, &mut history, out);
-    match next {
-        Next::Stop(last) => {
-            return last;
-        }
-        Next::On(place) => {
-            let words = place.events * 4;
-            return recording::print_verdict(&history[..words], out, place.bytes);
+    match run_lines(input, &mut store, &mut history, out) {
+        Break(end) => end,
+        Continue(at) => {
+            let words = at.events * 4;
+            recording::print_verdict(&history[..words], out, at.bytes)
         }
     }
 }

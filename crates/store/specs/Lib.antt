@@ -1,8 +1,10 @@
 pub mod Shape
+pub mod Refusal
 pub mod Outcome
 pub mod Items
 pub mod Caps
 pub mod Store
+pub mod View
 pub mod Rows
 pub mod Slot
 pub mod Words

@@ -1,7 +1,6 @@
 -- Laws of the accessors: a cell that is there is one word, a word in range is at most its cap, and zeros written one by one.
-use Rattle.std.specs.Prelude.{◌≡◌, refl, Bool, true, false, ◌&&◌, ◌||◌, cond, List, [], ◌∷◌, ◌++◌, ℕ, zero, suc, ◌+◌, ◌*◌, ◌≤◌, ◌<◌, leb, ltb, eqb, length, get_or, set, replicate}
+use Rattle.std.specs.Prelude.{◌≡◌, refl, Bool, true, false, ◌&&◌, ◌||◌, cond, List, [], ◌∷◌, ◌++◌, ℕ, zero, suc, ◌+◌, ◌*◌, ◌≤◌, ◌<◌, leb, ltb, eqb, length, get_or}
 use Rattle.std.proofs.Common.{ap, sym, ◌∙◌, subst, mul-le-mul_left, mul-le-mul_right, arith, ne_eqb, leb-true, eqb-true}
-use Rattle.std.proofs.lemmas.List.Edits.{sets}
 use Rattle.rules.specs.Sizes.{Sizes, content_words, thread_words, record_words, first_record, most_entries, most_records, most_place, most_drained}
 use Rattle.rules.specs.Cell.{Cell, content, last_claimed, all_handled, spare, consumer, producer, part, entry, drain, pair, consumer_phase, drain_limit, drain_count, step_count, address, reader, Write, write, writes}
 use Rattle.rules.specs.Update.{both, true_false}
@@ -199,11 +198,6 @@ pub writes_then : (z : Sizes) (m : List ℕ) (ws vs : List Write) → writes z m
 unfolding writes
 writes_then z m [] vs = refl
 writes_then z m (w ∷ ws) vs = writes_then z (write z m w) ws vs
-
--- zeros written one by one
-pub clear_more : (n : ℕ) (l : List ℕ) (at : ℕ) → set (sets l at (replicate n 0)) (at + n) 0 ≡ sets l at (replicate (suc n) 0)
-clear_more zero l at = ap (λ (i : ℕ). set l i 0) (omega arith)
-clear_more (suc n) l at = ap (λ (i : ℕ). set (sets (set l at 0) (suc at) (replicate n 0)) i 0) (omega arith) ∙ clear_more n (set l at 0) (suc at)
 
 -- the words of so many records
 pub records_below : (w r : ℕ) → w ≤ most_record_words → r ≤ most_records → r * w ≤ most_records * most_record_words

@@ -1,4 +1,5 @@
-// The lent words of a store by name: what a word holds, and stores to it (document 01, "Store").
+// The lent words of a store by name: what admitted words hold is read through a `Store` (view.rt), and words are stored by the functions here (document
+// 01, "Store").
 #![tactic(auto)]
 
 ghost use Rattle.std.specs.Prelude.{◌≡◌, cond, ◌+◌, ◌*◌, ◌<◌, ◌≤◌, length, set, replicate};
@@ -9,17 +10,22 @@ ghost use Rattle.rules.specs.Cell.{reader, place, used, write, ◌:=◌, content
 ghost use Rattle.rules.specs.Address.{There};
 ghost use Rattle.store.specs.Shape.{sizes};
 ghost use Rattle.store.specs.Caps.{most_record_words};
+ghost use Rattle.store.specs.Refusal.{refusal_number, Needed};
 ghost use Rattle.store.specs.Store.{Room, Admitted, Reads, Holds};
 ghost use Rattle.store.specs.Rows.{ReadsContents, ReadsConsumer, ReadsProducer, ReadsDrain};
-ghost use Rattle.store.specs.Slot.{Slotted};
+ghost use Rattle.store.specs.Slot.{Slotted, Found};
 
 pub mod phase;
 pub mod size;
 pub mod state;
 pub mod usage;
+pub mod view;
 pub mod word;
 
+pub use view::Store;
+
 // The sizes of a store: entries in a record (B), records (N), producers (P), enqueue starts allowed (M).
+// Stays: the limits are clauses of the sums below, each those that it needs; a ghost field here would ask them of *open*, which takes any sizes.
 #[derive(Clone, Copy)]
 pub struct Shape {
     pub entries: u32,
@@ -28,11 +34,46 @@ pub struct Shape {
     pub starts: u32,
 }
 
-// What a call replies.
+// Why a call is turned down (document 01, "Where a call is turned down"; document 02, U5), by the number of the table.
+#[derive(Clone, Copy, PartialEq, Eq)]
+pub enum Refusal {
+    // Of open: the sizes are outside their limits.
+    Sizes = 1,
+    // The store has too few words.
+    Short = 2,
+    // A word is out of its range.
+    OutOfRange = 3,
+    // There is no such producer, or thread.
+    NoThread = 4,
+    // The thread has a call under way.
+    Busy = 5,
+    // All enqueue starts are used.
+    NoStartLeft = 6,
+    // The thread is idle.
+    Idle = 7,
+    // No record is free.
+    NoneFree = 8,
+    // A needed link is none, an index leaves the record, or a number would leave its range.
+    Broken = 9,
+    // A drain's limit is out of its range.
+    Limit = 14,
+    // The drain's buffer is too short.
+    BufferShort = 15,
+}
+
+// The number of a refusal, for C and for the program's lines.
+impl From<Refusal> for u32 {
+    ghost from_gives = { λ refusal number. number ≡ refusal_number refusal };
+
+    fn from(refusal: Refusal) -> u32 {
+        refusal as u32
+    }
+}
+
+// What an accepted call replies.
 #[derive(Clone, Copy)]
 pub enum Reply {
-    Refused(u32),
-    Ok,
+    Done,
     Started(u32),
     Going,
     Ended,
@@ -90,16 +131,23 @@ pub struct Drain {
     pub count: u32,
 }
 
-// Where a position stands in the record that a link names: at its end, at an index of it, or neither, which is also where the
-// link is none.
+// Where a position stands in the record that a link names: at its end, or at an index of it.
 #[derive(Clone, Copy)]
 pub enum Slot {
-    None,
     End { record: u32 },
     At { record: u32, index: u32 },
 }
 
+// An entry of a record, by its index.
+#[derive(Clone, Copy)]
+pub struct Located {
+    pub record: u32,
+    pub index: u32,
+}
+
 // One number or the other.
+// Stays: where an `if` expression joins before a later call or return, the check knows the value by its cases alone, and each answer after it (five
+// in `area`) has to take the cases again; a function's clause is known as it stands.
 pub fn select(test: bool, yes: u32, no: u32) -> u32
     ensures { result ≡ cond test yes no }
 {
@@ -130,15 +178,6 @@ pub fn drain_at(z: Shape) -> u32
     record_at(z, z.records)
 }
 
-// The word at an address, which is that of its cell, and a store to it.
-fn word_at(s: &[u32], z: Shape, at: u32) -> u32
-    requires admitted { Admitted (sizes z) s.now }
-    requires at_bound { at < store_words (sizes z) }
-    ensures { Holds (sizes z) s.now at result }
-{
-    s[at as usize]
-}
-
 fn put_word(s: &mut [u32], z: Shape, at: u32, v: u32)
     requires room { Room (sizes z) s.old }
     requires at_bound { at < store_words (sizes z) }
@@ -158,15 +197,8 @@ fn put_pair(s: &mut [u32], z: Shape, at: u32, v: u32, w: u32)
     s[i + 1] = w;
 }
 
-// Word k of the contents.
-fn content_word(s: &[u32], z: Shape, k: u32) -> u32
-    requires admitted { Admitted (sizes z) s.now }
-    requires there { There (sizes z) (content k) }
-    ensures { Reads (sizes z) s.now (content k) result }
-{
-    word_at(s, z, k)
-}
-
+// Stays: this function and those below are one line each over put_word or put_pair; each has an address and a cell of its own, so that one for all would
+// take both as parameters and say no more.
 pub fn put_content(s: &mut [u32], z: Shape, k: u32, v: u32)
     requires room { Room (sizes z) s.old }
     requires there { There (sizes z) (content k) }
@@ -183,27 +215,6 @@ pub fn put_head(s: &mut [u32], z: Shape, link: u32, position: u32)
     put_pair(s, z, word::HEAD_RECORD, link, position);
 }
 
-pub fn read_contents(s: &[u32], z: Shape) -> Contents
-    requires { Admitted (sizes z) s.now }
-    ensures { ReadsContents (sizes z) s.now result }
-{
-    Contents {
-        tail: content_word(s, z, word::TAIL),
-        tail_record: content_word(s, z, word::TAIL_RECORD),
-        head_record: content_word(s, z, word::HEAD_RECORD),
-        head_position: content_word(s, z, word::HEAD_POSITION),
-        starts: content_word(s, z, word::STARTS),
-    }
-}
-
-// The record claimed last, a link.
-pub fn last_claimed(s: &[u32], z: Shape) -> u32
-    requires { Admitted (sizes z) s.now }
-    ensures { Reads (sizes z) s.now last_claimed result }
-{
-    word_at(s, z, word::LAST_CLAIMED)
-}
-
 pub fn put_last_claimed(s: &mut [u32], z: Shape, link: u32)
     requires { Room (sizes z) s.old }
     ensures { s.new ≡ write (sizes z) s.old (last_claimed := link) }
@@ -211,28 +222,11 @@ pub fn put_last_claimed(s: &mut [u32], z: Shape, link: u32)
     put_word(s, z, word::LAST_CLAIMED, link);
 }
 
-// Whether every entry read so far in the cursor's record was handled, the record entered at its first: 1, or 0 (document 02, U6).
-pub fn all_handled(s: &[u32], z: Shape) -> u32
-    requires { Admitted (sizes z) s.now }
-    ensures { Reads (sizes z) s.now all_handled result }
-{
-    word_at(s, z, word::ALL_HANDLED)
-}
-
 pub fn put_all_handled(s: &mut [u32], z: Shape, v: u32)
     requires { Room (sizes z) s.old }
     ensures { s.new ≡ write (sizes z) s.old (all_handled := v) }
 {
     put_word(s, z, word::ALL_HANDLED, v);
-}
-
-// Word k of the consumer.
-fn consumer_word(s: &[u32], z: Shape, k: u32) -> u32
-    requires admitted { Admitted (sizes z) s.now }
-    requires there { There (sizes z) (consumer k) }
-    ensures { Reads (sizes z) s.now (consumer k) result }
-{
-    word_at(s, z, size::CONTENT_WORDS + k)
 }
 
 pub fn put_consumer(s: &mut [u32], z: Shape, k: u32, v: u32)
@@ -269,62 +263,12 @@ pub fn put_item(s: &mut [u32], z: Shape, number: u32, value: u32)
     put_pair(s, z, at, number, value);
 }
 
-pub fn read_consumer(s: &[u32], z: Shape) -> Consumer
-    requires { Admitted (sizes z) s.now }
-    ensures { ReadsConsumer (sizes z) s.now result }
-{
-    Consumer {
-        phase: consumer_word(s, z, word::PHASE),
-        cursor_record: consumer_word(s, z, word::CURSOR_RECORD),
-        cursor_position: consumer_word(s, z, word::CURSOR_POSITION),
-        found_record: consumer_word(s, z, word::FOUND_RECORD),
-        found_position: consumer_word(s, z, word::FOUND_POSITION),
-        item_call: consumer_word(s, z, word::ITEM_CALL),
-        item_value: consumer_word(s, z, word::ITEM_VALUE),
-    }
-}
-
-// Word k of producer t.
-fn producer_word(s: &[u32], z: Shape, t: u32, k: u32) -> u32
-    requires admitted { Admitted (sizes z) s.now }
-    requires there { There (sizes z) (producer t k) }
-    ensures { Reads (sizes z) s.now (producer t k) result }
-{
-    word_at(s, z, size::CONTENT_WORDS + size::THREAD_WORDS * t + k)
-}
-
 pub fn put_producer(s: &mut [u32], z: Shape, t: u32, k: u32, v: u32)
     requires room { Room (sizes z) s.old }
     requires there { There (sizes z) (producer t k) }
     ensures { s.new ≡ write (sizes z) s.old (producer t k := v) }
 {
     put_word(s, z, size::CONTENT_WORDS + size::THREAD_WORDS * t + k, v);
-}
-
-pub fn read_producer(s: &[u32], z: Shape, t: u32) -> Producer
-    requires admitted { Admitted (sizes z) s.now }
-    requires le_t { (1 ≤ t) × (t ≤ z.producers) }
-    ensures { ReadsProducer (sizes z) s.now t result }
-{
-    Producer {
-        phase: producer_word(s, z, t, word::PHASE),
-        call: producer_word(s, z, t, word::CALL),
-        value: producer_word(s, z, t, word::VALUE),
-        position: producer_word(s, z, t, word::POSITION),
-        held: producer_word(s, z, t, word::HELD),
-        claimed: producer_word(s, z, t, word::CLAIMED),
-        backed: producer_word(s, z, t, word::BACKED),
-    }
-}
-
-// The accepted steps of the call that thread t has under way; the consumer is thread 0.
-pub fn step_count(s: &[u32], z: Shape, t: u32) -> u32
-    requires admitted { Admitted (sizes z) s.now }
-    requires t_le_producers { t ≤ z.producers }
-    ensures { reader (sizes z) s.now (step_count t) ≡ result }
-{
-    let at = size::CONTENT_WORDS + size::THREAD_WORDS * t + word::STEPS;
-    word_at(s, z, at)
 }
 
 pub fn put_step_count(s: &mut [u32], z: Shape, t: u32, v: u32)
@@ -336,30 +280,12 @@ pub fn put_step_count(s: &mut [u32], z: Shape, t: u32, v: u32)
     put_word(s, z, at, v);
 }
 
-// Word j of record r, its entries' words included.
-fn record_word(s: &[u32], z: Shape, r: u32, j: u32) -> u32
-    requires admitted { Admitted (sizes z) s.now }
-    requires r_lt_records { (r < z.records) × (j < record_words (sizes z)) }
-    ensures { Holds (sizes z) s.now (first_record (sizes z) + r * record_words (sizes z) + j) result }
-{
-    word_at(s, z, record_at(z, r) + j)
-}
-
 fn put_record_word(s: &mut [u32], z: Shape, r: u32, j: u32, v: u32)
     requires room { Room (sizes z) s.old }
     requires r_lt_records { (r < z.records) × (j < record_words (sizes z)) }
     ensures { s.new ≡ set s.old (first_record (sizes z) + r * record_words (sizes z) + j) v }
 {
     put_word(s, z, record_at(z, r) + j, v);
-}
-
-// Word k of record r.
-pub fn part(s: &[u32], z: Shape, r: u32, k: u32) -> u32
-    requires admitted { Admitted (sizes z) s.now }
-    requires there { There (sizes z) (part r k) }
-    ensures { Reads (sizes z) s.now (part r k) result }
-{
-    record_word(s, z, r, k)
 }
 
 pub fn put_part(s: &mut [u32], z: Shape, r: u32, k: u32, v: u32)
@@ -370,30 +296,12 @@ pub fn put_part(s: &mut [u32], z: Shape, r: u32, k: u32, v: u32)
     put_record_word(s, z, r, k, v);
 }
 
-// The use of record r.
-pub fn use_of(s: &[u32], z: Shape, r: u32) -> u32
-    requires admitted { Admitted (sizes z) s.now }
-    requires r_lt_records { r < z.records }
-    ensures { Reads (sizes z) s.now (used r) result }
-{
-    part(s, z, r, word::USE)
-}
-
 pub fn put_use(s: &mut [u32], z: Shape, r: u32, v: u32)
     requires room { Room (sizes z) s.old }
     requires r_lt_records { r < z.records }
     ensures { s.new ≡ write (sizes z) s.old (used r := v) }
 {
     put_part(s, z, r, word::USE, v);
-}
-
-// Word k of entry i of record r.
-pub fn entry(s: &[u32], z: Shape, r: u32, i: u32, k: u32) -> u32
-    requires admitted { Admitted (sizes z) s.now }
-    requires there { There (sizes z) (entry r i k) }
-    ensures { Reads (sizes z) s.now (entry r i k) result }
-{
-    record_word(s, z, r, 4 + 3 * i + k)
 }
 
 pub fn put_entry(s: &mut [u32], z: Shape, r: u32, i: u32, k: u32, v: u32)
@@ -404,31 +312,12 @@ pub fn put_entry(s: &mut [u32], z: Shape, r: u32, i: u32, k: u32, v: u32)
     put_record_word(s, z, r, 4 + 3 * i + k, v);
 }
 
-// Word k of the drain area before its pairs.
-fn drain_word(s: &[u32], z: Shape, k: u32) -> u32
-    requires admitted { Admitted (sizes z) s.now }
-    requires there { There (sizes z) (drain k) }
-    ensures { Reads (sizes z) s.now (drain k) result }
-{
-    word_at(s, z, drain_at(z) + k)
-}
-
 pub fn put_drain(s: &mut [u32], z: Shape, k: u32, v: u32)
     requires room { Room (sizes z) s.old }
     requires there { There (sizes z) (drain k) }
     ensures { s.new ≡ write (sizes z) s.old (drain k := v) }
 {
     put_word(s, z, drain_at(z) + k, v);
-}
-
-pub fn read_drain(s: &[u32], z: Shape) -> Drain
-    requires { Admitted (sizes z) s.now }
-    ensures { ReadsDrain (sizes z) s.now result }
-{
-    Drain {
-        limit: drain_word(s, z, word::LIMIT),
-        count: drain_word(s, z, word::COUNT),
-    }
 }
 
 // Pair i of the drain area: call number and value of an item.
@@ -447,12 +336,8 @@ pub fn clear(s: &mut [u32], at: u32, n: u32)
     ensures { s.new ≡ sets s.old at (replicate n 0) }
 {
     let from = at as usize;
-    let count = n as usize;
-    let mut i: usize = 0;
-    while i < count {
-        s[from + i] = 0;
-        i += 1;
-    }
+    let to = from + n as usize;
+    s[from..to].fill(0);
 }
 
 // Zero into the eight words of the consumer, of producer t, into every word of record r, into every word of the drain area.
@@ -487,37 +372,12 @@ pub fn clear_drain(s: &mut [u32], z: Shape)
     clear(s, drain_at(z), size::DRAIN_WORDS);
 }
 
-// B × place: the position past record r's last.
-pub fn record_end(s: &[u32], z: Shape, r: u32) -> u32
-    requires admitted { Admitted (sizes z) s.now }
-    requires r_lt_records { r < z.records }
-    ensures { (z.entries * reader (sizes z) s.now (place r) ≡ result) × (result ≤ most_entries * most_place) }
-{
-    z.entries * part(s, z, r, word::PLACE)
-}
-
-// Where position p stands in the record that a link names.
-pub fn slot_in(s: &[u32], z: Shape, link: u32, p: u32) -> Slot
-    requires admitted { Admitted (sizes z) s.now }
-    requires link_le_records { (link ≤ z.records) × (p ≤ z.starts) }
-    ensures { Slotted (sizes z) s.now link p result }
+// The record that a needed link names; refusal 9 where it is none.
+pub fn needed(link: u32) -> Result<u32, Refusal>
+    ensures { Needed link result }
 {
     if link == 0 {
-        return Slot::None;
+        return Err(Refusal::Broken);
     }
-    let record = link - 1;
-    let end = record_end(s, z, record);
-    if p == end {
-        return Slot::End { record };
-    }
-    if end < p {
-        return Slot::None;
-    }
-    if p + z.entries < end {
-        return Slot::None;
-    }
-    Slot::At {
-        record,
-        index: p + z.entries - end,
-    }
+    Ok(link - 1)
 }

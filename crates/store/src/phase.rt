@@ -1,4 +1,5 @@
 // The phases by their numbers in document 01, "Calls".
+// Stays: numbers, since the phase is matched by its number, with ranges for those that are none.
 
 // No call is under way.
 pub const IDLE: u32 = 0;

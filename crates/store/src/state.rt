@@ -1,4 +1,5 @@
 // What an entry's state may be.
+// Stays: numbers, as the words of the lent store are; admission compares them while they may be out of range, and no `match` goes over them.
 pub const EMPTY: u32 = 0;
 
 pub const SET: u32 = 1;

@@ -1,4 +1,5 @@
 // What a record's use may be.
+// Stays: numbers, as the words of the lent store are; admission compares them while they may be out of range, and no `match` goes over them.
 pub const FREE: u32 = 0;
 
 pub const CLAIMED: u32 = 1;

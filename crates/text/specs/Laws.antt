@@ -1,13 +1,12 @@
 -- Laws of decimal numbers and of runs of stores.
-use Rattle.std.specs.Prelude.{◌≡◌, refl, Bool, true, false, cond, List, [], ◌∷◌, ◌++◌, ℕ, zero, suc, ◌+◌, ◌-◌, ◌*◌, ◌/◌, ◌%◌, ◌≤◌, ◌<◌, leb, ltb, length, set, take, drop, get_or}
-use Rattle.std.proofs.Common.{ap, sym, ◌∙◌, arith, sub-one, add-zero, length-append, take-suc, drop-cons, length-take-le, lt-ltb, le-ltb, le-leb}
+use Rattle.std.specs.Prelude.{None, ◌≡◌, refl, Bool, true, false, cond, List, [], ◌∷◌, ◌++◌, ℕ, zero, suc, ◌+◌, ◌-◌, ◌*◌, ◌/◌, ◌%◌, ◌≤◌, ◌<◌, leb, ltb, length, set, drop, get_or}
+use Rattle.std.proofs.Common.{ap, ◌∙◌, arith, sub-one, add-zero, length-append, drop-cons, lt-ltb, le-ltb, le-leb}
 use Rattle.std.proofs.Math.Numerals.{add-one}
 use Rattle.std.proofs.lemmas.List.Edits.{sets}
 use Rattle.std.proofs.Math.Seq.{length-sets}
 use Rattle.std.proofs.lemmas.Bool.{lt-leb}
-use Rattle.text.specs.declared.Number.TheVariants.{Bad, Read}
 use Rattle.text.specs.Wrote.{Wrote}
-use Rattle.text.specs.Decimal.{most_number, is_digit, digits_from, digit, digits}
+use Rattle.text.specs.Decimal.{read, most_number, is_digit, digits_from, digit, digits}
 
 -- a run of stores, and one after it
 pub sets_append : (l : List ℕ) (i : ℕ) (xs ys : List ℕ) → sets (sets l i xs) (i + length xs) ys ≡ sets l i (xs ++ ys)
@@ -35,15 +34,6 @@ wrote_within w room fits = omega (arith, w.next_is, simp length-sets at (ap leng
 pub wrote_byte : (o : List ℕ) (at b : ℕ) → Wrote o at (b ∷ []) (set o at b) (at + 1)
 wrote_byte o at b = record { next_is = refl; after_is = refl }
 
--- one more of some bytes that are stored in turn
-pub sets_take : (l bs : List ℕ) (at i : ℕ) → i < length bs → set (sets l at (take i bs)) (at + i) (get_or bs i 0) ≡ sets l at (take (i + 1) bs)
-sets_take l bs at i h =
-    let e : length (take i bs) ≡ i = length-take-le i bs (omega arith) in
-    ap (λ (k : ℕ). set (sets l at (take i bs)) (at + k) (get_or bs i 0)) (sym e)
-    ∙ sets_append l at (take i bs) (get_or bs i 0 ∷ [])
-    ∙ ap (λ (r : List ℕ). sets l at r) (sym (take-suc bs i 0 h))
-    ∙ ap (λ (k : ℕ). sets l at (take k bs)) (sym (add-one i))
-
 -- a byte that is not 0 stands within the bytes
 pub inside : (s : List ℕ) (at : ℕ) → 0 < get_or s at 0 → at < length s
 inside [] at h = absurd (omega arith)
@@ -52,21 +42,18 @@ inside (x ∷ xs) (suc at) h = let l = inside xs at h in omega arith
 
 -- Digits that are read: what stands at position i, with the number n so far.
 module _ (s : List ℕ) (i n : ℕ) (h : i < length s) where
-  digits_at : digits_from i n (drop i s) ≡ cond (is_digit (get_or s i 0)) (cond (leb (n * 10 + (get_or s i 0 - 48)) most_number) (digits_from (i + 1) (n * 10 + (get_or s i 0 - 48)) (drop (i + 1) s)) Bad) (Read n i)
+  digits_at : digits_from i n (drop i s) ≡ cond (is_digit (get_or s i 0)) (cond (leb (n * 10 + (get_or s i 0 - 48)) most_number) (digits_from (i + 1) (n * 10 + (get_or s i 0 - 48)) (drop (i + 1) s)) None) (read n i)
   unfolding digits_from
   digits_at = rw (drop-cons s i 0, add-one i)
 
-  pub digits_below : get_or s i 0 < 48 → digits_from i n (drop i s) ≡ Read n i
-  digits_below l = digits_at ∙ simp (lt-leb 48 (get_or s i 0) l)
+  pub digits_end : is_digit (get_or s i 0) ≡ false → digits_from i n (drop i s) ≡ read n i
+  digits_end e = digits_at ∙ simp e
 
-  pub digits_above : 48 ≤ get_or s i 0 → 57 < get_or s i 0 → digits_from i n (drop i s) ≡ Read n i
-  digits_above l g = digits_at ∙ simp (le-leb 48 (get_or s i 0) l, lt-leb (get_or s i 0) 57 g)
+  pub digits_over : is_digit (get_or s i 0) ≡ true → most_number < n * 10 + (get_or s i 0 - 48) → digits_from i n (drop i s) ≡ None
+  digits_over e o = digits_at ∙ simp (e, lt-leb (n * 10 + (get_or s i 0 - 48)) most_number o)
 
-  pub digits_over : 48 ≤ get_or s i 0 → get_or s i 0 ≤ 57 → most_number < n * 10 + (get_or s i 0 - 48) → digits_from i n (drop i s) ≡ Bad
-  digits_over l g o = digits_at ∙ simp (le-leb 48 (get_or s i 0) l, le-leb (get_or s i 0) 57 g, lt-leb (n * 10 + (get_or s i 0 - 48)) most_number o)
-
-  pub digits_more : 48 ≤ get_or s i 0 → get_or s i 0 ≤ 57 → n * 10 + (get_or s i 0 - 48) ≤ most_number → digits_from i n (drop i s) ≡ digits_from (i + 1) (n * 10 + (get_or s i 0 - 48)) (drop (i + 1) s)
-  digits_more l g o = digits_at ∙ simp (le-leb 48 (get_or s i 0) l, le-leb (get_or s i 0) 57 g, le-leb (n * 10 + (get_or s i 0 - 48)) most_number o)
+  pub digits_more : is_digit (get_or s i 0) ≡ true → n * 10 + (get_or s i 0 - 48) ≤ most_number → digits_from i n (drop i s) ≡ digits_from (i + 1) (n * 10 + (get_or s i 0 - 48)) (drop (i + 1) s)
+  digits_more e o = digits_at ∙ simp (e, le-leb (n * 10 + (get_or s i 0 - 48)) most_number o)
 
 -- Digits that are printed.
 pub digits_none : (k n : ℕ) → k ≡ 0 → digits k n ≡ []

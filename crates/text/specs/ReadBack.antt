@@ -1,8 +1,7 @@
 -- A number that was printed is read back: `decimal n` with no digit after it gives n and the position after it.
 use Rattle.std.specs.Prelude.{◌≡◌, refl, Bool, true, false, List, [], ◌∷◌, ◌++◌, ℕ, zero, suc, ◌+◌, ◌-◌, ◌*◌, ◌/◌, ◌%◌, ◌^◌, ◌≤◌, ◌<◌, ltb, length, drop, get_or}
 use Rattle.std.proofs.Common.{ap, sym, ◌∙◌, append_assoc, arith, add-zero, pow-suc, length-append, get_or-drop, ltb-true, ltb-false, le-leb, ne_eqb}
-use Rattle.text.specs.declared.Number.TheVariants.{Read}
-use Rattle.text.specs.Decimal.{most_number, is_digit, digits_from, number_at, digit, digits, decimal}
+use Rattle.text.specs.Decimal.{read, most_number, is_digit, digits_from, number_at, digit, digits, decimal}
 use Rattle.text.specs.Laws.{digits_none, digits_short, digits_split}
 
 -- one digit more
@@ -13,7 +12,7 @@ digit_step at n d rest h m =
     simp (le-leb 48 (48 + d) (omega arith), le-leb (48 + d) 57 (omega arith), e, le-leb (n * 10 + d) most_number m)
 
 -- the bytes after a number's last digit
-scanned : (at n : ℕ) (rest : List ℕ) → is_digit (get_or rest 0 0) ≡ false → digits_from at n rest ≡ Read n at
+scanned : (at n : ℕ) (rest : List ℕ) → is_digit (get_or rest 0 0) ≡ false → digits_from at n rest ≡ read n at
 unfolding digits_from
 scanned at n [] h = refl
 scanned at n (b ∷ bs) h = simp h
@@ -61,7 +60,7 @@ first_at : (s : List ℕ) (at : ℕ) → get_or s at 0 ≡ get_or (drop at s) 0 
 first_at s at = sym (ap (λ (k : ℕ). get_or s k 0) (add-zero at)) ∙ sym (get_or-drop at s 0 0)
 
 -- Where `decimal n` stands at a position, with no digit after it, the number there is n.
-pub reads_back : (s : List ℕ) (at n : ℕ) (rest : List ℕ) → drop at s ≡ decimal n ++ rest → n ≤ most_number → is_digit (get_or rest 0 0) ≡ false → number_at s at ≡ Read n (at + length (decimal n))
+pub reads_back : (s : List ℕ) (at n : ℕ) (rest : List ℕ) → drop at s ≡ decimal n ++ rest → n ≤ most_number → is_digit (get_or rest 0 0) ≡ false → number_at s at ≡ read n (at + length (decimal n))
 unfolding number_at
 reads_back s at zero rest e m h =
     let d : decimal 0 ≡ 48 ∷ [] = digits_short 10 0 (omega arith) (omega arith) in

@@ -1,84 +1,61 @@
 // Decimal numbers in bytes: read at a position and written at one.
 #![tactic(auto)]
 
-ghost use Rattle.std.specs.Prelude.{◌≡◌, ◌+◌, ◌≤◌, length, get_or, drop};
+ghost use Rattle.std.specs.Prelude.{◌≡◌, ◌+◌, ◌≤◌, length, drop};
 ghost use Rattle.text.specs.Decimal.{digits_from, after_zero, number_at, digits, decimal};
 ghost use Rattle.text.specs.Wrote.{Wrote};
 
-// What reading a number finds: none, or its value and the position after it.
+// A number that was read, and the position after it.
 #[derive(Clone, Copy)]
-pub enum Number {
-    Bad,
-    Read(u32, usize),
-}
-
-const MOST_NUMBER: u64 = 4294967295;
-
-// The byte at a position, 0 past the end.
-pub fn byte_at(s: &[u8], at: usize) -> u8
-    ensures { result ≡ get_or s.now at 0 }
-{
-    if at < s.len() {
-        return s[at];
-    }
-    0
+pub struct Number {
+    pub value: u32,
+    pub next: usize,
 }
 
 // The number of all the digits from a position on, 0 where there are none.
-fn read_digits(s: &[u8], at: usize) -> Number
+fn read_digits(s: &[u8], at: usize) -> Option<Number>
+    requires { at ≤ length s.now }
     ensures { result ≡ digits_from at 0 (drop at s.now) }
 {
-    let mut i = at;
-    let mut n: u64 = 0;
-    while i < s.len() {
+    let mut value: u32 = 0;
+    for i in at..s.len() {
         let b = s[i];
-        if b < 48 {
-            return Number::Read(n as u32, i);
+        if !b.is_ascii_digit() {
+            return Some(Number { value, next: i });
         }
-        if 57 < b {
-            return Number::Read(n as u32, i);
-        }
-        n = n * 10 + (b - 48) as u64;
-        if MOST_NUMBER < n {
-            return Number::Bad;
-        }
-        i += 1;
+        value = value.checked_mul(10)?.checked_add((b - b'0') as u32)?;
     }
-    Number::Read(n as u32, i)
+    let next = s.len();
+    Some(Number { value, next })
 }
 
 // A zero that was read before the position, with no digit after it.
-fn after_zero(s: &[u8], at: usize) -> Number
+fn after_zero(s: &[u8], at: usize) -> Option<Number>
     ensures { result ≡ after_zero s.now at }
 {
-    let b = byte_at(s, at);
-    if b < 48 {
-        return Number::Read(0, at);
+    match s.get(at) {
+        Some(b) if b.is_ascii_digit() => None,
+        _ => Some(Number { value: 0, next: at }),
     }
-    if 57 < b {
-        return Number::Read(0, at);
-    }
-    Number::Bad
 }
 
 // The number at a position.
 #[tactic(auto, using(crate::proofs::Leading::zero_leads))]
-pub fn read_number(s: &[u8], at: usize) -> Number
+pub fn read_number(s: &[u8], at: usize) -> Option<Number>
     ensures { result ≡ number_at s.now at }
 {
-    let b = byte_at(s, at);
-    if b < 48 {
-        return Number::Bad;
+    let b = *s.get(at)?;
+    if !b.is_ascii_digit() {
+        return None;
     }
-    if 57 < b {
-        return Number::Bad;
-    }
-    if b == 48 {
+    if b == b'0' {
         return after_zero(s, at + 1);
     }
     read_digits(s, at)
 }
 
+// Stays: the functions that write take a lent buffer and a position, and no struct that owns its bytes, since the contracts of `report`
+// (recording) and `run` (session), which docs/CLAIMS.md names, give the whole lent buffer: what is not written stays as it was (`Wrote`).
 // Writes at most k digits of n at a position, and answers the position after them.
 fn write_digits(out: &mut [u8], at: usize, k: usize, n: u32) -> usize
     requires { at + k ≤ length out.old }
@@ -88,11 +65,11 @@ fn write_digits(out: &mut [u8], at: usize, k: usize, n: u32) -> usize
         return at;
     }
     if n < 10 {
-        out[at] = (48 + n) as u8;
+        out[at] = b'0' + n as u8;
         return at + 1;
     }
     let next = write_digits(out, at, k - 1, n / 10);
-    out[next] = (48 + n % 10) as u8;
+    out[next] = b'0' + (n % 10) as u8;
     next + 1
 }
 
@@ -109,10 +86,7 @@ pub fn write_bytes(out: &mut [u8], at: usize, bytes: &[u8]) -> usize
     requires { at + length bytes.now ≤ length out.old }
     ensures { Wrote out.old at bytes.now out.new result }
 {
-    let mut i = 0;
-    while i < bytes.len() {
-        out[at + i] = bytes[i];
-        i += 1;
-    }
-    at + bytes.len()
+    let next = at + bytes.len();
+    out[at..next].copy_from_slice(bytes);
+    next
 }

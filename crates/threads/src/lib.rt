@@ -52,10 +52,8 @@ pub fn producers_in_range(s: &[u32], z: Shape) -> bool
     ensures { every z.producers (λ p. producer_in_range (sizes z) (reader (sizes z) s.now) (suc p)) ≡ result }
 {
     let mut ok = true;
-    let mut t: u32 = 0;
-    while t < z.producers {
+    for t in 0..z.producers {
         ok = ok & producer_in_range(s, z, t + 1);
-        t += 1;
     }
     ok
 }

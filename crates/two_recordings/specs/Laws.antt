@@ -1,28 +1,23 @@
 -- Laws of the empty line, of events as lines and of what is printed.
-use Rattle.std.specs.Prelude.{◌≡◌, refl, Bool, true, false, ◌&&◌, cond, List, [], ◌∷◌, ◌++◌, ℕ, suc, ◌+◌, ◌≤◌, ◌<◌, eqb, leb, length, take, drop, get_or}
+use Rattle.std.specs.Prelude.{◌≡◌, refl, Bool, true, false, ◌&&◌, cond, List, [], ◌∷◌, ◌++◌, ℕ, suc, ◌+◌, ◌≤◌, ◌<◌, eqb, leb, length, take, drop, get_or, Ok, Err}
 use Rattle.std.proofs.Math.Path.{ap}
 use Rattle.std.proofs.Common.{sym, ◌∙◌, append-nil, append_assoc, arith, add-zero, zero-add, length-append, length-drop, take-suc, drop-cons, length-take-le, le-leb}
 use Rattle.std.proofs.Math.Numerals.{add-one}
 use Rattle.std.proofs.lemmas.Bool.{lt-leb}
 use Rattle.text.specs.Decimal.{digits}
-use Rattle.text.specs.Wrote.{Wrote}
 use Rattle.protocol.specs.Words.{space, newline, refused_word, bad_line_word}
 use Rattle.protocol.specs.Printed.{number_and, numbered, number_pair}
 use Rattle.protocol.specs.Laws.{length_number, length_numbered}
-use Rattle.lines.specs.declared.Parsed.{Parsed}
-use Rattle.lines.specs.declared.Parsed.TheVariants.{TooLong, BadLine, Numbers}
-use Rattle.lines.specs.Lines.{most_numbers, separator, line_after, Reading, reading, Parses}
+use Rattle.lines.specs.declared.ParseError.TheVariants.{TooLong, BadLine}
+use Rattle.lines.specs.Lines.{most_numbers, separator, line_after, Parsed, Reading, reading, Parses}
 use Rattle.lines.specs.Laws.{reading_fits, reply_read, numbers_read}
 use Rattle.comparison.specs.declared.Recording.{Recording}
 use Rattle.comparison.specs.declared.Recording.TheVariants.{First, Second}
-use Rattle.comparison.specs.declared.Reply.{Reply}
-use Rattle.comparison.specs.declared.Reply.TheVariants.{Refused, SameCalls, OtherCalls}
 use Rattle.comparison.specs.declared.Rest.{Rest}
-use Rattle.comparison.specs.declared.Compared.{Compared}
-use Rattle.comparison.specs.Compared.{compared, of_two, part_of, handed_back, keeps_to}
+use Rattle.comparison.specs.Compared.{Reply, Refused, SameCalls, OtherCalls, Comparison, compared, of_two, part_of, handed_back, keeps_to}
 use Rattle.comparison.specs.Reply.{recording_number}
 use Rattle.history.specs.Form.{most_events, read}
-use Rattle.two_recordings.specs.Report.{before_empty, empty_line, event_lines, kept_line, not_kept_line, printed_reply, printed_precedence, printed_comparison, printed_later, printed_second, printed_after, printed_first, reported, most_reply_line, most_precedence_line, most_event_lines, most_report}
+use Rattle.two_recordings.specs.Report.{before_empty, empty_line, event_lines, printed_reply, printed_precedence, printed_comparison, printed_later, printed_second, printed_after, printed_first, reported, most_reply_line, most_precedence_line, most_event_lines, most_report}
 
 -- The empty line, looked for from position i, after the byte `last`.
 module _ (s : List ℕ) (last i : ℕ) (h : i < length s) where
@@ -76,23 +71,8 @@ pub refused_second : {which : Recording} (n : ℕ) → which ≡ Second → refu
 unfolding digits
 refused_second n e = rw e
 
--- The precedence has a line after same calls alone.
-module _ {r : Reply} (kept : Bool) where
-  pub precedence_after_same : r ≡ SameCalls → printed_precedence r kept ≡ cond kept kept_line not_kept_line
-  precedence_after_same e = rw e
-
-  pub no_precedence_other : r ≡ OtherCalls → printed_precedence r kept ≡ []
-  no_precedence_other e = rw e
-
-  pub no_precedence_refused : {which : Recording} {n : ℕ} → r ≡ Refused which n → printed_precedence r kept ≡ []
-  no_precedence_refused e = rw e
-
--- Nothing was written.
-pub wrote_none : (o : List ℕ) (at : ℕ) → Wrote o at [] o at
-wrote_none o at = record { next_is = omega arith; after_is = refl }
-
 -- What is printed for a comparison, by its value.
-pub comparison_printed : (xs ys : List ℕ) {c : Compared} → c ≡ compared xs ys → printed_comparison xs ys ≡ printed_reply c.reply ++ (printed_precedence c.reply (keeps_to (read most_events xs) (read most_events ys)) ++ event_lines 0 (part_of c.rest xs ys))
+pub comparison_printed : (xs ys : List ℕ) {c : Comparison} → c ≡ compared xs ys → printed_comparison xs ys ≡ printed_reply c.reply ++ (printed_precedence c.reply (keeps_to (read most_events xs) (read most_events ys)) ++ event_lines 0 (part_of c.rest xs ys))
 unfolding printed_comparison
 comparison_printed xs ys e = rw e
 
@@ -102,7 +82,7 @@ module _ (xs : List ℕ) {s before after : List ℕ} {r : Parsed} (room : length
   unfolding printed_second
   second_printed e = ap (λ (v : Parsed). printed_later xs v (reading s most_numbers).numbers) (reply_read room p e)
 
-  pub second_compared : {k : ℕ} → r ≡ Numbers k → printed_second xs (reading s most_numbers) ≡ printed_comparison xs (take k after)
+  pub second_compared : {k : ℕ} → r ≡ Ok k → printed_second xs (reading s most_numbers) ≡ printed_comparison xs (take k after)
   second_compared e = second_printed e ∙ ap (printed_comparison xs) (numbers_read room p e)
 
 -- What follows the first recording: an empty line and the second, or nothing.
@@ -126,7 +106,7 @@ module _ (s : List ℕ) {end : ℕ} (ends : end ≡ empty_line s) {before after 
       ap (λ (x : Reading). printed_first x.reply x.numbers s) first_reading
       ∙ ap (λ (v : Parsed). printed_first v (reading (take end s) most_numbers).numbers s) (reply_read room p e)
 
-  pub first_good : {k : ℕ} → r ≡ Numbers k → reported s ≡ printed_after (take k after) s end
+  pub first_good : {k : ℕ} → r ≡ Ok k → reported s ≡ printed_after (take k after) s end
   first_good {k} e =
       first_printed e
       ∙ ap (λ (xs : List ℕ). printed_after xs s (empty_line s)) (numbers_read room p e)
@@ -169,9 +149,9 @@ unfolding printed_second
 length_second xs s few = go (reading s most_numbers).reply refl
   where
     go : (v : Parsed) → (reading s most_numbers).reply ≡ v → length (printed_later xs v (reading s most_numbers).numbers) ≤ most_report
-    go TooLong e = omega arith
-    go (BadLine line) e = omega (arith, length_numbered bad_line_word (line_after (length xs) + line))
-    go (Numbers k) e = length_comparison xs (reading s most_numbers).numbers few (reading_fits s most_numbers e)
+    go (Err TooLong) e = omega arith
+    go (Err (BadLine line)) e = omega (arith, length_numbered bad_line_word (line_after (length xs) + line))
+    go (Ok k) e = length_comparison xs (reading s most_numbers).numbers few (reading_fits s most_numbers e)
 
 length_after : (xs s : List ℕ) (end : ℕ) → length xs ≤ most_numbers → length (printed_after xs s end) ≤ most_report
 unfolding printed_after
@@ -187,6 +167,6 @@ unfolding reported
 length_reported s = go (reading (take (empty_line s) s) most_numbers).reply refl
   where
     go : (v : Parsed) → (reading (take (empty_line s) s) most_numbers).reply ≡ v → length (printed_first v (reading (take (empty_line s) s) most_numbers).numbers s) ≤ most_report
-    go TooLong e = omega arith
-    go (BadLine line) e = omega (arith, length_numbered bad_line_word line)
-    go (Numbers k) e = length_after (reading (take (empty_line s) s) most_numbers).numbers s (empty_line s) (reading_fits (take (empty_line s) s) most_numbers e)
+    go (Err TooLong) e = omega arith
+    go (Err (BadLine line)) e = omega (arith, length_numbered bad_line_word line)
+    go (Ok k) e = length_after (reading (take (empty_line s) s) most_numbers).numbers s (empty_line s) (reading_fits (take (empty_line s) s) most_numbers e)

@@ -1,13 +1,10 @@
 -- What is printed for two recordings in one text, one event a line, with an empty line between them (document 02, U10).
-use Rattle.std.specs.Prelude.{Bool, ◌&&◌, cond, List, [], ◌∷◌, ◌++◌, ℕ, suc, ◌+◌, ◌*◌, leb, eqb, length, take, drop}
+use Rattle.std.specs.Prelude.{Bool, ◌&&◌, cond, List, [], ◌∷◌, ◌++◌, ℕ, suc, ◌+◌, ◌*◌, leb, eqb, length, take, drop, Ok, Err}
 use Rattle.history.specs.Form.{most_events, read}
-use Rattle.comparison.specs.declared.Reply.{Reply}
-use Rattle.comparison.specs.declared.Reply.TheVariants.{Refused, SameCalls, OtherCalls}
-use Rattle.comparison.specs.Compared.{compared, handed_back, keeps_to}
+use Rattle.comparison.specs.Compared.{Reply, Refused, SameCalls, OtherCalls, compared, handed_back, keeps_to}
 use Rattle.comparison.specs.Reply.{recording_number}
-use Rattle.lines.specs.declared.Parsed.{Parsed}
-use Rattle.lines.specs.declared.Parsed.TheVariants.{TooLong, BadLine, Numbers}
-use Rattle.lines.specs.Lines.{most_numbers, separator, line_after, Reading, reading}
+use Rattle.lines.specs.declared.ParseError.TheVariants.{TooLong, BadLine}
+use Rattle.lines.specs.Lines.{most_numbers, separator, line_after, Parsed, Reading, reading}
 use Rattle.protocol.specs.Words.{space, newline, refused_word, bad_line_word, too_long_line}
 use Rattle.protocol.specs.Printed.{number_and, numbered, number_pair}
 
@@ -63,9 +60,9 @@ printed_comparison xs ys =
 -- What the lines after the empty line print: `too long`, `bad line NUMBER`, counted on after the empty line, which follows the lines of
 -- the first recording; or the comparison.
 abbrev pub printed_later : (first : List ℕ) → Parsed → (second : List ℕ) → List ℕ
-printed_later xs TooLong ys = too_long_line
-printed_later xs (BadLine line) ys = numbered bad_line_word (line_after (length xs) + line)
-printed_later xs (Numbers count) ys = printed_comparison xs ys
+printed_later xs (Err TooLong) ys = too_long_line
+printed_later xs (Err (BadLine line)) ys = numbered bad_line_word (line_after (length xs) + line)
+printed_later xs (Ok count) ys = printed_comparison xs ys
 
 unfoldable pub printed_second : (first : List ℕ) → (second : Reading) → List ℕ
 printed_second xs x = printed_later xs x.reply x.numbers
@@ -77,9 +74,9 @@ printed_after xs s end =
 
 -- What a text prints by the lines before the empty line: `too long` or `bad line NUMBER`, or what follows them.
 abbrev pub printed_first : Parsed → (first text : List ℕ) → List ℕ
-printed_first TooLong xs s = too_long_line
-printed_first (BadLine line) xs s = numbered bad_line_word line
-printed_first (Numbers count) xs s = printed_after xs s (empty_line s)
+printed_first (Err TooLong) xs s = too_long_line
+printed_first (Err (BadLine line)) xs s = numbered bad_line_word line
+printed_first (Ok count) xs s = printed_after xs s (empty_line s)
 
 unfoldable pub reported : (text : List ℕ) → List ℕ
 reported s =

@@ -4,7 +4,9 @@
 
 ghost use Rattle.std.specs.Prelude.{◌≡◌, cond, ◌++◌, ◌+◌, ◌*◌, ◌≤◌, length};
 ghost use Rattle.history.specs.Form.{most_events, read};
+ghost use Rattle.reading.specs.Refusal.{refusal_number};
 ghost use Rattle.comparison.specs.Compared.{keeps_to};
+ghost use Rattle.comparison.specs.Parts.{reply_of};
 ghost use Rattle.comparison.specs.Reply.{recording_number};
 ghost use Rattle.lines.specs.Lines.{most_numbers, reading};
 ghost use Rattle.protocol.specs.Printed.{number_pair};
@@ -12,8 +14,8 @@ ghost use Rattle.protocol.specs.Words.{refused_word};
 ghost use Rattle.text.specs.Wrote.{Wrote};
 ghost use Rattle.two_recordings.specs.Report.{empty_line, event_lines, kept_line, not_kept_line, printed_reply, printed_precedence, printed_comparison, most_reply_line, most_precedence_line, most_report, printed_second, printed_after, reported};
 
-use comparison::{Recording, Reply};
-use lines::{MOST_NUMBERS, Parsed};
+use comparison::{Recording, RefusedRecording};
+use lines::{MOST_NUMBERS, ParseError};
 
 // A bound on the bytes of a report (specs/Report.antt): the line of a reply, the line of the precedence, and the lines of a recording.
 pub const MOST_REPORT: usize = 30 + 20 + 11 * MOST_NUMBERS;
@@ -22,64 +24,51 @@ pub const MOST_REPORT: usize = 30 + 20 + 11 * MOST_NUMBERS;
 fn empty_line(text: &[u8]) -> usize
     ensures { result ≡ empty_line text.now }
 {
-    let mut last: u8 = 10;
-    let mut i = 0;
-    while i < text.len() {
-        let byte = text[i];
-        if (last == 10) & (byte == 10) {
+    let mut last = b'\n';
+    for (i, byte) in text.iter().enumerate() {
+        if last == b'\n' && *byte == b'\n' {
             return i;
         }
-        last = byte;
-        i += 1;
+        last = *byte;
     }
-    i
+    text.len()
 }
 
 // Prints events, one a line, at a position, and answers the position after them.
+// Stays: a buffer and a position side by side, since the clause of `report`, named in docs/CLAIMS.md, gives the whole lent buffer.
 fn print_events(numbers: &[u32], out: &mut [u8], at: usize) -> usize
     requires { at + 11 * length numbers.now ≤ length out.old }
     ensures { Wrote out.old at (event_lines 0 numbers.now) out.new result }
 {
     let mut next = at;
-    let mut i = 0;
-    while i < numbers.len() {
+    for (i, number) in numbers.iter().enumerate() {
         let end = lines::separator_after(i + 1);
-        next = protocol::print_number(out, next, numbers[i], end);
-        i += 1;
+        next = protocol::print_number(out, next, *number, end);
     }
     next
 }
 
 // Prints which recording was refused with which number.
-fn print_refused(which: Recording, number: u32, out: &mut [u8], at: usize) -> usize
+fn print_refused(refused: RefusedRecording, out: &mut [u8], at: usize) -> usize
     requires { at + most_reply_line ≤ length out.old }
-    ensures { Wrote out.old at (refused_word ++ number_pair (recording_number which) number) out.new result }
+    ensures { Wrote out.old at (refused_word ++ number_pair (recording_number refused.recording) (refusal_number refused.refusal)) out.new result }
 {
-    match which {
-        Recording::First => {
-            return protocol::print_numbered(out, at, b"refused 1 ", number);
-        }
-        Recording::Second => {
-            return protocol::print_numbered(out, at, b"refused 2 ", number);
-        }
+    let number = refused.refusal.into();
+    match refused.recording {
+        Recording::First => protocol::print_numbered(out, at, b"refused 1 ", number),
+        Recording::Second => protocol::print_numbered(out, at, b"refused 2 ", number),
     }
 }
 
 // Prints the line of a reply.
-fn print_reply(reply: Reply, out: &mut [u8], at: usize) -> usize
+fn print_reply(reply: Result<bool, RefusedRecording>, out: &mut [u8], at: usize) -> usize
     requires { at + most_reply_line ≤ length out.old }
-    ensures { Wrote out.old at (printed_reply reply) out.new result }
+    ensures { Wrote out.old at (printed_reply (reply_of reply)) out.new result }
 {
     match reply {
-        Reply::Refused(which, number) => {
-            return print_refused(which, number, out, at);
-        }
-        Reply::SameCalls => {
-            return text::write_bytes(out, at, b"same calls\n");
-        }
-        Reply::OtherCalls => {
-            return text::write_bytes(out, at, b"other calls\n");
-        }
+        Ok(true) => text::write_bytes(out, at, b"same calls\n"),
+        Ok(false) => text::write_bytes(out, at, b"other calls\n"),
+        Err(refused) => print_refused(refused, out, at),
     }
 }
 
@@ -89,27 +78,26 @@ fn print_kept(kept: bool, out: &mut [u8], at: usize) -> usize
     ensures { Wrote out.old at (cond kept kept_line not_kept_line) out.new result }
 {
     if kept {
-        return text::write_bytes(out, at, b"precedence kept\n");
+        text::write_bytes(out, at, b"precedence kept\n")
+    } else {
+        text::write_bytes(out, at, b"precedence not kept\n")
     }
-    text::write_bytes(out, at, b"precedence not kept\n")
 }
 
 // Prints the line that follows `same calls`; another reply has none.
-fn print_precedence(reply: Reply, first: &[u32], second: &[u32], out: &mut [u8], at: usize) -> usize
+fn print_precedence(
+    reply: Result<bool, RefusedRecording>,
+    first: &[u32],
+    second: &[u32],
+    out: &mut [u8],
+    at: usize,
+) -> usize
     requires { at + most_precedence_line ≤ length out.old }
-    ensures { Wrote out.old at (printed_precedence reply (keeps_to (read most_events first.now) (read most_events second.now))) out.new result }
+    ensures { Wrote out.old at (printed_precedence (reply_of reply) (keeps_to (read most_events first.now) (read most_events second.now))) out.new result }
 {
     match reply {
-        Reply::Refused(_, _) => {
-            return at;
-        }
-        Reply::SameCalls => {
-            let kept = comparison::keeps_precedence(first, second);
-            return print_kept(kept, out, at);
-        }
-        Reply::OtherCalls => {
-            return at;
-        }
+        Ok(true) => print_kept(comparison::keeps_precedence(first, second), out, at),
+        Ok(false) | Err(_) => at,
     }
 }
 
@@ -119,11 +107,9 @@ fn print_comparison<'a>(first: &'a [u32], second: &'a [u32], out: &mut [u8], at:
     ensures { Wrote out.old at (printed_comparison first.now second.now) out.new result }
 {
     let compared = comparison::compare(first, second);
-    let reply = compared.reply;
-    let rest = compared.rest;
-    let after_reply = print_reply(reply, out, at);
-    let after_precedence = print_precedence(reply, first, second, out, after_reply);
-    let part = comparison::part(first, second, rest);
+    let after_reply = print_reply(compared.reply, out, at);
+    let after_precedence = print_precedence(compared.reply, first, second, out, after_reply);
+    let part = comparison::part(first, second, compared.rest);
     print_events(part, out, after_precedence)
 }
 
@@ -133,18 +119,13 @@ fn print_second(first: &[u32], text: &[u8], out: &mut [u8]) -> usize
     ensures { Wrote out.old 0 (printed_second first.now (reading text.now most_numbers)) out.new result }
 {
     let mut second = [0u32; MOST_NUMBERS];
-    let parsed = lines::parse(text, &mut second);
-    match parsed {
-        Parsed::TooLong => {
-            return text::write_bytes(out, 0, b"too long\n");
-        }
-        Parsed::BadLine(line) => {
+    match lines::parse(text, &mut second) {
+        Ok(count) => print_comparison(first, &second[..count], out, 0),
+        Err(ParseError::BadLine(line)) => {
             let before = lines::line_after(first.len());
-            return protocol::print_numbered(out, 0, b"bad line ", (before + line) as u32);
+            protocol::print_numbered(out, 0, b"bad line ", (before + line) as u32)
         }
-        Parsed::Numbers(count) => {
-            return print_comparison(first, &second[..count], out, 0);
-        }
+        Err(ParseError::TooLong) => text::write_bytes(out, 0, b"too long\n"),
     }
 }
 
@@ -157,26 +138,21 @@ fn print_after(first: &[u32], text: &[u8], end: usize, out: &mut [u8]) -> usize
         let line = lines::line_after(first.len());
         return protocol::print_numbered(out, 0, b"bad line ", line as u32);
     }
-    let start = end + 1;
-    print_second(first, &text[start..], out)
+    print_second(first, &text[end + 1..], out)
 }
 
 // Prints what a text of two recordings gives: their comparison, `bad line NUMBER` or `too long`. The answer is how many bytes.
+// Stays: the arms of a bad line are like those of `recording::report`; one function with a closure would be no plainer, its contract longer than they are.
 pub fn report(text: &[u8], out: &mut [u8; MOST_REPORT]) -> usize
     ensures { Wrote out.old 0 (reported text.now) out.new result }
 {
     let end = empty_line(text);
     let mut first = [0u32; MOST_NUMBERS];
-    let parsed = lines::parse(&text[..end], &mut first);
-    match parsed {
-        Parsed::TooLong => {
-            return text::write_bytes(out, 0, b"too long\n");
+    match lines::parse(&text[..end], &mut first) {
+        Ok(count) => print_after(&first[..count], text, end, out),
+        Err(ParseError::BadLine(line)) => {
+            protocol::print_numbered(out, 0, b"bad line ", line as u32)
         }
-        Parsed::BadLine(line) => {
-            return protocol::print_numbered(out, 0, b"bad line ", line as u32);
-        }
-        Parsed::Numbers(count) => {
-            return print_after(&first[..count], text, end, out);
-        }
+        Err(ParseError::TooLong) => text::write_bytes(out, 0, b"too long\n"),
     }
 }

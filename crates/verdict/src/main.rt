@@ -2,12 +2,11 @@
 #![tactic(auto)]
 
 use recording::MOST_REPORT;
-use stdio::Input;
 
 fn main(rt: HostRuntime) {
     // The lines of 8,192 events are at most 360,448 bytes, so a text that is cut off has a line too many, or the first bad line that it had.
     let mut text = [0u8; 360_449];
-    let Input::Bytes(n) = stdio::read_input(&rt, &mut text) else {
+    let Ok(n) = stdio::read_input(&rt, &mut text) else {
         stdio::print_unreadable(&rt);
         return;
     };

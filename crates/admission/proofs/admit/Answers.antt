@@ -1,7 +1,7 @@
 -- `admission::admit` meets its contract.
 use Rattle.std.proofs.Common.{true, false, ◌∙◌, arith}
 use Rattle.store.specs.Shape.{sizes}
-use Rattle.admission.specs.Admit.{room_of, sizes_most, refuse_length, refuse_sizes, refuse_short, by_range}
+use Rattle.admission.specs.Admit.{room_of, sizes_most, refuse_length, refuse_sizes, refuse_short, by_range, admitted_by}
 use Rattle.admission.proofs.admit.Goals as goal
 
 pub returns-then-s : goal.returns-then-s
@@ -23,4 +23,6 @@ pub returns-then-not-in_range : goal.returns-then-not-in_range
 returns-then-not-in_range c = by_range c.args.s.now (sizes c.shape_of-z.result) c.shape_of-z.ensures c.if-s.false (c.sizes_in_range.ensures ∙ c.if-not-sizes_in_range.false) (omega arith) false (c.in_range.ensures ∙ c.if-not-in_range.true)
 
 pub returns : goal.returns
-returns c = by_range c.args.s.now (sizes c.shape_of-z.result) c.shape_of-z.ensures c.if-s.false (c.sizes_in_range.ensures ∙ c.if-not-sizes_in_range.false) (omega arith) true (c.in_range.ensures ∙ c.if-not-in_range.false)
+returns c =
+    let none = by_range c.args.s.now (sizes c.shape_of-z.result) c.shape_of-z.ensures c.if-s.false (c.sizes_in_range.ensures ∙ c.if-not-sizes_in_range.false) (omega arith) true (c.in_range.ensures ∙ c.if-not-in_range.false) in
+    record { shape = c.shape_of-z.ensures; none = none; admitted = rw c.shape_of-z.ensures (admitted_by c.args.s.now none) }

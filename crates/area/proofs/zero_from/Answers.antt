@@ -1,11 +1,5 @@
 use Rattle.std.proofs.Common.{refl, le_antisymm, add-one, arith}
 use Rattle.area.proofs.zero_from.Goals as goal
 
-pub loop-j-init : goal.loop-j-init
-loop-j-init c = (omega arith, refl)
-
 pub loop-j-preserved : goal.loop-j-preserved
-loop-j-preserved c = let l = c.loop-j in (omega arith, rw (add-one l.j, l.invariant.1) refl)
-
-pub returns : goal.returns
-returns c = rw (le_antisymm c.loop-j.invariant.0 c.loop-j-test.false) at c.loop-j.invariant.1
+loop-j-preserved c = let l = c.loop-j in (rw (add-one l.j, l.invariant) refl)

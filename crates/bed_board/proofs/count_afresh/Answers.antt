@@ -1,35 +1,29 @@
-use Rattle.std.proofs.Common.{◌≡◌, refl, ◌∙◌, le_antisymm, add-one, arith, get_or}
-use lib.Seq.{slice, slice_empty, slice-cons}
-use Rattle.census_rules.specs.Board.{beds, counted}
-use Rattle.census_rules.specs.Laws.{at_most_at, state_in_range}
+use Rattle.std.proofs.Common.{◌<◌, ◌∙◌, List, ℕ, length, add-one, arith, get_or, drop-cons, length-take-le, get_or-take}
+use Rattle.census_rules.specs.Board.{beds, states_on}
+use Rattle.census_rules.specs.Laws.{InRange, at_most_at, state_in_range}
 use Rattle.bed_board.proofs.count_afresh.Goals as goal
 
-pub loop-bed-init : goal.loop-bed-init
-loop-bed-init c = (omega arith, omega arith, omega arith)
-
-pub overflow_cast-state : goal.overflow_cast-state
-overflow_cast-state c = omega (arith, state_in_range _ c.requires.0.fits c.loop-bed.bed c.loop-bed-test.true)
-
-pub offset_bounds-row-state : goal.offset_bounds-row-state
-offset_bounds-row-state c = omega (arith, state_in_range _ c.requires.0.fits c.loop-bed.bed c.loop-bed-test.true)
+bed_inside : (b : List ℕ) → InRange b → (bed : ℕ) → bed < length (states_on b) → bed < beds
+bed_inside b range bed h = omega (arith, length-take-le beds b (omega (arith, range.long)))
 
 pub bounds-row-state : goal.bounds-row-state
-bounds-row-state c = omega (arith, state_in_range _ c.requires.0.fits c.loop-bed.bed c.loop-bed-test.true)
+bounds-row-state c =
+    let b = c.args.board.now in
+    let bed = c.loop-state.state-index in
+    let h = bed_inside b c.requires.0 bed c.loop-state-test.true in
+    omega (arith, get_or-take beds b bed 0 h, state_in_range b c.requires.0.fits bed h)
 
 pub overflow_add-count : goal.overflow_add-count
-overflow_add-count c = omega (arith, at_most_at 1 c.args.row c.requires.1 (get_or c.args.board.now c.loop-bed.bed 0))
+overflow_add-count c =
+    let b = c.args.board.now in
+    let bed = c.loop-state.state-index in
+    omega (arith, bed_inside b c.requires.0 bed c.loop-state-test.true, c.loop-state.invariant.few, at_most_at 1 c.args.row c.requires.1 (get_or (states_on b) bed 0))
 
-pub loop-bed-preserved : goal.loop-bed-preserved
-loop-bed-preserved c =
-    let l = c.loop-bed in
-    let b = c.args.board.now in (
-      omega arith,
-      omega (arith, at_most_at 1 c.args.row c.requires.1 (get_or b l.bed 0)),
-      l.invariant.2 ∙ rw (slice-cons l.bed beds b 0 c.loop-bed-test.true (omega (arith, c.requires.0.long)), add-one l.bed) (omega arith),
-    )
-
-pub returns : goal.returns
-returns c =
-    let l = c.loop-bed in
-    let none : counted c.args.row (slice l.bed beds c.args.board.now) ≡ 0 = rw (le_antisymm l.invariant.0 c.loop-bed-test.false, slice_empty beds c.args.board.now) refl in
-    omega (arith, l.invariant.2)
+pub loop-state-preserved : goal.loop-state-preserved
+loop-state-preserved c =
+    let ss = states_on c.args.board.now in
+    let bed = c.loop-state.state-index in
+    record {
+      few = omega (arith, c.loop-state.invariant.few, at_most_at 1 c.args.row c.requires.1 (get_or ss bed 0));
+      so_far = c.loop-state.invariant.so_far ∙ rw (add-one bed, drop-cons ss bed 0 c.loop-state-test.true) (omega arith);
+    }

@@ -9,7 +9,7 @@ pub slice_bounds-read_input-end : goal.slice_bounds-read_input-end
 slice_bounds-read_input-end c = sym (length-replicate {A = ℕ} 720898 0)
 
 pub slice_bounds-text-end : goal.slice_bounds-text-end
-slice_bounds-text-end c = rw c.in-Bytes.is at c.read_input.ensures
+slice_bounds-text-end c = c.in-Ok.ensures
 
 pub slice_bounds-out-end : goal.slice_bounds-out-end
 slice_bounds-out-end c = wrote_within c.report-printed.ensures (length-replicate {A = ℕ} 360498 0) (length_reported _)

@@ -1,19 +1,13 @@
 -- `engine::start_dequeue` meets its contract.
-use Rattle.std.proofs.Common.{◌∙◌, arith}
+use Rattle.std.proofs.Common.{◌∙◌}
+use Rattle.std.proofs.lemmas.Result.{err_from_is_err_and}
 use Rattle.rules.specs.Request.{start_dequeue, effect}
-use Rattle.admission.specs.Admit.{admitted_by}
-use Rattle.engine.specs.Calls.{call_refused, call_answered, admitted_as}
+use Rattle.engine.specs.Calls.{call_refused, call_answered}
 use Rattle.engine.proofs.start_dequeue.Goals as goal
 
-pub returns-then-n-ne0 : goal.returns-then-n-ne0
-returns-then-n-ne0 c = call_refused start_dequeue c.args.s.now c.admit-n.result c.admit-n.ensures c.if-n-ne0.true
-
-pub shape_of-requires : goal.shape_of-requires
-shape_of-requires c = omega (arith, admitted_by c.args.s.now (c.admit-n.ensures ∙ c.if-n-ne0.false))
-
-pub begin_dequeue-requires : goal.begin_dequeue-requires
-begin_dequeue-requires c = admitted_as c.shape_of.result c.args.s.now c.shape_of.ensures (c.admit-n.ensures ∙ c.if-n-ne0.false)
+pub returns-in_err-z : goal.returns-in_err-z
+returns-in_err-z c = let p = err_from_is_err_and c.from_residual.result c.from_residual.ensures.1 in rw (p.1, p.2) (call_refused start_dequeue c.args.s.now _ c.in_err-z.ensures)
 
 pub returns : goal.returns
 unfolding effect
-returns c = c.begin_dequeue.ensures ∙ call_answered start_dequeue c.args.s.now c.shape_of.result c.shape_of.ensures (c.admit-n.ensures ∙ c.if-n-ne0.false)
+returns c = c.begin_dequeue.ensures ∙ call_answered start_dequeue c.args.s.now c.in_ok-z.z c.in_ok-z.ensures

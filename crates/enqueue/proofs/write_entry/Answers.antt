@@ -3,16 +3,17 @@ use Rattle.std.proofs.Common.{refl}
 use Rattle.rules.specs.Cell.{writes}
 use Rattle.rules.specs.Producer.{write_entry}
 use Rattle.rules.specs.Request.{applied}
-use Rattle.store.proofs.Slots.{stands_at, not_inside}
+use Rattle.store.proofs.Refusals.{handed_on}
+use Rattle.store.proofs.Slots.{located, outside}
 use Rattle.enqueue.proofs.write_entry.Goals as goal
 
-pub returns-in_default : goal.returns-in_default
+pub returns-in_err-at : goal.returns-in_err-at
 unfolding write_entry
-returns-in_default c = not_inside c.read_producer-p.ensures.held c.read_producer-p.ensures.position _ _ c.slot_in.ensures c.in_default.not-At
+returns-in_err-at c = rw (handed_on c.from_residual.result c.from_residual.ensures.1 c.in_err-at.ensures.1) (outside c.producer-p.ensures.held c.producer-p.ensures.position _ c.in_err-at.ensures.0)
 
 pub returns : goal.returns
 unfolding write_entry applied writes
 returns c =
-    let p = c.read_producer-p.ensures in
-    let at = stands_at p.held p.position c.slot_in.ensures c.in-At.is in
+    let p = c.producer-p.ensures in
+    let at = located p.held p.position c.in_ok-at.ensures in
     rw (at.link, at.inside, at.is, p.call, p.value, c.put_producer.ensures, c.put_entry-2.ensures, c.put_entry.ensures) refl

@@ -1,10 +1,7 @@
 -- `events::find_start` meets its contract. The loop's invariant: the last start among the first i events is the one looked for.
-use Rattle.std.proofs.Common.{◌≡◌, ◌≤◌}
+use Rattle.std.proofs.Common.{◌≡◌}
 use Rattle.events.specs.Events.{start_found}
 use Rattle.events.proofs.find_start.Given as goal
 
 abbrev pub invariant-loop-i : goal.invariant-loop-i
-invariant-loop-i l = (l.i ≤ l.k) × (start_found l.history l.t l.i ≡ start_found l.history l.t l.k)
-
-abbrev pub decreases-loop-i : goal.decreases-loop-i
-decreases-loop-i l = l.i
+invariant-loop-i l = start_found l.history l.t l.i ≡ start_found l.history l.t l.k

@@ -9,10 +9,10 @@ pub overflow_sub-result : goal.overflow_sub-result
 overflow_sub-result c =
     let a = c.args in
     let kept = c.kept_records-kept in
-    others_most (sizes a.z) (reader (sizes a.z) a.s.now) kept.result (omega arith) kept.ensures c.places_below.ensures _ (omega arith)
+    others_most (sizes a.store.now.shape) (reader (sizes a.store.now.shape) a.store.now.words.now) kept.result (omega arith) kept.ensures c.places_below.ensures _ (omega arith)
 
 pub returns : goal.returns
 returns c =
     let a = c.args in
     let kept = c.kept_records-kept in
-    free_digits (sizes a.z) (reader (sizes a.z) a.s.now) kept.result (omega arith) kept.ensures c.places_below.ensures _ (omega arith) c.requires.ranges
+    free_digits (sizes a.store.now.shape) (reader (sizes a.store.now.shape) a.store.now.words.now) kept.result (omega arith) kept.ensures c.places_below.ensures _ (omega arith) c.args.store.now.admitted.ranges

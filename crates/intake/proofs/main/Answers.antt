@@ -6,7 +6,7 @@ use Rattle.session.specs.Length.{length_output}
 use Rattle.intake.proofs.main.Goals as goal
 
 pub slice_bounds-input-end : goal.slice_bounds-input-end
-slice_bounds-input-end c = rw c.in-Bytes.is at c.read_input.ensures
+slice_bounds-input-end c = c.in-Ok.ensures
 
 pub slice_bounds-out-end : goal.slice_bounds-out-end
 slice_bounds-out-end c = wrote_within c.run-printed.ensures (length-replicate {A = ℕ} 155679 0) (length_output _)

@@ -1,10 +1,7 @@
 -- `judge::fill_calls`: the first j entries are filled.
-use Rattle.std.proofs.Common.{◌≡◌, ◌-◌, ◌≤◌}
+use Rattle.std.proofs.Common.{◌≡◌}
 use Rattle.judge.specs.Working.{filled}
 use Rattle.judge.proofs.fill_calls.Given as goal
 
 abbrev pub invariant-loop-j : goal.invariant-loop-j
-invariant-loop-j l = (l.table ≡ filled l.m l.j l.fn.table) × (l.j ≤ l.n)
-
-abbrev pub decreases-loop-j : goal.decreases-loop-j
-decreases-loop-j l = l.n - l.j
+invariant-loop-j l = l.table ≡ filled l.m l.j l.fn.table

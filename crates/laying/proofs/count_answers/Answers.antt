@@ -1,18 +1,14 @@
-use Rattle.std.proofs.Common.{◌≡◌, arith, add-one}
-use Rattle.laying.proofs.Adding.{answer_short}
+-- `laying::count_answers` meets its contract. Assumes nothing.
+use Rattle.std.proofs.Common.{◌∙◌, arith, rules, tests}
+use Rattle.std.proofs.lemmas.Iterator.{YieldsList-from_range}
+use Rattle.std.proofs.lemmas.Iterator.Consumers.{YieldsList-from_filter, count_from_yields_List}
+use Rattle.laying.specs.Line.{answers_at}
+use Rattle.laying.proofs.Lining.{count_is}
 use Rattle.laying.proofs.count_answers.Goals as goal
 
-pub overflow_add-e : goal.overflow_add-e
-overflow_add-e c = omega (arith, answer_short c.args.m.now c.loop-j.j, c.answers-e.ensures)
-
-pub loop-j-preserved : goal.loop-j-preserved
-loop-j-preserved c =
-    let v = c.loop-j in
-    let q = add-one v.j in
-    let s = answer_short c.args.m.now v.j in
-    let r = c.answers-e.ensures in
-    let e = v.invariant.0 in
-    rw q (cc, omega arith, omega arith)
-
 pub returns : goal.returns
-returns c = let z : c.loop-j.j ≡ c.args.c = omega arith in rw (← z) c.loop-j.invariant.0
+returns c =
+    let a = c.args in
+    count_from_yields_List c.filter.result _ c.count.ensures.ran
+    (YieldsList-from_filter _ (answers_at a.m.now) (YieldsList-from_range 0 a.c a.c (cc) (omega arith)) c.filter.ensures.closure (λ x b q k. search (rules, tests)))
+    ∙ count_is (answers_at a.m.now) a.c

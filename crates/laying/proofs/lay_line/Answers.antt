@@ -1,4 +1,4 @@
-use Rattle.std.proofs.Common.{◌≡◌, refl, ◌∙◌, arith}
+use Rattle.std.proofs.Common.{◌≡◌, refl, arith}
 use Rattle.laying.specs.Line.{answers_at, gives_at}
 use Rattle.laying.proofs.Standing.{standing_first, standing_back, standing_last, last_counts, room_left}
 use Rattle.laying.proofs.lay_line.Goals as goal
@@ -8,41 +8,20 @@ loop-j-init c =
     let g = c.requires in
     standing_first _ _ _ _ g.lined g.few g.rising _ _ _ _ g.items g.within g.dequeues refl
 
-pub lay_dequeue-queued-requires : goal.lay_dequeue-queued-requires
-lay_dequeue-queued-requires c =
+pub lay_dequeue-rest-requires : goal.lay_dequeue-rest-requires
+lay_dequeue-rest-requires c =
     let g = c.requires in
     let v = c.loop-j in
     let s = v.invariant in
     let r = room_left _ _ _ _ g.lined g.few g.rising _ _ _ _ _ _ _ s g.dequeues g.fits in
-    let l = last_counts (answers_at c.args.m.now) v.j c.loop-j-test.true in
-    (r.0, omega arith, s.least, r.1, omega arith)
-
-pub overflow_sub-taken : goal.overflow_sub-taken
-overflow_sub-taken c =
-    let v = c.loop-j in
-    let l = last_counts (gives_at c.args.m.now) v.j c.loop-j-test.true in
-    omega (arith, l)
-
-pub overflow_sub-left : goal.overflow_sub-left
-overflow_sub-left c =
-    let v = c.loop-j in
-    let l = last_counts (answers_at c.args.m.now) v.j c.loop-j-test.true in
-    omega (arith, l)
+    let a = last_counts (answers_at c.args.m.now) v.j c.loop-j-test.true in
+    let b = last_counts (gives_at c.args.m.now) v.j c.loop-j-test.true in
+    (r.0, omega arith, s.least, r.1, λ q. let k = rw q at a in omega arith, λ q. let k = rw q at b in omega arith)
 
 pub loop-j-preserved : goal.loop-j-preserved
 loop-j-preserved c =
     let g = c.requires in
-    standing_back _ _ _ _ g.lined g.few g.rising _ _ _ _ _ _ _ c.loop-j.invariant
-    c.loop-j-test.true _ _ c.lay_dequeue-queued.ensures _ _ c.gives-taken.ensures c.answers-left.ensures
-
-pub lay_enqueues-requires : goal.lay_enqueues-requires
-lay_enqueues-requires c =
-    let g = c.requires in
-    let r = room_left _ _ _ _ g.lined g.few g.rising _ _ _ _ _ _ _ c.loop-j.invariant g.dequeues g.fits in
-    (r.0, omega arith, omega (arith, r.1))
-
-pub shape_of-order : goal.shape_of-order
-shape_of-order c = c.lay_enqueues.ensures.size ∙ c.loop-j.invariant.size
+    standing_back _ _ _ _ g.lined g.few g.rising _ _ _ _ _ c.loop-j.invariant c.loop-j-test.true _ _ c.lay_dequeue-rest.ensures
 
 pub returns : goal.returns
 returns c =

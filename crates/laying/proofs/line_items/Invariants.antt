@@ -1,11 +1,6 @@
 -- `laying::line_items` meets its contract. Assumes nothing.
-use Rattle.std.proofs.Common.{◌≤◌, ◌-◌}
 use Rattle.laying.specs.Line.{gather_to, item_at, Notes}
 use Rattle.laying.proofs.line_items.Given as goal
 
 abbrev pub invariant-loop-j : goal.invariant-loop-j
-invariant-loop-j l =
-    Notes l.initial.line l.line l.initial.flags l.flags 0 l.t (gather_to (item_at l.m l.items) l.j) × (l.j ≤ l.c)
-
-abbrev pub decreases-loop-j : goal.decreases-loop-j
-decreases-loop-j l = l.c - l.j
+invariant-loop-j l = Notes l.initial.line l.line l.initial.flags l.flags (gather_to (item_at l.m l.items) l.j)

@@ -1,24 +1,22 @@
 -- `linking::link_claimed` meets its contract.
-use Rattle.std.proofs.Common.{[], ◌∷◌, ap}
+use Rattle.std.proofs.Common.{refl, [], ◌∷◌, ap}
 use Rattle.rules.specs.Cell.{◌:=◌, claimed, phase, writes}
 use Rattle.rules.specs.Producer.{link_claimed}
 use Rattle.rules.specs.Request.{applied}
 use Rattle.store.specs.Outcome.{left}
-use Rattle.store.specs.declared.Reply.TheVariants.{Refused, Going}
-use Rattle.linking.specs.Link.{unchanged, words_then}
+use Rattle.std.specs.Prelude.{Ok}
+use Rattle.store.specs.declared.Reply.TheVariants.{Going}
+use Rattle.store.proofs.Refusals.{handed_on}
+use Rattle.linking.specs.Link.{words_then}
 use Rattle.linking.proofs.link_claimed.Goals as goal
 
-pub returns-then-not-link : goal.returns-then-not-link
+pub returns-in_err-link : goal.returns-in_err-link
 unfolding link_claimed applied
-returns-then-not-link c =
-    let refused = c.if-not-link.true in
-    rw (c.link.ensures.then, refused) (ap (left (Refused 9)) (unchanged c.link.ensures refused))
+returns-in_err-link c = rw (handed_on c.from_residual.result c.from_residual.ensures.1 c.in_err-link.ensures.1, c.in_err-link.ensures.0.words, c.in_err-link.ensures.0.then) refl
 
 pub returns : goal.returns
 unfolding link_claimed applied writes
 returns c =
-    let link = c.link in
     let t = c.args.t in
-    let made = c.if-not-link.false in
-    rw (link.ensures.then, made, c.put_producer-2.ensures, c.put_producer.ensures)
-    (ap (left Going) (words_then link.ensures made (claimed t := 0 ∷ phase t := 6 ∷ [])))
+    let made = c.in_ok-link.ensures in
+    rw (made.then, c.put_producer-2.ensures, c.put_producer.ensures) (ap (λ m. left (Ok Going) m) (words_then made (claimed t := 0 ∷ phase t := 6 ∷ [])))

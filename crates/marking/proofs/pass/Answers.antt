@@ -10,4 +10,4 @@ returns-then-m-j-eq0 c = on_under_way _ _ _ _ _ _ _ c.requires.2 c.if-m-j-ne0.fa
 
 pub returns-then-m-j-eq0-2 : goal.returns-then-m-j-eq0-2
 returns-then-m-j-eq0-2 c =
-    on_empty _ _ _ _ _ _ _ _ c.requires.2 c.if-m-j-ne0.false c.if-m-j-eq0.false c.if-m-j-eq0-2.true c.larger-next.ensures
+    on_empty _ _ _ _ _ _ _ _ c.requires.2 c.if-m-j-ne0.false c.if-m-j-eq0.false c.if-m-j-eq0-2.true c.max.ensures

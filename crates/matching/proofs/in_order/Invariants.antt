@@ -1,10 +1,7 @@
 -- `matching::in_order` meets its contract. Assumes nothing.
-use Rattle.std.proofs.Common.{◌≡◌, ◌≤◌, ◌-◌}
+use Rattle.std.proofs.Common.{◌≡◌, ◌≤◌}
 use Rattle.matching.specs.Rows.{events_in, latest_of, ordered}
 use Rattle.matching.proofs.in_order.Given as goal
 
 abbrev pub invariant-loop-k : goal.invariant-loop-k
 invariant-loop-k l = (l.k ≤ events_in l.words) × (l.all ≡ ordered l.words l.places l.k) × (l.latest ≡ latest_of l.words l.places l.k)
-
-abbrev pub decreases-loop-k : goal.decreases-loop-k
-decreases-loop-k l = events_in l.words - l.k

@@ -4,6 +4,3 @@ use Rattle.matching.proofs.link.Given as goal
 
 abbrev pub invariant-loop-p : goal.invariant-loop-p
 invariant-loop-p l = Linked l.words l.links l.heads l.p
-
-abbrev pub decreases-loop-p : goal.decreases-loop-p
-decreases-loop-p l = l.p

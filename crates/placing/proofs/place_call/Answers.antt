@@ -15,7 +15,7 @@ pub returns : goal.returns
 unfolding writes
 returns c =
     let a = c.args in
-    let q = c.read_contents-q in (
+    let q = c.contents-q in (
       omega (arith, q.ensures.starts),
       rw (c.put_producer-5.ensures, c.put_producer-4.ensures, c.put_producer-3.ensures, c.put_producer-2.ensures, c.put_producer.ensures, c.put_content-2.ensures, c.put_content.ensures)
           (number-by-number (sizes a.z) a.s.now (reader (sizes a.z) a.s.now) a.t a.v (omega (arith, q.ensures.starts)) (omega (arith, q.ensures.tail)) (omega arith) (omega (arith, q.ensures.starts)) (omega arith) (omega (arith, q.ensures.tail)) (omega arith)),

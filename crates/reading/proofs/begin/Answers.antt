@@ -4,4 +4,4 @@ use Rattle.reading.proofs.begin.Goals as goal
 
 pub returns : goal.returns
 unfolding begun
-returns c = rw (c.larger-top.ensures, c.mark_of-mark.ensures)
+returns c = rw (c.max-top.ensures, c.mark_of-mark.ensures)

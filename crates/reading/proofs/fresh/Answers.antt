@@ -1,7 +1,7 @@
 -- `reading::fresh` meets its contract. Assumes nothing.
-use Rattle.std.proofs.Common.{arith, zero-le, leb-true, leb-false}
+use Rattle.std.proofs.Common.{arith}
 use Rattle.reading.proofs.Logic.{true_not_false}
-use Rattle.reading.proofs.Starting.{unmarked}
+use Rattle.reading.proofs.Starting.{unmarked, fresh_by}
 use Rattle.reading.proofs.fresh.Goals as goal
 
 pub returns-then-number-eq0 : goal.returns-then-number-eq0
@@ -24,9 +24,4 @@ returns-then-m-mark_of-eq0 c =
     }
 
 pub returns : goal.returns
-returns c =
-    let f = c.scan-j.ensures in
-    record {
-      is_new = λ e z j l. let b = leb-true c.args.c c.scan-j.result e in f.2 j (omega arith) zero-le;
-      is_old = λ e. let b = leb-false c.args.c c.scan-j.result e in (c.if-number-eq0.false, (c.scan-j.result, b, f.1 b));
-    }
+returns c = fresh_by _ _ _ _ _ c.is_none.ensures c.scan.ensures c.if-number-eq0.false

@@ -5,4 +5,4 @@ use Rattle.recording.specs.Laws.{judges_word}
 use Rattle.recording.proofs.print_verdict.Goals as goal
 
 pub returns : goal.returns
-returns c = rw (judges_word (omega (arith, length-replicate {A = ℕ} 4096 0)) c.judge_alone-verdict.ensures) c.print_word.ensures
+returns c = rw (judges_word (omega (arith, length-replicate {A = ℕ} 4096 0)) c.judge_alone-reply.ensures) c.print_word.ensures

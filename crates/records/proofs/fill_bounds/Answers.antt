@@ -13,26 +13,26 @@ bounds-b-3 c = simp length-set (omega arith)
 
 pub loop-i-init : goal.loop-i-init
 unfolding entry_bounds
-loop-i-init c = (omega arith, refl)
+loop-i-init c = refl
 
 pub bounds-b-i : goal.bounds-b-i
 bounds-b-i c =
-    let e : length c.loop-i.b ≡ length c.args.b.now = ap length c.loop-i.invariant.1 ∙ length_bounds _ _ _ ∙ simp length-set in
+    let e : length c.loop-i.b ≡ length c.args.b.now = ap length c.loop-i.invariant ∙ length_bounds _ _ _ ∙ simp length-set in
     omega arith
 
 pub bounds-b-i-in-loop-i : goal.bounds-b-i-in-loop-i
 bounds-b-i-in-loop-i c =
-    let e : length c.loop-i.b ≡ length c.args.b.now = ap length c.loop-i.invariant.1 ∙ length_bounds _ _ _ ∙ simp length-set in
+    let e : length c.loop-i.b ≡ length c.args.b.now = ap length c.loop-i.invariant ∙ length_bounds _ _ _ ∙ simp length-set in
     simp length-set (omega arith)
 
 pub loop-i-preserved : goal.loop-i-preserved
 unfolding entry_bounds
-loop-i-preserved c = (omega arith, rw (add-one c.loop-i.i, c.loop-i.invariant.1) refl)
+loop-i-preserved c = (rw (add-one c.loop-i.i, c.loop-i.invariant) refl)
 
 pub shape_of-b : goal.shape_of-b
-shape_of-b c = ap length c.loop-i.invariant.1 ∙ length_bounds _ _ _ ∙ simp length-set
+shape_of-b c = ap length c.loop-i.invariant ∙ length_bounds _ _ _ ∙ simp length-set
 
 pub returns : goal.returns
 returns c =
     let e : c.loop-i.i ≡ c.args.z.entries = omega arith in
-    c.loop-i.invariant.1 ∙ ap (entry_bounds _ c.args.z.starts) e
+    c.loop-i.invariant ∙ ap (entry_bounds _ c.args.z.starts) e

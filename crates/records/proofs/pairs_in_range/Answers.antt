@@ -5,9 +5,6 @@ use Rattle.store.specs.Shape.{sizes}
 use Rattle.records.specs.Bounds.{every_halves}
 use Rattle.records.proofs.pairs_in_range.Goals as goal
 
-pub loop-r-init : goal.loop-r-init
-loop-r-init c = (omega arith, refl)
-
 pub pair_in_range-ok-requires : goal.pair_in_range-ok-requires
 pair_in_range-ok-requires c =
     record { room = c.requires.room; r_lt_records = (omega arith, omega arith, c.requires.bounded) }
@@ -15,7 +12,7 @@ pair_in_range-ok-requires c =
 pub loop-r-preserved : goal.loop-r-preserved
 loop-r-preserved c =
     let l = c.loop-r in
-    (omega arith, rw (add-one l.r, l.invariant.1, c.pair_in_range-ok.ensures) refl)
+    (rw (add-one l.r, l.invariant, c.pair_in_range-ok.ensures) refl)
 
 pub returns : goal.returns
 returns c =
@@ -24,4 +21,4 @@ returns c =
     let e : c.loop-r.r ≡ n - n / 2 = omega arith in
     ap (λ (k : ℕ). every k (record_in_range (sizes a.z) (reader (sizes a.z) a.s.now))) {x = n} {y = n - n / 2 + n / 2} (omega arith)
     ∙ sym (every_halves (n - n / 2) (n / 2) (omega arith) _)
-    ∙ rw e at c.loop-r.invariant.1
+    ∙ rw e at c.loop-r.invariant

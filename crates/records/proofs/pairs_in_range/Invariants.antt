@@ -1,14 +1,9 @@
 -- `records::pairs_in_range` meets its contract.
-use Rattle.std.proofs.Common.{◌&&◌, ◌≡◌, ◌+◌, ◌-◌, ◌≤◌}
+use Rattle.std.proofs.Common.{◌&&◌, ◌≡◌, ◌+◌}
 use Rattle.rules.specs.Cell.{reader}
 use Rattle.rules.specs.Range.{every, record_in_range}
 use Rattle.store.specs.Shape.{sizes}
 use Rattle.records.proofs.pairs_in_range.Given as goal
 
 abbrev pub invariant-loop-r : goal.invariant-loop-r
-invariant-loop-r l =
-    (l.r ≤ l.pairs)
-    × (every l.r (λ i. record_in_range (sizes l.z) (reader (sizes l.z) l.s) i && record_in_range (sizes l.z) (reader (sizes l.z) l.s) (i + l.half)) ≡ l.ok)
-
-abbrev pub decreases-loop-r : goal.decreases-loop-r
-decreases-loop-r l = l.pairs - l.r
+invariant-loop-r l = every l.r (λ i. record_in_range (sizes l.z) (reader (sizes l.z) l.s) i && record_in_range (sizes l.z) (reader (sizes l.z) l.s) (i + l.half)) ≡ l.ok

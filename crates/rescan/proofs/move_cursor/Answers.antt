@@ -1,10 +1,7 @@
 -- `rescan::move_cursor` meets its contract.
-use Rattle.std.proofs.Common.{refl, eq-eqb, ne_eqb}
+use Rattle.std.proofs.Common.{refl, ne_eqb}
 use Rattle.rules.specs.Cell.{writes}
 use Rattle.rescan.proofs.move_cursor.Goals as goal
-
-pub returns-then-position-found : goal.returns-then-position-found
-returns-then-position-found c = rw (eq-eqb _ _ c.if-position-found.true) c.settle.ensures
 
 pub returns : goal.returns
 unfolding writes

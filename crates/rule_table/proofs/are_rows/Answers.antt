@@ -1,17 +1,12 @@
-use Rattle.std.proofs.Common.{refl, ap₂, ◌&&◌, le_antisymm, add-one, arith}
-use Rattle.census_rules.specs.Table.{are_rows}
+use Rattle.std.proofs.Common.{◌∙◌, arith}
+use Rattle.census_rules.specs.Table.{is_row, are_rows}
+use Rattle.census_rules.specs.Laws.{all_below_true, all_below_false}
 use Rattle.rule_table.proofs.are_rows.Goals as goal
 
-pub loop-k-init : goal.loop-k-init
+pub returns-then-not-is_row : goal.returns-then-not-is_row
 unfolding are_rows
-loop-k-init c = (omega arith, refl)
-
-pub is_row-ok-requires : goal.is_row-ok-requires
-is_row-ok-requires c = (c.requires, omega arith)
-
-pub loop-k-preserved : goal.loop-k-preserved
-unfolding are_rows
-loop-k-preserved c = let l = c.loop-k in (omega arith, rw (add-one l.k) (ap₂ ◌&&◌ l.invariant.1 c.is_row-ok.ensures))
+returns-then-not-is_row c = all_below_false (is_row c.args.rows.now) 20 c.loop-k.k c.loop-k-test.true (c.is_row.ensures ∙ c.if-not-is_row.true)
 
 pub returns : goal.returns
-returns c = rw (le_antisymm c.loop-k.invariant.0 c.loop-k-test.false) at c.loop-k.invariant.1
+unfolding are_rows
+returns c = all_below_true (is_row c.args.rows.now) 20 (λ k h. c.loop-k.invariant k (omega (arith, c.loop-k-test.false)))

@@ -1,10 +1,7 @@
 -- `rule_table::are_rows` meets its contract.
-use Rattle.std.proofs.Common.{◌≡◌, ◌-◌, ◌≤◌}
-use Rattle.census_rules.specs.Table.{are_rows}
+use Rattle.std.proofs.Common.{◌≡◌, ◌<◌, ℕ, true}
+use Rattle.census_rules.specs.Table.{is_row}
 use Rattle.rule_table.proofs.are_rows.Given as goal
 
 abbrev pub invariant-loop-k : goal.invariant-loop-k
-invariant-loop-k l = (l.k ≤ 20) × (are_rows l.k l.rows ≡ l.ok)
-
-abbrev pub decreases-loop-k : goal.decreases-loop-k
-decreases-loop-k l = 20 - l.k
+invariant-loop-k l = (k : ℕ) → k < l.k → is_row l.rows k ≡ true

@@ -1,10 +1,7 @@
 -- `rule_table::once` meets its contract.
-use Rattle.std.proofs.Common.{◌≡◌, ◌-◌, ◌≤◌}
+use Rattle.std.proofs.Common.{◌≡◌, ◌≤◌}
 use Rattle.census_rules.specs.Table.{times_in}
 use Rattle.rule_table.proofs.once.Given as goal
 
 abbrev pub invariant-loop-k : goal.invariant-loop-k
-invariant-loop-k l = (l.k ≤ 20) × (l.times ≤ l.k) × (times_in l.k l.rows l.office l.state ≡ l.times)
-
-abbrev pub decreases-loop-k : goal.decreases-loop-k
-decreases-loop-k l = 20 - l.k
+invariant-loop-k l = (l.times ≤ l.k) × (times_in l.k l.rows l.office l.state ≡ l.times)

@@ -1,36 +1,31 @@
 -- `scanning::scan_crosses` meets its contract.
-use Rattle.std.proofs.Common.{◌≡◌, refl, ◌∙◌, ◌-◌, arith, rules}
+use Rattle.std.proofs.Common.{◌≡◌, refl, ◌∙◌, ◌-◌, arith}
 use Rattle.rules.specs.Cell.{writes}
 use Rattle.rules.specs.Request.{applied}
-use Rattle.store.specs.Branches.{some, suc_pred}
-use Rattle.dequeue.proofs.Crossings.{crosses_to, crosses_nowhere}
+use Rattle.store.proofs.Refusals.{handed_on}
+use Rattle.store.specs.Branches.{suc_pred}
+use Rattle.dequeue.proofs.Crossings.{crosses_nowhere}
+use Rattle.scanning.proofs.scan_crosses.Goals.{then-is_read+in_ok-before, else-is_read}
 use Rattle.scanning.proofs.scan_crosses.Goals as goal
 
-pub returns-in_default : goal.returns-in_default
-returns-in_default c = crosses_nowhere c.cross_from.ensures _ c.in_default.is
+pub returns-in_err-to : goal.returns-in_err-to
+returns-in_err-to c =
+    rw (handed_on c.from_residual.result c.from_residual.ensures.1 c.in_err-to.ensures.1) (crosses_nowhere _ c.in_err-to.ensures.0)
 
-pub returns-then-not-is_read : goal.returns-then-not-is_read
-unfolding applied writes
-returns-then-not-is_read c =
-    let x = crosses_to c.cross_from.ensures c.in-To.is in
-    rw (x.link, x.placed, x.fits, c.is_read.ensures ∙ c.if-not-is_read.true, ← x.link_is, ← x.position_is, c.enter.ensures) refl
-
-pub returns-then-prev-eq0 : goal.returns-then-prev-eq0
+pub returns-in_err-before : goal.returns-in_err-before
 unfolding applied
-returns-then-prev-eq0 c =
-    let x = crosses_to c.cross_from.ensures c.in-To.is in
-    rw (x.link, x.placed, x.fits, c.is_read.ensures ∙ c.if-not-is_read.false, c.part-prev.ensures.is, c.if-prev-eq0.true) refl
-
-pub overflow_sub-link : goal.overflow_sub-link
-overflow_sub-link c = let x = crosses_to c.cross_from.ensures c.in-To.is in omega (arith, x.link_is)
-
-pub fold-requires : goal.fold-requires
-fold-requires c = let x = crosses_to c.cross_from.ensures c.in-To.is in record { room = search rules; r_lt_records = (c.requires.r_lt_records, omega arith, omega (arith, x.link_is, x.below)) }
+returns-in_err-before c =
+    let x = c.in_ok-to.ensures in
+    rw (handed_on c.from_residual-in_err-before.result c.from_residual-in_err-before.ensures.1 c.in_err-before.ensures.1, x.link, x.placed, x.fits, c.is_read.ensures ∙ c.if-is_read.true, c.part.ensures.is, c.in_err-before.ensures.0) refl
 
 pub returns : goal.returns
 unfolding applied writes
 returns c =
-    let x = crosses_to c.cross_from.ensures c.in-To.is in
-    let link = c.in-To.link in
+    let x = c.in_ok-to.ensures in
+    let link = c.in_ok-to.to.link in
     let to : x.to ≡ link - 1 = omega (arith, x.link_is) in
-    rw (x.link, x.placed, x.fits, c.is_read.ensures ∙ c.if-not-is_read.false, some c.part-prev.ensures.is c.if-prev-eq0.false, c.enter-2.ensures, c.fold.ensures, ← x.position_is, to, suc_pred {h = link} (λ e. omega (arith, x.link_is))) refl
+    elim c.if-is_read.branch [
+      | then-is_read+in_ok-before w ↦
+          rw (x.link, x.placed, x.fits, c.is_read.ensures ∙ w.if-is_read.true, w.part.ensures.is, w.in_ok-before.ensures, c.enter.ensures, w.s-is, w.fold.ensures, ← x.position_is, to, suc_pred {h = link} (λ e. omega (arith, x.link_is))) refl
+      | else-is_read w ↦ rw (x.link, x.placed, x.fits, c.is_read.ensures ∙ w.if-is_read.false, ← x.link_is, ← x.position_is, c.enter.ensures, w.s-is) refl
+    ]

@@ -8,20 +8,20 @@ loop-at-init c = (omega arith, omega arith, omega arith, refl, refl, refl, going
 pub slice_bounds-parse_line-end : goal.slice_bounds-parse_line-end
 slice_bounds-parse_line-end c = omega (arith, line_within c.args.input.now c.loop-at.at c.loop-at-test.true)
 
-pub shape_of-store-in-Stop : goal.shape_of-store-in-Stop
-shape_of-store-in-Stop c = c.take_turn-next.auto.store ∙ c.loop-at.invariant.3
+pub shape_of-store-in-Break : goal.shape_of-store-in-Break
+shape_of-store-in-Break c = c.take_turn.auto.store ∙ c.loop-at.invariant.3
 
-pub shape_of-history-in-Stop : goal.shape_of-history-in-Stop
-shape_of-history-in-Stop c = c.take_turn-next.auto.history ∙ c.loop-at.invariant.4
+pub shape_of-history-in-Break : goal.shape_of-history-in-Break
+shape_of-history-in-Break c = c.take_turn.auto.history ∙ c.loop-at.invariant.4
 
-pub shape_of-out-in-Stop : goal.shape_of-out-in-Stop
-shape_of-out-in-Stop c = c.take_turn-next.auto.out ∙ c.loop-at.invariant.5
+pub shape_of-out-in-Break : goal.shape_of-out-in-Break
+shape_of-out-in-Break c = c.take_turn.auto.out ∙ c.loop-at.invariant.5
 
-pub returns-in-Stop : goal.returns-in-Stop
-returns-in-Stop c =
+pub returns-in-Break : goal.returns-in-Break
+returns-in-Break c =
     let i = c.args.input.now in
     let e = c.line_end-end in
-    let w = rw (c.in-Stop.is, c.parse_line-line.ensures) at c.take_turn-next.ensures in
+    let w = rw (c.in-Break.is, c.parse_line-line.ensures) at c.take_turn.ensures in
     record { leaves = going_stops i c.loop-at.at e.result (omega arith) e.ensures c.loop-at.invariant.6 w }
 
 pub overflow_add-at : goal.overflow_add-at
@@ -32,16 +32,16 @@ pub loop-at-preserved : goal.loop-at-preserved
 loop-at-preserved c =
     let i = c.args.input.now in
     let e = c.line_end-end in
-    let w = rw (c.in-On.is, c.parse_line-line.ensures) at c.take_turn-next.ensures in
+    let w = rw (c.in-Continue.is, c.parse_line-line.ensures) at c.take_turn.ensures in
     let s = answered_short (take (e.result - c.loop-at.at) (drop c.loop-at.at i)) w in
     let n = rw length-take at s.0 in
     let k = line_within i c.loop-at.at (omega arith) in (
       omega arith,
       omega (arith, s.1),
       omega (arith, s.2),
-      c.take_turn-next.auto.store ∙ c.loop-at.invariant.3,
-      c.take_turn-next.auto.history ∙ c.loop-at.invariant.4,
-      c.take_turn-next.auto.out ∙ c.loop-at.invariant.5,
+      c.take_turn.auto.store ∙ c.loop-at.invariant.3,
+      c.take_turn.auto.history ∙ c.loop-at.invariant.4,
+      c.take_turn.auto.out ∙ c.loop-at.invariant.5,
       going_on i c.loop-at.at e.result (omega arith) e.ensures c.loop-at.invariant.6 w,
     )
 

@@ -3,4 +3,4 @@ use Rattle.std.proofs.Common.{refl}
 use Rattle.starting.proofs.is_idle.Goals as goal
 
 pub returns : goal.returns
-returns c = rw c.read_consumer.ensures.phase refl
+returns c = rw c.consumer.ensures.phase refl

@@ -1,24 +1,21 @@
 -- `taking::read_item` meets its contract.
-use Rattle.std.proofs.Common.{refl, arith}
+use Rattle.std.proofs.Common.{refl}
 use Rattle.rules.specs.Cell.{writes}
 use Rattle.rules.specs.Consumer.{read_item}
 use Rattle.rules.specs.Request.{applied}
-use Rattle.store.proofs.Slots.{at_there, stands_at, not_inside}
+use Rattle.store.proofs.Refusals.{handed_on}
+use Rattle.store.proofs.Slots.{located, outside}
 use Rattle.taking.proofs.read_item.Goals as goal
 
-pub returns-in_default : goal.returns-in_default
+pub returns-in_err-at : goal.returns-in_err-at
 unfolding read_item
-returns-in_default c = not_inside c.read_consumer-c.ensures.found_record c.read_consumer-c.ensures.found_position _ _ c.slot_in.ensures c.in_default.not-At
-
-pub entry-number-requires : goal.entry-number-requires
-entry-number-requires c = record { admitted = c.requires; there = omega (arith, at_there c.slot_in.ensures c.in-At.is) }
-
-pub entry-value-requires : goal.entry-value-requires
-entry-value-requires c = record { admitted = c.requires; there = omega (arith, at_there c.slot_in.ensures c.in-At.is) }
+returns-in_err-at c =
+    let k = c.consumer-c.ensures in
+    rw (handed_on c.from_residual.result c.from_residual.ensures.1 c.in_err-at.ensures.1) (outside k.found_record k.found_position _ c.in_err-at.ensures.0)
 
 pub returns : goal.returns
 unfolding read_item applied writes
 returns c =
-    let k = c.read_consumer-c.ensures in
-    let at = stands_at k.found_record k.found_position c.slot_in.ensures c.in-At.is in
+    let k = c.consumer-c.ensures in
+    let at = located k.found_record k.found_position c.in_ok-at.ensures in
     rw (at.link, at.inside, at.is, c.entry-number.ensures.is, c.entry-value.ensures.is, c.put_consumer-3.ensures, c.put_consumer-2.ensures, c.put_consumer.ensures) refl

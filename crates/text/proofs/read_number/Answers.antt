@@ -1,26 +1,20 @@
--- `text::read_number` meets its contract: each return has the tests that led there.
-use Rattle.std.proofs.Common.{le-leb, ne_eqb, ◌∙◌, arith}
-use borrow.Author.Tests.{lt-leb}
+use Rattle.std.proofs.Common.{arith, ◌∙◌, ne_eqb}
+use lib.ListN.{get_or-eq_default}
 use Rattle.text.specs.Decimal.{number_at}
-use Rattle.text.specs.Laws.{inside}
 use Rattle.text.proofs.read_number.Goals as goal
 
-pub returns-then-b-lt48 : goal.returns-then-b-lt48
+pub returns-in_err-b : goal.returns-in_err-b
 unfolding number_at
-returns-then-b-lt48 c = simp (← c.byte_at-b.ensures, lt-leb _ _ c.if-b-lt48.true)
+returns-in_err-b c =
+    c.from_residual.ensures ∙ simp (get_or-eq_default c.args.s.now 0 c.in_err-b.ensures.lookup.3)
 
-pub returns-then-b-gt57 : goal.returns-then-b-gt57
+pub returns-then-not-is_ascii_digit : goal.returns-then-not-is_ascii_digit
 unfolding number_at
-returns-then-b-gt57 c =
-    simp (← c.byte_at-b.ensures, le-leb _ _ c.if-b-lt48.false, lt-leb _ _ c.if-b-gt57.true)
-
-pub overflow_add-at : goal.overflow_add-at
-overflow_add-at c =
-    let a = c.args in
-    omega (arith, inside a.s.now a.at (omega arith))
+returns-then-not-is_ascii_digit c =
+    simp (← c.in_ok-b.ensures.lookup.3.1 0, ← c.if-not-is_ascii_digit.ensures.value)
 
 pub returns : goal.returns
 unfolding number_at
 returns c =
     c.read_digits.ensures
-    ∙ simp (← c.byte_at-b.ensures, le-leb _ _ c.if-b-lt48.false, le-leb _ _ c.if-b-gt57.false, ne_eqb c.byte_at-b.result 48 (λ e. omega arith))
+    ∙ simp (← c.in_ok-b.ensures.lookup.3.1 0, ← c.if-not-is_ascii_digit.ensures.value, ne_eqb c.in_ok-b.field-0.now 48 (λ e. omega arith))

@@ -1,29 +1,19 @@
-use Rattle.std.proofs.Common.{◌≡◌, refl, ap, ◌∙◌, ℕ, arith, length, take, length-set}
-use lib.Seq.{sets, take-length}
-use Rattle.text.specs.Laws.{sets_take}
+-- `text::write_bytes` meets its contract: the copied part stands between what was before it and after it.
+use Rattle.std.proofs.Common.{◌≡◌, ℕ, List, ◌+◌, ◌-◌, ◌++◌, refl, ap, sym, ◌∙◌, arith, length, take, drop, take_all}
+use Rattle.std.proofs.lemmas.List.Edits.{sets-eq}
+use Rattle.std.proofs.lemmas.Slice.{put_mid-paste}
 use Rattle.text.proofs.write_bytes.Goals as goal
-
-pub loop-i-init : goal.loop-i-init
-loop-i-init c = (omega arith, refl, refl)
-
-pub loop-i-preserved : goal.loop-i-preserved
-loop-i-preserved c =
-    let o = c.args.out.now in
-    let bs = c.args.bytes.now in
-    let at = c.args.at in
-    (omega arith, rw c.loop-i.invariant.1 (sets_take o bs at c.loop-i.i (omega arith)), simp length-set c.loop-i.invariant.2)
-
-pub shape_of-out : goal.shape_of-out
-shape_of-out c = c.loop-i.invariant.2
 
 pub returns : goal.returns
 returns c =
+    let o = c.args.out.now in
     let bs = c.args.bytes.now in
-    let e : c.loop-i.i ≡ length bs = omega arith in
+    let at = c.args.at in
+    let n : length bs ≡ at + length bs - at = omega arith in
     record {
       next_is = refl;
       after_is =
-          c.loop-i.invariant.1
-          ∙ ap (λ (k : ℕ). sets c.args.out.now c.args.at (take k bs)) e
-          ∙ simp take-length;
+          put_mid-paste at (at + length bs - at) o c.copy_from_slice.new.self bs (length bs) c.copy_from_slice.ensures.after n refl
+          ∙ ap (λ (l : List ℕ). take at o ++ l ++ drop (at + length bs) o) (take_all (length bs) bs (omega arith))
+          ∙ sym (sets-eq bs o at c.requires);
     }

@@ -3,7 +3,7 @@ use Rattle.two_recordings.specs.Laws.{refused_first, refused_second}
 use Rattle.two_recordings.proofs.print_refused.Goals as goal
 
 pub returns-in-First : goal.returns-in-First
-returns-in-First c = rw (refused_first c.args.number c.in-First.is) c.print_numbered.ensures
+returns-in-First c = rw (← c.into-number.ensures, refused_first c.into-number.result c.in-First.is) c.print_numbered.ensures
 
 pub returns-in-Second : goal.returns-in-Second
-returns-in-Second c = rw (refused_second c.args.number c.in-Second.is) c.print_numbered-in-Second.ensures
+returns-in-Second c = rw (← c.into-number.ensures, refused_second c.into-number.result c.in-Second.is) c.print_numbered-in-Second.ensures

@@ -6,7 +6,7 @@ use Rattle.recording.specs.Laws.{length_reported}
 use Rattle.verdict.proofs.main.Goals as goal
 
 pub slice_bounds-text-end : goal.slice_bounds-text-end
-slice_bounds-text-end c = rw c.in-Bytes.is at c.read_input.ensures
+slice_bounds-text-end c = c.in-Ok.ensures
 
 pub slice_bounds-out-end : goal.slice_bounds-out-end
 slice_bounds-out-end c = wrote_within c.report-printed.ensures (length-replicate {A = ℕ} 45082 0) (length_reported _)

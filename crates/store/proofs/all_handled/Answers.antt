@@ -1,7 +1,0 @@
--- `store::all_handled` meets its contract.
-use Rattle.std.proofs.Common.{refl}
-use Rattle.rules.specs.Cell.{all_handled}
-use Rattle.store.proofs.all_handled.Goals as goal
-
-pub returns : goal.returns
-returns c = c.word_at.ensures.reads all_handled tt refl

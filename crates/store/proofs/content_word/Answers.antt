@@ -1,7 +1,0 @@
--- `store::content_word` meets its contract.
-use Rattle.std.proofs.Common.{refl}
-use Rattle.rules.specs.Cell.{content}
-use Rattle.store.proofs.content_word.Goals as goal
-
-pub returns : goal.returns
-returns c = c.word_at.ensures.reads (content c.args.k) c.requires.there refl

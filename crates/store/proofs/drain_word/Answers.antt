@@ -1,9 +1,0 @@
--- `store::drain_word` meets its contract.
-use Rattle.std.proofs.Common.{arith}
-use Rattle.rules.specs.Cell.{drain}
-use Rattle.store.proofs.drain_word.Goals as goal
-
-pub returns : goal.returns
-returns c =
-    let b = c.args in
-    c.word_at.ensures.reads (drain b.k) c.requires.there (omega arith)

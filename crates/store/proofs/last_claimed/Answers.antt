@@ -1,7 +1,0 @@
--- `store::last_claimed` meets its contract.
-use Rattle.std.proofs.Common.{refl}
-use Rattle.rules.specs.Cell.{last_claimed}
-use Rattle.store.proofs.last_claimed.Goals as goal
-
-pub returns : goal.returns
-returns c = c.word_at.ensures.reads last_claimed tt refl

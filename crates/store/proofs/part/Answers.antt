@@ -1,7 +1,0 @@
--- `store::part` meets its contract.
-use Rattle.std.proofs.Common.{refl}
-use Rattle.rules.specs.Cell.{part}
-use Rattle.store.proofs.part.Goals as goal
-
-pub returns : goal.returns
-returns c = c.record_word.ensures.reads (part c.args.r c.args.k) c.requires.there refl
