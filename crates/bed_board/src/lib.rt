@@ -15,9 +15,9 @@ pub const BEDS: usize = 512;
 // the rows of the rule table, one for each office, with a word for each state, from
 pub const OFFICES: usize = 4;
 
-const STATES: usize = 5;
+pub const STATES: usize = 5;
 
-const TABLE: usize = 512;
+pub const TABLE: usize = 512;
 
 // on, and the offices' counts from
 pub const COUNTS: usize = 532;

@@ -1,18 +1,17 @@
 -- The end of a drain, where it goes on, and what the code says of that (document 02, U5).
-use Rattle.std.specs.Prelude.{◌≡◌, Bool, ℕ, zero, suc, ◌+◌, ◌-◌, ◌*◌, ◌<◌, ◌≤◌, get_or, take, drop, Ok, Err}
+use Rattle.std.specs.Prelude.{◌≡◌, Bool, ℕ, zero, suc, ◌+◌, ◌-◌, ◌*◌, ◌<◌, ◌≤◌, get_or, set, take, drop, Ok, Err}
 use Rattle.std.proofs.Math.Path.{refl, ap, sym}
-use Rattle.std.proofs.Common.{◌∙◌, zero-add, length-drop, drop-drop, take_all}
-use Rattle.std.proofs.lemmas.List.{get_or-drop}
+use Rattle.std.proofs.Common.{ap₂, ◌∙◌, zero-add, length-append, length-drop, drop-drop, take_all}
 use Rattle.std.proofs.Math.Bool.{true, false}
 use mathlib.Core.List.{List, [], ◌∷◌, ◌++◌, append_assoc, append-nil}
 use native.Mathlib.Omega.{arith}
 use Rattle.std.proofs.Math.ListN.{length}
 use Rattle.std.proofs.lemmas.List.Edits.{sets, sets-eq}
-use Rattle.std.proofs.Math.Seq.{drop-length, take-suc}
+use Rattle.std.proofs.Math.Seq.{drop-length}
 use borrow.Rule.Slice.PartMut.{mid_of, put_mid}
 use borrow.Author.Tests.{le-ltb, lt-ltb}
 use Rattle.history.specs.Linearization.{Item}
-use Rattle.rules.specs.Sizes.{Sizes, most_drained, first_drain, store_words}
+use Rattle.rules.specs.Sizes.{Sizes, most_drained, first_drain}
 use Rattle.rules.specs.Cell.{Reader, reader, Write, write, writes, ◌:=◌, clear_consumer, clear_drain, consumer_phase, found_record, found_position, item_number, item_value, pair}
 use Rattle.rules.specs.Rule.{Effect, reply, drained, goes}
 use Rattle.rules.specs.Consumer.{pair_at, items_marked, goes_on}
@@ -20,7 +19,7 @@ use Rattle.rules.specs.Request.{applied, item_words}
 use Rattle.store.specs.declared.Reply.TheVariants.{Drained}
 use Rattle.store.specs.declared.Refusal.TheVariants.{BufferShort}
 use Rattle.store.specs.Outcome.{items_at, left, leaves}
-use Rattle.store.specs.Items.{items_at_lem, length_marked, words_more}
+use Rattle.store.specs.Items.{items_at_lem, length_marked, words_more, sets_then}
 use Rattle.store.specs.Words.{word_at, writes_then}
 use Rattle.draining.specs.Room.{ends_at}
 
@@ -36,24 +35,32 @@ abbrev pub onward : (n : ℕ) (ends : Bool) → Sizes → Reader → Effect
 onward n true z σ = ends_with n z σ
 onward n false z σ = goes to_front
 
--- The words of the first n pairs are those of the items that the drain has marked.
-pub pairs_are : (z : Sizes) (m : List ℕ) (at n : ℕ) → at ≡ first_drain z + 2 → n ≤ most_drained → store_words z ≤ length m
-    → take (2 * n) (drop at m) ≡ item_words (items_marked (reader z m) n)
-pairs_are z m at zero e h fits = refl
-pairs_are z m at (suc n) e h fits =
-    let σ = reader z m in
-    let number : get_or (drop at m) (2 * n) 0 ≡ σ (pair n 0) =
-    get_or-drop at m (2 * n) 0 ∙ ap (λ (x : ℕ). get_or m x 0) (omega arith) ∙ sym (word_at z m (pair n 0) (omega arith, omega arith)) in
-    let value : get_or (drop at m) (suc (2 * n)) 0 ≡ σ (pair n 1) =
-    get_or-drop at m (suc (2 * n)) 0 ∙ ap (λ (x : ℕ). get_or m x 0) (omega arith) ∙ sym (word_at z m (pair n 1) (omega arith, omega arith)) in
-    let room : 2 * n + 2 ≤ length (drop at m) = simp length-drop (omega arith) in
-    let count : 2 * suc n ≡ suc (suc (2 * n)) = omega arith in
-    rw (count, take-suc (drop at m) (suc (2 * n)) 0 (omega arith), take-suc (drop at m) (2 * n) 0 (omega arith), number, value, append_assoc, pairs_are z m at n e (omega arith) fits)
-    (sym (words_more (items_marked σ n) (pair_at σ n)))
+-- the words of n pairs from a word on, pair by pair
+abbrev pub pair_words : (m : List ℕ) (at n : ℕ) → List ℕ
+pair_words m at zero = []
+pair_words m at (suc n) = pair_words m at n ++ (get_or m (at + 2 * n) 0 ∷ get_or m (at + 2 * n + 1) 0 ∷ [])
 
--- Words in place of the first n of a part are written from its first word on.
-pub filled : (l vs : List ℕ) (n : ℕ) → length vs ≡ n → n ≤ length l → vs ++ drop n l ≡ sets l 0 vs
-filled l vs n c h = sym (sets-eq vs l 0 (omega arith) ∙ ap (λ (k : ℕ). vs ++ drop k l) {x = 0 + length vs} {y = n} (omega arith))
+length_pairs : (m : List ℕ) (at n : ℕ) → length (pair_words m at n) ≡ 2 * n
+length_pairs m at zero = refl
+length_pairs m at (suc n) = let h = length_pairs m at n in simp length-append (omega arith)
+
+-- They go over one by one.
+pub pair_more : (m l : List ℕ) (at n : ℕ)
+    → set (set (sets l 0 (pair_words m at n)) (2 * n) (get_or m (at + 2 * n) 0)) (2 * n + 1) (get_or m (at + 2 * n + 1) 0) ≡ sets l 0 (pair_words m at (suc n))
+pair_more m l at n =
+    let ws = pair_words m at n in
+    ap₂ (λ (x y : ℕ). set (set (sets l 0 ws) x (get_or m (at + 2 * n) 0)) y (get_or m (at + 2 * n + 1) 0)) {x = 2 * n} {y = 0 + length ws}
+    (omega (arith, length_pairs m at n)) (omega (arith, length_pairs m at n))
+    ∙ sym (sets_then ws (get_or m (at + 2 * n) 0 ∷ get_or m (at + 2 * n + 1) 0 ∷ []) l 0)
+
+-- They are the items that the drain has marked.
+pub pairs_are : (z : Sizes) (m : List ℕ) (at n : ℕ) → at ≡ first_drain z + 2 → n ≤ most_drained → pair_words m at n ≡ item_words (items_marked (reader z m) n)
+pairs_are z m at zero e h = refl
+pairs_are z m at (suc n) e h =
+    let σ = reader z m in
+    let number : get_or m (at + 2 * n) 0 ≡ σ (pair n 0) = ap (λ (x : ℕ). get_or m x 0) (omega arith) ∙ sym (word_at z m (pair n 0) (omega arith, omega arith)) in
+    let value : get_or m (at + 2 * n + 1) 0 ≡ σ (pair n 1) = ap (λ (x : ℕ). get_or m x 0) (omega arith) ∙ sym (word_at z m (pair n 1) (omega arith, omega arith)) in
+    rw (number, value, pairs_are z m at n e (omega arith)) (sym (words_more (items_marked σ n) (pair_at σ n)))
 
 -- The part of the buffer from a word on, with words written from its first on and put back, is the buffer with them from that word on.
 pub put_part : (b vs : List ℕ) (i : ℕ) → i + length vs ≤ length b

@@ -37,8 +37,11 @@ fn hand_over(s: &[u32], z: Shape, part: &mut [u32], n: u32)
     ensures { part.new ≡ sets part.old 0 (item_words (items_marked (reader (sizes z) s.now) n)) }
 {
     let pairs = (drain_at(z) + word::PAIRS) as usize;
-    let count = 2 * (n as usize);
-    part[..count].copy_from_slice(&s[pairs..pairs + count]);
+    // Stays: no `copy_from_slice`, for which an archive for C would need `memmove` of its host.
+    for i in 0..n as usize {
+        part[2 * i] = s[pairs + 2 * i];
+        part[2 * i + 1] = s[pairs + 2 * i + 1];
+    }
 }
 
 // The drain ends with its first n items: they go into the buffer from the named word, and what it used is zero.

@@ -112,7 +112,8 @@ pub fn judge(history: &[u32], table: &mut [Call], order: &mut [u32]) -> Result<O
     ensures { Judges history.now table.old table.new order.old order.new result }
 {
     let mut m = [0u32; MEMORY];
-    let calls = read(history, table.len(), &mut m)?;
+    let entered = read(history, table.len(), &mut m);
+    let calls = entered?;
     if order.len() < calls {
         return Err(Refusal::Order);
     }

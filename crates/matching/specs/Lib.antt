@@ -5,3 +5,4 @@ pub mod Walk
 pub mod Spelled
 pub mod Places
 pub mod Decides
+pub mod Events

@@ -6,6 +6,7 @@ ghost use Rattle.history.specs.Event.{most_producers};
 ghost use Rattle.history.specs.Form.{most_events};
 ghost use Rattle.equivalence.specs.Tests.{same_words};
 ghost use Rattle.matching.specs.Rows.{events_in, thread_in, row_at, Threaded, ordered};
+ghost use Rattle.matching.specs.Events.{words_of};
 ghost use Rattle.matching.specs.Match.{Linked, Matches};
 ghost use Rattle.matching.specs.Walk.{Met, MetAll};
 
@@ -14,12 +15,26 @@ use reading::{MOST_EVENTS, starts};
 // Threads 0 to 16.
 const THREADS: usize = 17;
 
-// The four words of event k.
-fn event(words: &[u32], k: usize) -> &[u32]
+// The words of an event.
+#[derive(Clone, Copy, PartialEq, Eq)]
+struct Event {
+    kind: u32,
+    thread: u32,
+    number: u32,
+    value: u32,
+}
+
+// Event k.
+fn event_at(words: &[u32], k: usize) -> Event
     requires { 4 * k + 3 < length words.now }
-    ensures { result.now ≡ row_at words.now k }
+    ensures { words_of result ≡ row_at words.now k }
 {
-    &words[4 * k..4 * k + 4]
+    Event {
+        kind: words[4 * k],
+        thread: words[4 * k + 1],
+        number: words[4 * k + 2],
+        value: words[4 * k + 3],
+    }
 }
 
 // Whether event p of one recording and event k of another are the same four words.
@@ -27,7 +42,7 @@ pub fn same_event(first: &[u32], p: usize, second: &[u32], k: usize) -> bool
     requires { (4 * p + 3 < length first.now) × (4 * k + 3 < length second.now) }
     ensures { result ≡ same_words (row_at first.now p) (row_at second.now k) }
 {
-    event(first, p) == event(second, k)
+    event_at(first, p) == event_at(second, k)
 }
 
 // The thread of event k.
@@ -46,20 +61,16 @@ struct Chains {
     heads: [u32; THREADS],
 }
 
-// Links the events of a recording, from the back.
-fn link(words: &[u32]) -> Chains
-    requires { Threaded words.now }
-    ensures { Linked words.now result.links result.heads 0 }
+// Links the events of a recording, from the back, into chains that have none.
+fn link(words: &[u32], threads: &mut Chains)
+    requires { Threaded words.now × (length threads.old.links ≡ most_events) × (threads.old.heads ≡ replicate 17 (events_in words.now)) }
+    ensures { Linked words.now threads.new.links threads.new.heads 0 }
 {
-    let events = words.len() / 4;
-    let mut links = [0u32; MOST_EVENTS];
-    let mut heads = [events as u32; THREADS];
-    for p in (0..events).rev() {
+    for p in (0..words.len() / 4).rev() {
         let t = thread_of(words, p);
-        links[p] = heads[t];
-        heads[t] = p as u32;
+        threads.links[p] = threads.heads[t];
+        threads.heads[t] = p as u32;
     }
-    Chains { links, heads }
 }
 
 // Goes over the second recording: each event is the next one of its thread in the first, word for word, and gets its place there.
@@ -100,8 +111,13 @@ pub fn matches(first: &[u32], second: &[u32], places: &mut [u32; MOST_EVENTS]) -
     requires { Threaded first.now × Threaded second.now × (length places.old ≡ most_events) }
     ensures { Matches first.now second.now places.new result }
 {
-    let mut threads = link(first);
-    meet(first, second, &mut threads, places) && all_met(&threads.heads, first.len() / 4)
+    let events = first.len() / 4;
+    let mut threads = Chains {
+        links: [0; MOST_EVENTS],
+        heads: [events as u32; THREADS],
+    };
+    link(first, &mut threads);
+    meet(first, second, &mut threads, places) && all_met(&threads.heads, events)
 }
 
 // Whether each start has a place after those of the ends before it.

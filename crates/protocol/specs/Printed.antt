@@ -1,6 +1,8 @@
 -- The line that a reply prints (document 01, "Program"; document 02, U3).
-use Rattle.std.specs.Prelude.{Bool, true, false, List, [], ◌∷◌, ◌++◌, ℕ}
+use Rattle.std.specs.Prelude.{Bool, true, false, Result, Ok, Err, List, [], ◌∷◌, ◌++◌, ℕ}
 use Rattle.text.specs.Decimal.{decimal}
+use Rattle.store.specs.declared.Reply as store
+use Rattle.store.specs.Outcome.{reply_in}
 use Rattle.rules.specs.Rule.{Reply, Response, refused, accepted, ok, started, going, ended, empty, item, drained}
 use Rattle.protocol.specs.Words.{space, newline, ok_line, ok_word, going_line, end_word, empty_word, item_word, refused_word, explained_line, unexplained_line}
 
@@ -29,6 +31,11 @@ printed_reply (drained items) k = []
 unfoldable pub printed : Response → List ℕ
 printed (refused n) = numbered refused_word n
 printed (accepted r steps) = printed_reply r steps
+
+-- What a call answers, accepted or refused by a number, as a response; no word of a buffer is looked at.
+abbrev pub answered : (steps : ℕ) → Result store.Reply ℕ → Response
+answered k (Err n) = refused n
+answered k (Ok r) = accepted (reply_in [] 0 r) k
 
 -- the most bytes that a reply prints: "item ", three numbers of ten digits, two spaces and a newline
 abbrev pub most_printed : ℕ

@@ -2,13 +2,12 @@
 #![tactic(auto)]
 
 ghost use Rattle.std.specs.Prelude.{◌≡◌, ◌==◌, ◌++◌, ◌+◌, ◌≤◌, length, drop, position};
-ghost use Rattle.store.specs.Outcome.{response_after};
 ghost use Rattle.text.specs.Wrote.{Wrote};
 ghost use Rattle.protocol.specs.Line.{line_length, field_at, last_at, open_line, enqueue_line, step_line, dequeue_line, parse_line};
-ghost use Rattle.protocol.specs.Printed.{number_and, numbered, number_pair, printed, most_printed};
+ghost use Rattle.protocol.specs.Printed.{number_and, numbered, number_pair, printed, answered, most_printed};
 ghost use Rattle.protocol.specs.Words.{space, newline, item_word};
 
-use store::{Refusal, Reply};
+use store::Reply;
 use text::Number;
 
 // What a line asks: an open with its four sizes, a start enqueue with its thread and value, a start dequeue, or a step with its
@@ -166,12 +165,12 @@ fn print_item(out: &mut [u8], at: usize, n: u32, v: u32, steps: u32) -> usize
 // Writes the line of a reply, with the accepted steps of its call where it ends, at a position, and answers the position after it. The
 // program starts no drain, and has no line for its end.
 #[tactic(auto, unfolding(crate::specs::Printed::printed))]
-pub fn print_reply(out: &mut [u8], at: usize, reply: Result<Reply, Refusal>, steps: u32) -> usize
+pub fn print_reply(out: &mut [u8], at: usize, reply: Result<Reply, u32>, steps: u32) -> usize
     requires { at + most_printed ≤ length out.old }
-    ensures { Wrote out.old at (printed (response_after steps reply)) out.new result }
+    ensures { Wrote out.old at (printed (answered steps reply)) out.new result }
 {
     match reply {
-        Err(refusal) => print_numbered(out, at, b"refused ", u32::from(refusal)),
+        Err(number) => print_numbered(out, at, b"refused ", number),
         Ok(Reply::Done) => text::write_bytes(out, at, b"ok\n"),
         Ok(Reply::Started(n)) => print_numbered(out, at, b"ok ", n),
         Ok(Reply::Going) => text::write_bytes(out, at, b"going\n"),

@@ -25,7 +25,9 @@ fn print_word(reply: Result<Option<u32>, Refusal>, out: &mut [u8], at: usize) ->
     }
 }
 
-// Prints the judge's word on the words of a history at a position, and answers the position after it.
+// Prints the judge's word on the words of a history at a position, and answers the position after it. Never inlined: the judge's room on the
+// stack is taken only here.
+#[inline(never)]
 pub fn print_verdict(words: &[u32], out: &mut [u8], at: usize) -> usize
     requires { at + most_word ≤ length out.old }
     ensures { Wrote out.old at (printed_reading (read most_events words.now)) out.new result }

@@ -13,7 +13,7 @@ use Rattle.protocol.specs.Words.{bad_line}
 use Rattle.protocol.specs.Line.{lines_of}
 use Rattle.protocol.specs.Printed.{printed, most_printed}
 use Rattle.session.specs.declared.Place.{Place}
-use Rattle.session.specs.Session.{Session, begun, Turn, calling, call_of, Run, run_lines}
+use Rattle.session.specs.Session.{Session, begun, start, Turn, calling, call_of, Run, run_lines}
 use Rattle.events.specs.Events.{Recorded}
 
 -- The buffers hold what stands, the history's first k events.
@@ -72,3 +72,7 @@ Leaves r s h b o (Continue at) = Ended r s h b o at × (at.events ≤ most_event
 -- The lines of the input were run, from the words of the store and no events.
 pub record Ran (input store out store' history' out' : List ℕ) (r : Next) : Type 0 where
   pub leaves : Leaves (run_lines (lines_of input) (begun store)) store' history' out out' r
+
+-- The words of the store after the lines of the input, from the program's start.
+abbrev pub words_after : (input : List ℕ) → List ℕ
+words_after input = (run_lines (lines_of input) start).session.words

@@ -1,16 +1,17 @@
 // What the program prints, from the bytes that it reads.
 #![tactic(auto)]
 
-ghost use Rattle.std.specs.Prelude.{◌≡◌, List, ℕ, ◌+◌, ◌*◌, ◌≤◌, length};
+ghost use Rattle.std.specs.Prelude.{◌≡◌, List, ℕ, ◌+◌, ◌*◌, ◌≤◌, length, replicate};
 ghost use Rattle.history.specs.Event.{History};
 ghost use Rattle.history.specs.Form.{most_events};
-ghost use Rattle.store.specs.Outcome.{response};
+ghost use Rattle.rules.specs.Sizes.{most_words};
+ghost use Rattle.store.specs.Outcome.{response, response_after};
 ghost use Rattle.store.specs.Shape.{sizes};
 ghost use Rattle.text.specs.Wrote.{Wrote};
-ghost use Rattle.protocol.specs.Printed.{most_printed};
+ghost use Rattle.protocol.specs.Printed.{printed, most_printed};
 ghost use Rattle.session.specs.Session.{most_input, reopened, opening, output};
 ghost use Rattle.events.specs.Events.{Recorded};
-ghost use Rattle.session.specs.Turns.{Turned, Finished, Answers, Ran, most_output};
+ghost use Rattle.session.specs.Turns.{Turned, Finished, Answers, Ran, words_after, most_output};
 
 use events::{add_noted, note};
 use protocol::Line;
@@ -25,6 +26,14 @@ use store::{Refusal, Reply, Shape};
 pub struct Place {
     pub events: usize,
     pub bytes: usize,
+}
+
+// Prints the line of a reply, a refusal by its number, at a position, and answers the position after it.
+fn print_reply(out: &mut [u8], at: usize, reply: Result<Reply, Refusal>, steps: u32) -> usize
+    requires { at + most_printed ≤ length out.old }
+    ensures { Wrote out.old at (printed (response_after steps reply)) out.new result }
+{
+    protocol::print_reply(out, at, reply.map_err(u32::from), steps)
 }
 
 // Records what a call of thread t with value v adds, and prints its reply.
@@ -43,7 +52,7 @@ fn finish(
 {
     let noted = note(t, v, reply);
     let events = add_noted(history, at.events, noted);
-    let bytes = protocol::print_reply(out, at.bytes, reply, steps);
+    let bytes = print_reply(out, at.bytes, reply, steps);
     Place { events, bytes }
 }
 
@@ -63,7 +72,7 @@ fn open_turn(store: &mut [u32], out: &mut [u8], at: Place, z: Shape) -> Place
 {
     let reply = opening::open_store(store, z);
     let events = reopen(at.events, reply);
-    let bytes = protocol::print_reply(out, at.bytes, reply, 0);
+    let bytes = print_reply(out, at.bytes, reply, 0);
     Place { events, bytes }
 }
 
@@ -141,6 +150,18 @@ fn run_lines(
     Continue(place)
 }
 
+// Runs the lines of the input from a store of zeros, its own. Never inlined: its room on the stack is given back before the judge takes its own.
+#[inline(never)]
+fn run_input(input: &[u8], history: &mut [u32], out: &mut [u8]) -> ControlFlow<usize, Place>
+    requires input_len_bound { length input.now ≤ most_input }
+    requires most_events_in_bounds { most_events * 4 ≤ length history.old }
+    requires most_output_in_bounds { most_output ≤ length out.old }
+    ensures { Ran input.now (replicate most_words 0) out.old (words_after input.now) history.new out.new result }
+{
+    let mut store = [0u32; MOST_WORDS];
+    run_lines(input, &mut store, history, out)
+}
+
 // What the program prints, from the bytes that it reads; the answer is how many bytes. The judge refuses no history of a run
 // (specs/Reaching.antt).
 #[tactic(auto, using(crate::proofs::Long::output_long))]
@@ -150,9 +171,8 @@ pub fn run(input: &[u8], out: &mut [u8; 155_679]) -> usize
     if 8192 < input.len() {
         return text::write_bytes(out, 0, b"too long\n");
     }
-    let mut store = [0u32; MOST_WORDS];
     let mut history = [0u32; 4 * MOST_EVENTS];
-    match run_lines(input, &mut store, &mut history, out) {
+    match run_input(input, &mut history, out) {
         Break(end) => end,
         Continue(at) => {
             let words = at.events * 4;

@@ -1,20 +1,30 @@
 -- `draining::hand_over` meets its contract.
-use Rattle.std.proofs.Common.{◌≡◌, ap, ◌∙◌, ℕ, ◌+◌, ◌-◌, ◌*◌, take, drop, length, arith}
-use Rattle.rules.specs.Cell.{reader}
-use Rattle.rules.specs.Consumer.{items_marked}
-use Rattle.rules.specs.Request.{item_words}
-use Rattle.store.specs.Items.{length_marked, length_words}
+use Rattle.std.proofs.Common.{◌≡◌, refl, ap, ◌∙◌, ℕ, ◌+◌, add-one, arith, length-set}
+use lib.Seq.{sets}
 use Rattle.store.specs.Shape.{sizes}
-use Rattle.draining.specs.Onward.{pairs_are, filled}
+use Rattle.draining.specs.Onward.{pair_words, pair_more, pairs_are}
 use Rattle.draining.proofs.hand_over.Goals as goal
+
+pub loop-i-init : goal.loop-i-init
+loop-i-init c = (refl, refl)
+
+pub bounds-part-i-in-loop-i : goal.bounds-part-i-in-loop-i
+bounds-part-i-in-loop-i c = simp length-set (omega arith)
+
+pub loop-i-preserved : goal.loop-i-preserved
+loop-i-preserved c =
+    let l = c.loop-i in (
+      rw (l.invariant.0, add-one l.i) (pair_more c.args.s.now c.args.part.now (c.drain_at.result + 2) l.i),
+      simp length-set l.invariant.1,
+    )
+
+pub shape_of-part : goal.shape_of-part
+shape_of-part c = c.loop-i.invariant.1
 
 pub returns : goal.returns
 returns c =
     let a = c.args in
-    let m = a.s.now in
-    let at = c.drain_at.result + 2 in
-    let xs = items_marked (reader (sizes a.z) m) a.n in
-    let words : take (at + 2 * a.n - at) (drop at m) ≡ item_words xs =
-    ap (λ (k : ℕ). take k (drop at m)) (omega arith) ∙ pairs_are (sizes a.z) m at a.n (omega arith) c.requires.n_le_most_drained.0 c.requires.room.fits in
-    let count : length (item_words xs) ≡ 2 * a.n = omega (arith, length_words xs, length_marked (reader (sizes a.z) m) a.n) in
-    rw (c.copy_from_slice.ensures.after, words) (filled a.part.now (item_words xs) (2 * a.n) count c.requires.n_le_most_drained.1)
+    let e : c.loop-i.i ≡ a.n = omega arith in
+    c.loop-i.invariant.0
+    ∙ ap (λ (k : ℕ). sets a.part.now 0 (pair_words a.s.now (c.drain_at.result + 2) k)) e
+    ∙ ap (sets a.part.now 0) (pairs_are (sizes a.z) a.s.now (c.drain_at.result + 2) a.n (omega arith) c.requires.n_le_most_drained.0)

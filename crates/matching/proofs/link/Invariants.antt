@@ -3,4 +3,4 @@ use Rattle.matching.specs.Match.{Linked}
 use Rattle.matching.proofs.link.Given as goal
 
 abbrev pub invariant-loop-p : goal.invariant-loop-p
-invariant-loop-p l = Linked l.words l.links l.heads l.p
+invariant-loop-p l = Linked l.words l.threads.links l.threads.heads l.p
