@@ -112,13 +112,15 @@ pub fn judge(history: &[u32], table: &mut [Call], order: &mut [u32]) -> Result<O
     ensures { Judges history.now table.old table.new order.old order.new result }
 {
     let mut m = [0u32; MEMORY];
-    let entered = read(history, table.len(), &mut m);
-    let calls = entered?;
-    if order.len() < calls {
-        return Err(Refusal::Order);
+    // The cases of `admit`: words that reading refuses, a buffer too short, a history.
+    match read(history, table.len(), &mut m) {
+        Err(refusal) => Err(refusal),
+        Ok(calls) if order.len() < calls => Err(Refusal::Order),
+        Ok(calls) => {
+            fill_calls(table, &m, calls);
+            Ok(explain(&m, table, calls, order))
+        }
     }
-    fill_calls(table, &m, calls);
-    Ok(explain(&m, table, calls, order))
 }
 
 // The judge with a working table of its own, which has an entry for each of 4,096 events.
