@@ -119,9 +119,10 @@ module _ (z : Sizes) (σ : Reader) {map from : ℕ} (digits : bitmap 0 z.N (free
       same zero = refl
       same (suc r) = refl
 
-  -- The record found is the next free one, and one of the store.
-  pub round : (above whole : Option ℕ) → Finds map from above → Finds map 0 whole
+  -- The record found is the next free one, and one of the store: the second search starts at 0.
+  pub round : {start : ℕ} (above whole : Option ℕ) → Finds map from above → Finds map start whole → start ≡ 0
       → (next_free z σ ≡ link_of (option_or above whole)) × (link_of (option_or above whole) ≤ z.N)
-  round (Some r) whole a w = (halves (a z.N (free z σ) digits inside most), found_most (Some r) z.N (free z σ) a digits inside most)
-  round None whole a w =
+  round (Some r) whole a w e = (halves (a z.N (free z σ) digits inside most), found_most (Some r) z.N (free z σ) a digits inside most)
+  round None whole a w e =
+      let w : Finds map 0 whole = rw e at w in
       (below (a z.N (free z σ) digits inside most) (w z.N (free z σ) digits (omega arith) most), found_most whole z.N (free z σ) w digits (omega arith) most)

@@ -11,4 +11,4 @@ returns c =
     let last = c.last_claimed-last.ensures in
     let least = last_least c.args.store.now.admitted.ranges in
     rw c.or.ensures
-    (round (sizes a.store.now.shape) (reader (sizes a.store.now.shape) a.store.now.words.now) c.free_map-map.ensures (omega (arith, last.is)) (omega (arith, last.is)) (omega arith) _ _ c.first_set.ensures c.first_set-2.ensures)
+    (round (sizes a.store.now.shape) (reader (sizes a.store.now.shape) a.store.now.words.now) c.free_map-map.ensures (omega (arith, last.is)) (omega (arith, last.is)) (omega arith) _ _ c.first_set.ensures c.first_set-2.ensures (omega arith))

@@ -23,5 +23,5 @@ returns c =
     let l = c.loop-office.invariant in
     let each : (k : ℕ) → k < 4 → k < c.loop-office.office = λ k h. omega (arith, c.loop-office-test.false) in (
       all_below_true (λ k. stays (row_of a.rules k) (count_on a.board.now k) a.old a.new) 4 (λ k h. l.stay k (each k h)),
-      list_of_four _ 0 l.four (l.made 0 (each 0 (omega arith))) (l.made 1 (each 1 (omega arith))) (l.made 2 (each 2 (omega arith))) (l.made 3 (each 3 (omega arith))),
+      list_of_four _ 0 (omega (arith, l.four)) (l.made 0 (each 0 (omega arith))) (l.made 1 (each 1 (omega arith))) (l.made 2 (each 2 (omega arith))) (l.made 3 (each 3 (omega arith))),
     )
